@@ -1,0 +1,10 @@
+pub mod Bundles
+pub mod Equality
+pub mod Expressions
+pub mod Messages
+pub mod Names
+pub mod Processes
+pub mod Rules
+pub mod Stores
+pub mod Terms
+pub mod Values

@@ -1,0 +1,20 @@
+//! What every other crate speaks of: names, values, terms, processes, messages, entries and bundles.
+#![tactic(auto)]
+
+mod bundles;
+mod choreographies;
+mod entries;
+mod expressions;
+mod lists;
+mod names;
+mod processes;
+mod values;
+
+pub use bundles::{Bundle, Change, Last, Rule, Timed, Trace};
+pub use choreographies::Choreo;
+pub use entries::{Act, Chosen, Entry, Note};
+pub use expressions::{Expr, Oper};
+pub use lists::{Bindings, Entries, Items, Keys, Roles, Values};
+pub use names::{Index, Name, Role, Text};
+pub use processes::{Key, Messages, Parts, Payload, Proc, ScopeHead, Tag};
+pub use values::Value;
