@@ -2,6 +2,7 @@ pub mod Bundles
 pub mod Equality
 pub mod Expressions
 pub mod Messages
+pub mod Moves
 pub mod Names
 pub mod Processes
 pub mod Rules
