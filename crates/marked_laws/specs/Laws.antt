@@ -1,5 +1,5 @@
 -- What holds of every run of the network of a sound bundle, under every interleaving and every live change.
-use Rattle.std.specs.Prelude.{◌≡◌, ℕ, List, [], ◌∷◌, map, Bool, true, false, ◌&&◌, not, Option, Some, None, IsSome, All}
+use Rattle.std.specs.Prelude.{◌≡◌, List, [], ◌∷◌, map, Bool, true, false, ◌&&◌, not, Option, Some, None, IsSome, All}
 use Rattle.std.specs.List.{list_all, list_any, filter_map}
 use Rattle.dioc_terms.specs.declared.names.Role.{Role}
 use Rattle.dioc_terms.specs.declared.processes.Key.{Key}
@@ -35,9 +35,9 @@ pub record IsSound (b : Bundle) : Type 0 where
   pub rules : All (IsSoundRule b.cast) b.rules
 
 -- the choreography plays the entries, and its state then is that of the network
-pub record Explains (b : Bundle) (entries : List Entry) (N : Network) : Type 0 where
+pub record Explains (b : Bundle) (trace : List Entry) (N : Network) : Type 0 where
   pub state : State
-  pub plays : play b entries ≡ Some state
+  pub plays : play b trace ≡ Some state
   pub stores : (q : Role) → state.stores q ≡ N.stores q
   pub book : state.book ≡ N.book
   pub updates : state.updates ≡ N.updates
