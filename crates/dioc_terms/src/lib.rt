@@ -4,6 +4,7 @@
 mod bundles;
 mod choreographies;
 mod entries;
+mod equality;
 mod expressions;
 mod faults;
 mod lists;
@@ -14,6 +15,7 @@ mod values;
 pub use bundles::{Bundle, Change, Last, Rule, Timed, Trace};
 pub use choreographies::Choreo;
 pub use entries::{Act, Chosen, Entry, Note};
+pub use equality::equality_decides;
 pub use expressions::{Expr, Oper};
 pub use faults::{Memory, NameFault, SyntaxFault, TextFault};
 pub use lists::{Bindings, Entries, Items, Keys, Roles, Values};

@@ -6,6 +6,7 @@ ghost use Rattle.dioc_terms.specs.Names.{is_letter, is_word, is_printable, is_na
 
 use crate::faults::{Memory, NameFault, TextFault};
 use std::alloc::Global;
+use std::hash::{Hash, Hasher};
 use std::marker::Model;
 
 /// A name: a letter, then letters, digits and `_`, 1 to 64 bytes in all. Contracts see its bytes.
@@ -49,6 +50,41 @@ impl Name {
     {
         let _bytes = &self.bytes;
         self.bytes.as_slice()
+    }
+}
+
+impl PartialEq for Name {
+    ghost use Rattle.dioc_terms.specs.Equality.{name_eq};
+    ghost use Rattle.dioc_terms.specs.EqualityLemmas.{equivalence_from_Decides, name_eq-decides};
+    ghost use Rattle.std.specs.Cmp.{partial_equiv_from_equiv};
+
+    ghost eq = { name_eq };
+
+    ghost laws = { partial_equiv_from_equiv (equivalence_from_Decides name_eq name_eq-decides) };
+
+    fn eq(&self, other: &Name) -> bool {
+        self.bytes == other.bytes
+    }
+}
+
+impl Eq for Name {
+    ghost use Rattle.dioc_terms.specs.Equality.{name_eq};
+    ghost use Rattle.dioc_terms.specs.EqualityLemmas.{equivalence_from_Decides, name_eq-decides};
+
+    ghost laws = { equivalence_from_Decides name_eq name_eq-decides };
+}
+
+impl Hash for Name {
+    ghost use Rattle.std.specs.Hash as fed;
+    ghost use Rattle.dioc_terms.specs.Equality.{name_eq};
+    ghost use Rattle.dioc_terms.specs.EqualityLemmas.{fed_alike, name_eq-decides};
+
+    ghost hash_input = { λ name. fed.slice fed.u8 name };
+
+    ghost respects_eq = { fed_alike name_eq name_eq-decides (λ name. fed.slice fed.u8 name) };
+
+    fn hash<H: Hasher>(&self, state: &mut H) {
+        self.bytes.hash(state);
     }
 }
 
@@ -96,9 +132,51 @@ impl Text {
     }
 }
 
+impl PartialEq for Text {
+    ghost use Rattle.std.specs.Str.{bytes_eq};
+    ghost use Rattle.dioc_terms.specs.EqualityLemmas.{equivalence_from_Decides, name_eq-decides};
+    ghost use Rattle.std.specs.Cmp.{partial_equiv_from_equiv};
+
+    ghost eq = { bytes_eq };
+
+    ghost laws = { partial_equiv_from_equiv (equivalence_from_Decides bytes_eq name_eq-decides) };
+
+    fn eq(&self, other: &Text) -> bool {
+        self.bytes == other.bytes
+    }
+}
+
+impl Eq for Text {
+    ghost use Rattle.std.specs.Str.{bytes_eq};
+    ghost use Rattle.dioc_terms.specs.EqualityLemmas.{equivalence_from_Decides, name_eq-decides};
+
+    ghost laws = { equivalence_from_Decides bytes_eq name_eq-decides };
+}
+
 /// A role of a choreography, known by its name.
-#[derive(Debug, Drop)]
+#[derive(Debug, Drop, Hash)]
 pub struct Role(pub Name);
+
+impl PartialEq for Role {
+    ghost use Rattle.dioc_terms.specs.Equality.{role_eq};
+    ghost use Rattle.dioc_terms.specs.EqualityLemmas.{equivalence_from_Decides, role_eq-decides};
+    ghost use Rattle.std.specs.Cmp.{partial_equiv_from_equiv};
+
+    ghost eq = { role_eq };
+
+    ghost laws = { partial_equiv_from_equiv (equivalence_from_Decides role_eq role_eq-decides) };
+
+    fn eq(&self, other: &Role) -> bool {
+        self.0 == other.0
+    }
+}
+
+impl Eq for Role {
+    ghost use Rattle.dioc_terms.specs.Equality.{role_eq};
+    ghost use Rattle.dioc_terms.specs.EqualityLemmas.{equivalence_from_Decides, role_eq-decides};
+
+    ghost laws = { equivalence_from_Decides role_eq role_eq-decides };
+}
 
 /// The index of a construct: the number of the update that it stands in, 0 in the program's own text,
 /// and its place in that text, the number of indexed constructs that begin before it.
@@ -157,4 +235,12 @@ fn is_text(bytes: &[u8]) -> bool
     ensures { result ≡ is_text bytes.now }
 {
     bytes.len() <= 1024 && are_printable(bytes)
+}
+
+#[derived]
+impl Hash for Role {
+    ghost use Rattle.dioc_terms.specs.Equality.{role_eq};
+    ghost use Rattle.dioc_terms.specs.EqualityLemmas.{fed_alike, role_eq-decides};
+
+    ghost respects_eq = { fed_alike role_eq role_eq-decides _ };
 }

@@ -10,3 +10,30 @@ pub enum Value {
     Int(i64),
     Text(Text),
 }
+
+impl PartialEq for Value {
+    ghost use Rattle.dioc_terms.specs.Equality.{value_eq};
+    ghost use Rattle.dioc_terms.specs.EqualityLemmas.{equivalence_from_Decides, value_eq-decides};
+    ghost use Rattle.std.specs.Cmp.{partial_equiv_from_equiv};
+
+    ghost eq = { value_eq };
+
+    ghost laws = { partial_equiv_from_equiv (equivalence_from_Decides value_eq value_eq-decides) };
+
+    fn eq(&self, other: &Value) -> bool {
+        match (self, other) {
+            (Value::Nil, Value::Nil) => true,
+            (Value::Bool(mine), Value::Bool(theirs)) => mine == theirs,
+            (Value::Int(mine), Value::Int(theirs)) => mine == theirs,
+            (Value::Text(mine), Value::Text(theirs)) => mine == theirs,
+            _ => false,
+        }
+    }
+}
+
+impl Eq for Value {
+    ghost use Rattle.dioc_terms.specs.Equality.{value_eq};
+    ghost use Rattle.dioc_terms.specs.EqualityLemmas.{equivalence_from_Decides, value_eq-decides};
+
+    ghost laws = { equivalence_from_Decides value_eq value_eq-decides };
+}
