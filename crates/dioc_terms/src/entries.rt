@@ -1,11 +1,13 @@
 //! Entries of a history, and acts of a role.
 
-ghost use Rattle.std.specs.Prelude.{◌≡◌};
+ghost use Rattle.std.specs.Prelude.{◌≡◌, IfOk};
 ghost use Rattle.dioc_terms.specs.Equality.{variable_eq};
 
+use crate::faults::Memory;
 use crate::names::{Index, Name, Role};
 use crate::processes::Key;
 use crate::values::Value;
+use std::alloc::Global;
 
 /// What an entry shows of a payload: of an update's part its epoch alone.
 #[derive(Debug, Drop)]
@@ -15,6 +17,21 @@ pub enum Note {
     Keep,
     Part(u32),
     Done,
+}
+
+impl Note {
+    /// A copy, the same note.
+    pub fn copy(&self, alloc: Global) -> Result<Note, Memory>
+        ensures { IfOk result (λ copy. copy ≡ self.now) }
+    {
+        match self {
+            Note::Val(value) => Ok(Note::Val(value.copy(alloc)?)),
+            Note::Flag(flag) => Ok(Note::Flag(*flag)),
+            Note::Keep => Ok(Note::Keep),
+            Note::Part(epoch) => Ok(Note::Part(*epoch)),
+            Note::Done => Ok(Note::Done),
+        }
+    }
 }
 
 impl PartialEq for Note {
@@ -49,6 +66,21 @@ impl Eq for Note {
 pub enum Chosen {
     Keep,
     Rule { name: Name, epoch: u32 },
+}
+
+impl Chosen {
+    /// A copy, the same choice.
+    pub fn copy(&self, alloc: Global) -> Result<Chosen, Memory>
+        ensures { IfOk result (λ copy. copy ≡ self.now) }
+    {
+        match self {
+            Chosen::Keep => Ok(Chosen::Keep),
+            Chosen::Rule { name, epoch } => Ok(Chosen::Rule {
+                name: name.copy(alloc)?,
+                epoch: *epoch,
+            }),
+        }
+    }
 }
 
 impl PartialEq for Chosen {
@@ -128,6 +160,70 @@ pub enum Entry {
         key: Name,
         value: Value,
     },
+}
+
+impl Entry {
+    /// A copy, the same entry.
+    pub fn copy(&self, alloc: Global) -> Result<Entry, Memory>
+        ensures { IfOk result (λ copy. copy ≡ self.now) }
+    {
+        match self {
+            Entry::Put { key, note } => Ok(Entry::Put {
+                key: key.copy(alloc)?,
+                note: note.copy(alloc)?,
+            }),
+            Entry::Take { key, var } => Ok(Entry::Take {
+                key: key.copy(alloc)?,
+                var: copy_of_variable(alloc, var)?,
+            }),
+            Entry::Set {
+                index,
+                role,
+                var,
+                value,
+            } => Ok(Entry::Set {
+                index: *index,
+                role: role.copy(alloc)?,
+                var: var.copy(alloc)?,
+                value: value.copy(alloc)?,
+            }),
+            Entry::Input {
+                index,
+                role,
+                var,
+                value,
+            } => Ok(Entry::Input {
+                index: *index,
+                role: role.copy(alloc)?,
+                var: var.copy(alloc)?,
+                value: value.copy(alloc)?,
+            }),
+            Entry::Pick { index, role, flag } => Ok(Entry::Pick {
+                index: *index,
+                role: role.copy(alloc)?,
+                flag: *flag,
+            }),
+            Entry::Scope {
+                index,
+                role,
+                chosen,
+            } => Ok(Entry::Scope {
+                index: *index,
+                role: role.copy(alloc)?,
+                chosen: chosen.copy(alloc)?,
+            }),
+            Entry::Add { name } => Ok(Entry::Add {
+                name: name.copy(alloc)?,
+            }),
+            Entry::Drop { name } => Ok(Entry::Drop {
+                name: name.copy(alloc)?,
+            }),
+            Entry::Env { key, value } => Ok(Entry::Env {
+                key: key.copy(alloc)?,
+                value: value.copy(alloc)?,
+            }),
+        }
+    }
 }
 
 impl PartialEq for Entry {
@@ -286,6 +382,15 @@ impl Entry {
             } => key == its_key && value == its_value,
             _ => false,
         }
+    }
+}
+
+fn copy_of_variable(alloc: Global, variable: &Option<Name>) -> Result<Option<Name>, Memory>
+    ensures { IfOk result (λ copy. copy ≡ variable.now) }
+{
+    match variable {
+        None => Ok(None),
+        Some(name) => Ok(Some(name.copy(alloc)?)),
     }
 }
 

@@ -3,6 +3,7 @@
 
 mod bundles;
 mod choreographies;
+mod copies;
 mod entries;
 mod equality;
 mod expressions;
@@ -14,6 +15,7 @@ mod values;
 
 pub use bundles::{Bundle, Change, Last, Rule, Timed, Trace};
 pub use choreographies::Choreo;
+pub use copies::TryCopy;
 pub use entries::{Act, Chosen, Entry, Note};
 pub use equality::equality_decides;
 pub use expressions::{Expr, Oper};

@@ -51,6 +51,14 @@ impl Name {
         let _bytes = &self.bytes;
         self.bytes.as_slice()
     }
+
+    /// A copy, the same name.
+    pub fn copy(&self, alloc: Global) -> Result<Name, Memory>
+        ensures { IfOk result (λ copy. copy ≡ self.now) }
+    {
+        let bytes = copy_of_bytes(alloc, &self.bytes)?;
+        Ok(Name { bytes })
+    }
 }
 
 impl PartialEq for Name {
@@ -130,6 +138,14 @@ impl Text {
         let _bytes = &self.bytes;
         self.bytes.as_slice()
     }
+
+    /// A copy, the same text.
+    pub fn copy(&self, alloc: Global) -> Result<Text, Memory>
+        ensures { IfOk result (λ copy. copy ≡ self.now) }
+    {
+        let bytes = copy_of_bytes(alloc, &self.bytes)?;
+        Ok(Text { bytes })
+    }
 }
 
 impl PartialEq for Text {
@@ -156,6 +172,15 @@ impl Eq for Text {
 /// A role of a choreography, known by its name.
 #[derive(Debug, Drop, Hash)]
 pub struct Role(pub Name);
+
+impl Role {
+    /// A copy, the same role.
+    pub fn copy(&self, alloc: Global) -> Result<Role, Memory>
+        ensures { IfOk result (λ copy. copy ≡ self.now) }
+    {
+        Ok(Role(self.0.copy(alloc)?))
+    }
+}
 
 impl PartialEq for Role {
     ghost use Rattle.dioc_terms.specs.Equality.{role_eq};

@@ -1,9 +1,13 @@
 //! The processes of roles, and the messages between them.
 
+ghost use Rattle.std.specs.Prelude.{◌≡◌, IfOk};
+
 use crate::expressions::Expr;
+use crate::faults::Memory;
 use crate::lists::{Bindings, Keys, Roles};
 use crate::names::{Index, Name, Role};
 use crate::values::Value;
+use std::alloc::Global;
 use std::hash::Hash;
 
 /// What a message is for: an operation of the choreography, or one of the six auxiliary tags.
@@ -16,6 +20,23 @@ pub enum Tag {
     Begin,
     End,
     Out,
+}
+
+impl Tag {
+    /// A copy, the same tag.
+    pub fn copy(&self, alloc: Global) -> Result<Tag, Memory>
+        ensures { IfOk result (λ copy. copy ≡ self.now) }
+    {
+        match self {
+            Tag::Op(name) => Ok(Tag::Op(name.copy(alloc)?)),
+            Tag::Choice => Ok(Tag::Choice),
+            Tag::Go => Ok(Tag::Go),
+            Tag::Turn => Ok(Tag::Turn),
+            Tag::Begin => Ok(Tag::Begin),
+            Tag::End => Ok(Tag::End),
+            Tag::Out => Ok(Tag::Out),
+        }
+    }
 }
 
 impl PartialEq for Tag {
@@ -63,6 +84,20 @@ pub struct Key {
     pub to: Role,
     pub index: Index,
     pub tag: Tag,
+}
+
+impl Key {
+    /// A copy, the same key.
+    pub fn copy(&self, alloc: Global) -> Result<Key, Memory>
+        ensures { IfOk result (λ copy. copy ≡ self.now) }
+    {
+        Ok(Key {
+            from: self.from.copy(alloc)?,
+            to: self.to.copy(alloc)?,
+            index: self.index,
+            tag: self.tag.copy(alloc)?,
+        })
+    }
 }
 
 impl PartialEq for Key {

@@ -1,6 +1,10 @@
 //! Values.
 
+ghost use Rattle.std.specs.Prelude.{◌≡◌, IfOk};
+
+use crate::faults::Memory;
 use crate::names::Text;
+use std::alloc::Global;
 
 /// What a variable holds and a message carries.
 #[derive(Debug, Drop)]
@@ -9,6 +13,20 @@ pub enum Value {
     Bool(bool),
     Int(i64),
     Text(Text),
+}
+
+impl Value {
+    /// A copy, the same value.
+    pub fn copy(&self, alloc: Global) -> Result<Value, Memory>
+        ensures { IfOk result (λ copy. copy ≡ self.now) }
+    {
+        match self {
+            Value::Nil => Ok(Value::Nil),
+            Value::Bool(flag) => Ok(Value::Bool(*flag)),
+            Value::Int(number) => Ok(Value::Int(*number)),
+            Value::Text(text) => Ok(Value::Text(text.copy(alloc)?)),
+        }
+    }
 }
 
 impl PartialEq for Value {
