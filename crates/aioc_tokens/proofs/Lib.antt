@@ -1,0 +1,9 @@
+pub mod Firsts
+pub mod Blanks
+pub mod Runs
+pub mod Quotes
+pub mod Spellings
+pub mod Symbols
+pub mod Walk
+pub mod Order
+pub mod Unique
