@@ -7,3 +7,5 @@ pub mod Symbols
 pub mod Walk
 pub mod Order
 pub mod Unique
+pub mod Values
+pub mod Looks

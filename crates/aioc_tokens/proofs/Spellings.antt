@@ -21,18 +21,22 @@ find_spelled spelling (next ∷ rows) bytes row found = go (bytes_eq bytes (spel
 
 -- each reserved word is found by its spelling
 pub word_found : (word : Word) → word_of (word_spelling word) ≡ Some word
+unfolding word_of
 word_found Aioc = refl
 word_found Skip = refl
 word_found _ = refl
 
 pub word_of_spelled : (bytes : List ℕ) (word : Word) → word_of bytes ≡ Some word → bytes ≡ word_spelling word
+unfolding word_of
 word_of_spelled bytes word found = find_spelled word_spelling reserved_words bytes word found
 
 -- each symbol is found by its spelling
 pub mark_found : (mark : Mark) → mark_of (mark_spelling mark) ≡ Some mark
+unfolding mark_of
 mark_found LeftBrace = refl
 mark_found RightBrace = refl
 mark_found _ = refl
 
 pub mark_of_spelled : (bytes : List ℕ) (mark : Mark) → mark_of bytes ≡ Some mark → bytes ≡ mark_spelling mark
+unfolding mark_of
 mark_of_spelled bytes mark found = find_spelled mark_spelling marks bytes mark found

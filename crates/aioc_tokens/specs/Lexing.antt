@@ -1,8 +1,8 @@
 -- The tokens of a text, and the first byte that is in none.
-use Rattle.std.specs.Prelude.{◌≡◌, ℕ, ◌+◌, ◌-◌, ◌<◌, ◌≤◌, List, [], ◌∷◌, drop, slice_range}
+use Rattle.std.specs.Prelude.{◌≡◌, ℕ, ◌+◌, ◌-◌, ◌<◌, ◌≤◌, List, [], ◌∷◌, length, drop, slice_range}
 use Rattle.aioc_tokens.specs.declared.kinds.Kind.{Kind}
 use Rattle.aioc_tokens.specs.declared.kinds.Token.{Token}
-use Rattle.aioc_tokens.specs.Tokens.{IsBlank, IsLongestToken, IsFront}
+use Rattle.aioc_tokens.specs.Tokens.{Spells, IsBlank, IsLongestToken, IsFront}
 
 -- A text that begins at this place has these tokens, and between them nothing but spaces and comments.
 pub data Lexes : ℕ → List ℕ → List Token → Type 0 where
@@ -26,6 +26,12 @@ InOrder from to (next ∷ others) = (from ≤ next.start) × (next.start < next.
 -- the bytes of a token
 abbrev pub bytes_of : List ℕ → Token → List ℕ
 bytes_of text token = slice_range text token.start token.end
+
+-- a token lies in the text, and its bytes are a token of its kind
+pub record IsTokenOf (text : List ℕ) (token : Token) : Type 0 where
+  pub ordered : token.start ≤ token.end
+  pub within : token.end ≤ length text
+  pub spells : Spells token.kind (bytes_of text token)
 
 -- at its place a token is the longest
 abbrev pub IsLongestAt : List ℕ → Token → Type 0

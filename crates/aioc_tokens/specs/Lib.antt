@@ -1,3 +1,5 @@
 pub mod Words
 pub mod Tokens
 pub mod Lexing
+pub mod Lexemes
+pub mod Fronts

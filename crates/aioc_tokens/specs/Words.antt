@@ -35,7 +35,7 @@ abbrev pub reserved_words : List Word
 reserved_words = Aioc ∷ Skip ∷ If ∷ Else ∷ While ∷ Scope ∷ Prop ∷ Rule ∷ On ∷ Do ∷ True ∷ False ∷ Nil ∷ And ∷ Or ∷ Not ∷ Input ∷ N ∷ E ∷ []
 
 -- the reserved word of this spelling
-abbrev pub word_of : List ℕ → Option Word
+unfoldable pub word_of : List ℕ → Option Word
 word_of bytes = find (λ word. bytes_eq bytes (word_spelling word)) reserved_words
 
 -- how a symbol is spelled
@@ -74,5 +74,5 @@ abbrev pub marks : List Mark
 marks = LeftBrace ∷ RightBrace ∷ LeftParen ∷ RightParen ∷ LeftBracket ∷ RightBracket ∷ Semicolon ∷ Comma ∷ Colon ∷ Bar ∷ At ∷ Equal ∷ EqualEqual ∷ NotEqual ∷ Less ∷ LessEqual ∷ Greater ∷ GreaterEqual ∷ Plus ∷ PlusPlus ∷ Minus ∷ Arrow ∷ Star ∷ Slash ∷ Percent ∷ Dot ∷ Hash ∷ Bang ∷ []
 
 -- the symbol of this spelling
-abbrev pub mark_of : List ℕ → Option Mark
+unfoldable pub mark_of : List ℕ → Option Mark
 mark_of bytes = find (λ mark. bytes_eq bytes (mark_spelling mark)) marks

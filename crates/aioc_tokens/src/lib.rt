@@ -3,7 +3,9 @@
 
 mod kinds;
 mod scan;
+mod view;
 mod words;
 
-pub use kinds::{Kind, Token, TokenFault};
-pub use words::{Mark, Word};
+pub use kinds::{Kind, NAME_LIMIT, TEXT_LIMIT, Token, TokenFault};
+pub use scan::tokens;
+pub use words::{Mark, Sort, Word};

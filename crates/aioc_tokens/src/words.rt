@@ -59,7 +59,23 @@ pub enum Mark {
     Bang,
 }
 
+/// What the grammar sees of a token without its bytes.
+#[derive(Clone, Copy, Debug, PartialEq, Eq)]
+pub enum Sort {
+    /// No token is left.
+    End,
+    /// A name that isn't reserved.
+    Name,
+    /// A name of more than 64 bytes, or a text whose value has more than 1,024.
+    Long,
+    Number,
+    Text,
+    Reserved(Word),
+    Symbol(Mark),
+}
+
 /// The reserved word that these bytes spell.
+#[tactic(auto, unfolding(crate::specs::Words::word_of))]
 pub fn reserved_word(bytes: &[u8]) -> Option<Word>
     ensures { result ≡ word_of bytes.now }
 {
@@ -87,6 +103,7 @@ pub fn reserved_word(bytes: &[u8]) -> Option<Word>
     }
 }
 
+#[tactic(auto, unfolding(crate::specs::Words::mark_of))]
 fn lone_mark(byte: u8) -> Option<Mark>
     ensures { result ≡ mark_of (byte ∷ []) }
 {
@@ -117,6 +134,7 @@ fn lone_mark(byte: u8) -> Option<Mark>
     }
 }
 
+#[tactic(auto, unfolding(crate::specs::Words::mark_of))]
 fn pair_mark(first: u8, second: u8) -> Option<Mark>
     ensures { result ≡ mark_of (first ∷ second ∷ []) }
 {
@@ -132,6 +150,7 @@ fn pair_mark(first: u8, second: u8) -> Option<Mark>
 }
 
 /// The symbol that these bytes spell.
+#[tactic(auto, unfolding(crate::specs::Words::mark_of))]
 pub fn find_mark(bytes: &[u8]) -> Option<Mark>
     ensures { result ≡ mark_of bytes.now }
 {
