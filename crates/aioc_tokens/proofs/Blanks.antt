@@ -26,3 +26,8 @@ blank_size [] count (comment begins is) = absurd cc
 blank_size (first ∷ others) count (comment begins is) =
     let slash : first ≡ 47 = ap (λ word. get_or word 0 0) begins in
     (subst (λ count. 0 < count) (sym is) (rw slash (omega arith)), omega (arith, is, prefix_len-le-length (λ byte. not (byte == 10)) (first ∷ others)))
+
+-- where neither a space nor a comment stands there is no blank
+pub no_blank : (text : List ℕ) → is_space (get_or text 0 0) ≡ false → (¬ BeginsComment text) → (count : ℕ) → IsBlank text count → ⊥
+no_blank text none no_comment count (space {byte = byte} is) = both_ways _ none is
+no_blank text none no_comment count (comment begins _) = no_comment begins

@@ -28,7 +28,7 @@ digit_first byte digit = record { kind_is = grind (arith, nat_tests); no_space =
 pub symbol_by : (byte : ℕ) → is_ascii_alphabetic byte ≡ false → is_ascii_digit byte ≡ false → (byte ≡ 34 → ⊥) → kind_by byte ≡ Symbol
 symbol_by byte letter digit no_quote = let quote : (byte == 34) ≡ false = grind (arith, nat_tests) in rw (letter, digit, quote) refl
 
-mark_first : (mark : Mark) → IsFirstOf Symbol (get_or (mark_spelling mark) 0 0) × (0 < length (mark_spelling mark))
+pub mark_first : (mark : Mark) → IsFirstOf Symbol (get_or (mark_spelling mark) 0 0) × (0 < length (mark_spelling mark))
 mark_first LeftBrace = (record { kind_is = refl; no_space = refl }, omega arith)
 mark_first RightBrace = (record { kind_is = refl; no_space = refl }, omega arith)
 mark_first _ = (record { kind_is = refl; no_space = refl }, omega arith)

@@ -9,3 +9,6 @@ pub mod Order
 pub mod Unique
 pub mod Values
 pub mod Looks
+pub mod Written
+pub mod Every
+pub mod Readings

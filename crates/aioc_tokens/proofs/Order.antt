@@ -22,6 +22,9 @@ lexes_in_order at text tokens (token_first {count = count} {kind = kind} {tokens
     let same : at + count + length (drop count text) ≡ at + length text = omega (arith, length-drop count text, size.1) in
     (omega arith, omega (arith, size.0), subst (λ to. InOrder (at + count) to others) same (lexes_in_order (at + count) (drop count text) others rest))
 
+pub lexes_ordered : (text : List ℕ) (tokens : List Token) → Lexes 0 text tokens → InOrder 0 (length text) tokens
+lexes_ordered text tokens lexes = subst (λ to. InOrder 0 to tokens) (omega arith) (lexes_in_order 0 text tokens lexes)
+
 pub lexes_few : (at : ℕ) (text : List ℕ) (tokens : List Token) → Lexes at text tokens → length tokens ≤ length text
 lexes_few at text tokens ended = omega arith
 lexes_few at text tokens (blank_first {count = count} blank rest) = omega (arith, length-drop count text, lexes_few (at + count) (drop count text) tokens rest)

@@ -95,7 +95,7 @@ text_end_spelled false (byte ∷ others) count is = go (byte == 34) refl is (tex
     go false quote found paired plain = inner (byte == 92) quote refl found paired plain
 
 -- the first quote that stands in no pair ends the text
-text_end_closes : (value others : List ℕ) → list_all is_printable value ≡ true → text_end false (flat_map escaped value ++ 34 ∷ others) ≡ Some (suc (length (flat_map escaped value)))
+pub text_end_closes : (value others : List ℕ) → list_all is_printable value ≡ true → text_end false (flat_map escaped value ++ 34 ∷ others) ≡ Some (suc (length (flat_map escaped value)))
 text_end_closes [] others printable = refl
 text_end_closes (byte ∷ value) others printable = go (needs_pair byte) (is_printable byte) refl refl printable (text_end_closes value others)
   where

@@ -53,7 +53,7 @@ module _ (kind : Kind) (passes : ℕ → Bool) (text : List ℕ) where
 letter_in_name : (byte : ℕ) → is_ascii_alphabetic byte ≡ true → is_name_byte byte ≡ true
 letter_in_name byte letter = grind (arith, nat_tests)
 
-name_bytes : (bytes : List ℕ) → Spells Name bytes → list_all is_name_byte bytes ≡ true
+pub name_bytes : (bytes : List ℕ) → Spells Name bytes → list_all is_name_byte bytes ≡ true
 name_bytes [] spells = absurd spells
 name_bytes (first ∷ others) spells = and_from _ _ (letter_in_name first spells.0) spells.1
 

@@ -11,7 +11,7 @@ use Rattle.aioc_tokens.specs.Tokens.{Spells, IsFront, IsLongestToken, BeginsComm
 use Rattle.aioc_tokens.proofs.Firsts.{front_first, same_kind}
 use Rattle.aioc_tokens.proofs.Spellings.{mark_found, mark_of_spelled}
 
-mark_short : (mark : Mark) → length (mark_spelling mark) ≤ 2
+pub mark_short : (mark : Mark) → length (mark_spelling mark) ≤ 2
 mark_short LeftBrace = omega arith
 mark_short RightBrace = omega arith
 mark_short _ = omega arith

@@ -13,7 +13,7 @@ use Rattle.aioc_tokens.specs.declared.words.Sort.{Sort}
 use Rattle.aioc_tokens.specs.declared.words.Sort.TheVariants as sorts
 use Rattle.aioc_tokens.specs.Words.{word_of, mark_of}
 use Rattle.aioc_tokens.specs.Tokens.{is_printable, IsNameSpelling}
-use Rattle.aioc_tokens.specs.Lexing.{bytes_of}
+use Rattle.aioc_tokens.specs.Lexing.{Lexes, bytes_of}
 
 -- what the grammar sees of a token
 pub data Lexeme : Type 0 where
@@ -48,6 +48,12 @@ lexeme kinds.Symbol bytes = option_map_or Symbol (mark_of bytes) Long
 -- the lexemes of a text with these tokens
 abbrev pub lexemes : List ℕ → List Token → List Lexeme
 lexemes text tokens = map (λ token. lexeme token.kind (bytes_of text token)) tokens
+
+-- a text has tokens, and these are their lexemes
+pub record HasLexemes (text : List ℕ) (found : List Lexeme) : Type 0 where
+  pub tokens : List Token
+  pub lexes : Lexes 0 text tokens
+  pub lexemes_are : lexemes text tokens ≡ found
 
 -- a lexeme that can be written, and is then read again
 abbrev pub HasSpelling : Lexeme → Type 0

@@ -3,3 +3,5 @@ pub mod Tokens
 pub mod Lexing
 pub mod Lexemes
 pub mod Fronts
+pub mod Spelling
+pub mod Laws

@@ -5,7 +5,7 @@ use Rattle.aioc_tokens.specs.Tokens.{IsBlank, comment, IsLongestToken}
 use Rattle.aioc_tokens.specs.Lexing.{InOrder, Breaks}
 use Rattle.aioc_tokens.proofs.Blanks.{blank_size}
 use Rattle.aioc_tokens.proofs.Walk.{IsBefore, over_blank, over_token, at_end, at_bad}
-use Rattle.aioc_tokens.proofs.Order.{lexes_in_order, lexes_few}
+use Rattle.aioc_tokens.proofs.Order.{lexes_ordered, lexes_few}
 use Rattle.aioc_tokens.proofs.scan.tokens.Goals as goal
 
 pub overflow_add-at : goal.overflow_add-at
@@ -45,7 +45,7 @@ pub returns-clause-order : goal.returns-clause-order
 returns-clause-order c =
     let bytes = c.args.bytes.now in
     let lexes = at_end bytes c.loop-at.found.items c.loop-at.at c.loop-at.invariant c.loop-at-test.false in
-    subst (λ to. InOrder 0 to c.loop-at.found.items) (omega arith) (lexes_in_order 0 bytes c.loop-at.found.items lexes)
+    lexes_ordered bytes c.loop-at.found.items lexes
 
 pub returns-clause-few : goal.returns-clause-few
 returns-clause-few c =
