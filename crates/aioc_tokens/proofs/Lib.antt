@@ -12,3 +12,4 @@ pub mod Looks
 pub mod Written
 pub mod Every
 pub mod Readings
+pub mod Places

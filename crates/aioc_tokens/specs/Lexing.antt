@@ -1,5 +1,6 @@
 -- The tokens of a text, and the first byte that is in none.
-use Rattle.std.specs.Prelude.{◌≡◌, ℕ, ◌+◌, ◌-◌, ◌<◌, ◌≤◌, List, [], ◌∷◌, length, drop, slice_range}
+use Rattle.std.specs.Prelude.{◌≡◌, ℕ, ◌+◌, ◌-◌, ◌<◌, ◌≤◌, List, [], ◌∷◌, length, drop, slice_range, slice_get}
+use Rattle.std.specs.Option.{option_map_or}
 use Rattle.aioc_tokens.specs.declared.kinds.Kind.{Kind}
 use Rattle.aioc_tokens.specs.declared.kinds.Token.{Token}
 use Rattle.aioc_tokens.specs.Tokens.{Spells, IsBlank, IsLongestToken, IsFront}
@@ -36,3 +37,7 @@ pub record IsTokenOf (text : List ℕ) (token : Token) : Type 0 where
 -- at its place a token is the longest
 abbrev pub IsLongestAt : List ℕ → Token → Type 0
 IsLongestAt text token = IsLongestToken (drop token.start text) token.kind (token.end - token.start)
+
+-- where the token at this place of the list begins, or the end of the text
+abbrev pub place_of : List ℕ → List Token → ℕ → ℕ
+place_of text tokens at = option_map_or (λ (token : Token). token.start) (slice_get tokens at) (length text)

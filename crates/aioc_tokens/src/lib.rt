@@ -9,4 +9,5 @@ mod words;
 
 pub use kinds::{Kind, NAME_LIMIT, TEXT_LIMIT, Token, TokenFault};
 pub use scan::tokens;
-pub use words::{Mark, Sort, Word};
+pub use view::{Lexed, place};
+pub use words::{Mark, Sort, Word, find_mark, find_word};

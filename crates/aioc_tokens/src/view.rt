@@ -2,7 +2,7 @@
 ghost use Rattle.std.specs.Prelude.{◌≡◌, ◌≢◌, ℕ, ◌+◌, ◌^◌, ◌<◌, ◌≤◌, ◌∷◌, [], drop, length, slice_range, IfOk, IsTrue, ◌↔◌};
 ghost use Rattle.aioc_tokens.specs.declared.kinds.Kind.{Kind};
 ghost use Rattle.aioc_tokens.specs.Tokens.{Spells};
-ghost use Rattle.aioc_tokens.specs.Lexing.{Lexes, IsTokenOf, bytes_of};
+ghost use Rattle.aioc_tokens.specs.Lexing.{Lexes, IsTokenOf, bytes_of, place_of};
 ghost use Rattle.aioc_tokens.specs.Lexemes.{lexeme, lexemes, sort_of, value_of, unescaped, Begins, HasSpelling};
 
 
@@ -10,7 +10,7 @@ use std::alloc::{AllocError, Global};
 use std::marker::Model;
 
 use crate::kinds::{Kind, NAME_LIMIT, TEXT_LIMIT, Token};
-use crate::words::{Sort, find_mark, reserved_word};
+use crate::words::{Sort, find_mark, find_word};
 
 /// How many bytes the value of a text in quotes has.
 fn value_length(bytes: &[u8]) -> usize
@@ -71,7 +71,7 @@ fn sort_of(kind: Kind, bytes: &[u8]) -> Sort
     ensures { result ≡ sort_of (lexeme kind bytes.now ∷ []) }
 {
     match kind {
-        Kind::Name => match reserved_word(bytes) {
+        Kind::Name => match find_word(bytes) {
             Some(word) => Sort::Reserved(word),
             None if bytes.len() <= NAME_LIMIT => Sort::Name,
             None => Sort::Long,
@@ -90,6 +90,17 @@ fn is_same(sort: Sort, other: Sort) -> bool
     ensures { IsTrue result ↔ (sort ≡ other) }
 {
     sort == other
+}
+
+/// Where the token at a place of the list begins, or the text's length where there is none: the byte that a fault of
+/// the grammar names.
+pub fn place(bytes: &[u8], tokens: &[Token], at: usize) -> usize
+    ensures { result ≡ place_of bytes.now tokens.now at }
+{
+    match tokens.get(at) {
+        Some(token) => token.start,
+        None => bytes.len(),
+    }
 }
 
 /// A text and its tokens, as the grammar sees them: a list of lexemes. To look at one takes no longer far from the

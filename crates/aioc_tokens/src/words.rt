@@ -76,7 +76,7 @@ pub enum Sort {
 
 /// The reserved word that these bytes spell.
 #[tactic(auto, unfolding(crate::specs::Words::word_of))]
-pub fn reserved_word(bytes: &[u8]) -> Option<Word>
+pub fn find_word(bytes: &[u8]) -> Option<Word>
     ensures { result ≡ word_of bytes.now }
 {
     match bytes {
@@ -158,5 +158,72 @@ pub fn find_mark(bytes: &[u8]) -> Option<Mark>
         [byte] => lone_mark(*byte),
         [first, second] => pair_mark(*first, *second),
         _ => None,
+    }
+}
+
+impl Word {
+    /// How the word is spelled.
+    pub fn spelling(self) -> &'static [u8]
+        ensures { result.now ≡ word_spelling self }
+    {
+        match self {
+            Word::Aioc => b"aioc",
+            Word::Skip => b"skip",
+            Word::If => b"if",
+            Word::Else => b"else",
+            Word::While => b"while",
+            Word::Scope => b"scope",
+            Word::Prop => b"prop",
+            Word::Rule => b"rule",
+            Word::On => b"on",
+            Word::Do => b"do",
+            Word::True => b"true",
+            Word::False => b"false",
+            Word::Nil => b"nil",
+            Word::And => b"and",
+            Word::Or => b"or",
+            Word::Not => b"not",
+            Word::Input => b"input",
+            Word::N => b"N",
+            Word::E => b"E",
+        }
+    }
+}
+
+impl Mark {
+    /// How the symbol is spelled.
+    pub fn spelling(self) -> &'static [u8]
+        ensures { result.now ≡ mark_spelling self }
+    {
+        match self {
+            Mark::LeftBrace => b"{",
+            Mark::RightBrace => b"}",
+            Mark::LeftParen => b"(",
+            Mark::RightParen => b")",
+            Mark::LeftBracket => b"[",
+            Mark::RightBracket => b"]",
+            Mark::Semicolon => b";",
+            Mark::Comma => b",",
+            Mark::Colon => b":",
+            Mark::Bar => b"|",
+            Mark::At => b"@",
+            Mark::Equal => b"=",
+            Mark::EqualEqual => b"==",
+            Mark::NotEqual => b"!=",
+            Mark::Less => b"<",
+            Mark::LessEqual => b"<=",
+            Mark::Greater => b">",
+            Mark::GreaterEqual => b">=",
+            Mark::Plus => b"+",
+            Mark::PlusPlus => b"++",
+            Mark::Minus => b"-",
+            Mark::Arrow => b"->",
+            Mark::Star => b"*",
+            Mark::Slash => b"/",
+            Mark::Percent => b"%",
+            Mark::Dot => b".",
+            Mark::Hash => b"#",
+            Mark::Bang => b"!",
+        }
     }
 }
