@@ -1,0 +1,16 @@
+ghost use Rattle.std.specs.Prelude.{◌≡◌, ◌≤◌};
+ghost use Rattle.aioc_io.specs.Faults.{Rose, one_more};
+
+/// A call of a source or a sink failed, which its count of faults shows.
+#[derive(Clone, Copy, Debug, PartialEq, Eq)]
+pub struct Failed;
+
+// Counts a fault. The count stands still at its last value.
+pub fn count_fault(faults: &mut u64) -> Failed
+    ensures count { faults.new ≡ one_more faults.old }
+    ensures grows { faults.old ≤ faults.new }
+    ensures rose { Rose faults.old faults.new }
+{
+    *faults = faults.saturating_add(1);
+    Failed
+}

@@ -1,0 +1,93 @@
+ghost use Rattle.std.specs.Prelude.{◌≡◌, ◌⊎◌, ℕ, ◌+◌, ◌<◌, ◌≤◌, List, length, drop, Option, Some, vec_len, IfSome, IsOk, IfOk, OnOk, OnErr, IsErrOf};
+ghost use Rattle.std.specs.Io.{ReadsAtMost};
+ghost use Rattle.std.specs.Io.KnownBytes.{IsAtEnd, ReadConsumes};
+ghost use Rattle.aioc_io.specs.declared.source.ReadAllFault.TheVariants.{Fault, Memory};
+ghost use Rattle.aioc_io.specs.Faults.{Rose};
+ghost use Rattle.aioc_io.specs.Source.{GivesAtMost};
+
+use crate::Failed;
+use std::alloc::{AllocError, Global};
+
+/// What bytes are read from.
+pub trait Source {
+    /// The bytes that are left, where the source tells them.
+    ghost left: { Self → Option (List ℕ) };
+
+    /// How often a call has failed. It never falls.
+    ghost faults: { Self → ℕ };
+
+    /// Moves bytes to the front of `into`, as many as fit there at most, and answers their number,
+    /// which is 0 only at the end of the input. What stands behind them in `into` is left open.
+    /// A call that fails has moved none.
+    fn read(&mut self, into: &mut [u8]) -> Result<usize, Failed>
+        requires { 0 < length into.old }
+        ensures within { ReadsAtMost result into.new }
+        ensures bytes { ReadConsumes (left self.old) (left self.new) result into.new }
+        ensures counts { faults self.old ≤ faults self.new }
+        ensures failed { OnErr result (Rose (faults self.old) (faults self.new)) };
+}
+
+/// Why a source was not read to its end.
+#[derive(Clone, Copy, Debug, PartialEq, Eq)]
+pub enum ReadAllFault {
+    /// The source failed, and counted it.
+    Fault,
+    /// It gave more bytes than allowed.
+    TooLong,
+    /// There was no memory for its bytes.
+    Memory,
+}
+
+impl From<Failed> for ReadAllFault {
+    ghost from_gives = { λ _ fault. fault ≡ Fault };
+
+    fn from(_: Failed) -> Self {
+        ReadAllFault::Fault
+    }
+}
+
+impl From<AllocError> for ReadAllFault {
+    ghost from_gives = { λ _ fault. fault ≡ Memory };
+
+    fn from(_: AllocError) -> Self {
+        ReadAllFault::Memory
+    }
+}
+
+// How many bytes one call asks for at most.
+const PIECE: usize = 4096;
+
+/// Reads to the end of a source that has at most `limit` bytes left.
+///
+/// It asks for no byte past the first `limit + 1`: where so many came, they are too many.
+pub fn read_all<S: Source>(
+    alloc: Global,
+    source: &mut S,
+    limit: usize,
+) -> Result<Vec<u8>, ReadAllFault>
+    ensures bytes { IfOk result (λ all. IfSome (S.left source.old) (λ told. all.items ≡ told)) }
+    ensures end { OnOk result (IsAtEnd (S.left source.new)) }
+    ensures within { IfOk result (λ all. vec_len all ≤ limit) }
+
+    // Whoever gave one byte too many is left with what stands behind that byte.
+    ensures too_long { IsErrOf result ReadAllFault.TooLong → IfSome (S.left source.old)
+        (λ told. (limit < length told) × (S.left source.new ≡ Some (drop (limit + 1) told))) }
+    ensures fault { IsErrOf result ReadAllFault.Fault → Rose (S.faults source.old) (S.faults source.new) }
+
+    ensures given { GivesAtMost (limit + 1) (S.left source.old) (S.left source.new) }
+    ensures counts { S.faults source.old ≤ S.faults source.new }
+{
+    let mut bytes = Vec::new(alloc);
+    let mut piece = [0; PIECE];
+    loop {
+        let room = limit - bytes.len();
+        let count = source.read(&mut piece[..room.min(PIECE - 1) + 1])?;
+        if count == 0 {
+            return Ok(bytes);
+        }
+        if count > room {
+            return Err(ReadAllFault::TooLong);
+        }
+        bytes.extend_from_slice(&piece[..count])?;
+    }
+}
