@@ -1,0 +1,68 @@
+ghost use Rattle.std.specs.Prelude.{◌≡◌, ◌<◌};
+
+use crate::failed::count_fault;
+use crate::{Failed, Sink, Source};
+use std::io::{Read, Write};
+
+/// A reader of `std` as a source. Each error of the reader counts as a fault.
+///
+/// It tells the bytes that the reader tells, which are none for standard input.
+#[derive(Drop)]
+pub struct StdSource<R: Read> {
+    inner: R,
+    faults: u64,
+}
+
+impl<R: Read> StdSource<R> {
+    pub fn new(inner: R) -> StdSource<R>
+        ensures left { ⟦<StdSource<R> as Source>⟧.left result ≡ R.remaining inner }
+        ensures faults { ⟦<StdSource<R> as Source>⟧.faults result ≡ 0 }
+    {
+        StdSource { inner, faults: 0 }
+    }
+}
+
+impl<R: Read> Source for StdSource<R> {
+    ghost left = { λ source. R.remaining source.inner };
+
+    ghost faults = { λ source. source.faults };
+
+    fn read(&mut self, into: &mut [u8]) -> Result<usize, Failed> {
+        match self.inner.read(into) {
+            Ok(count) => Ok(count),
+            Err(_) => Err(count_fault(&mut self.faults)),
+        }
+    }
+}
+
+/// A writer of `std` as a sink. Each error of the writer counts as a fault, and so does a call in
+/// which it takes nothing.
+///
+/// It tells the bytes that the writer tells, which are none for standard output.
+#[derive(Drop)]
+pub struct StdSink<W: Write> {
+    inner: W,
+    faults: u64,
+}
+
+impl<W: Write> StdSink<W> {
+    pub fn new(inner: W) -> StdSink<W>
+        ensures taken { ⟦<StdSink<W> as Sink>⟧.taken result ≡ W.contents inner }
+        ensures faults { ⟦<StdSink<W> as Sink>⟧.faults result ≡ 0 }
+    {
+        StdSink { inner, faults: 0 }
+    }
+}
+
+impl<W: Write> Sink for StdSink<W> {
+    ghost taken = { λ sink. W.contents sink.inner };
+
+    ghost faults = { λ sink. sink.faults };
+
+    fn write(&mut self, piece: &[u8]) -> Result<usize, Failed> {
+        match self.inner.write(piece) {
+            Ok(count) if count > 0 => Ok(count),
+            _ => Err(count_fault(&mut self.faults)),
+        }
+    }
+}
