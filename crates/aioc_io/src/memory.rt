@@ -1,7 +1,7 @@
 ghost use Rattle.std.specs.Prelude.{◌≡◌, ◌+◌, ◌<◌, ◌≤◌, ◌↔◌, ℕ, List, [], min, length, Some, IsErr, IfOk, OnErr};
 ghost use Rattle.std.specs.Io.{ReadsAtMost, WritesAtMost};
 ghost use Rattle.std.specs.Io.KnownBytes.{ReadConsumes, WriteAppends};
-ghost use Rattle.aioc_io.specs.Faults.{Rose};
+ghost use Rattle.aioc_io.specs.Faults.{Rose, count_after};
 
 use crate::failed::count_fault;
 use crate::plan::Plan;
@@ -49,8 +49,9 @@ impl Source for MemSource {
             ≡ min (length (bytes_to_read self.old)) (min (source_plan self.old).most (length into.old))) }
         ensures within { ReadsAtMost result into.new }
         ensures bytes { ReadConsumes (Some (bytes_to_read self.old)) (Some (bytes_to_read self.new)) result into.new }
-        ensures counts { (source_plan self.old).faults ≤ (source_plan self.new).faults }
-        ensures failed { OnErr result (Rose (source_plan self.old).faults (source_plan self.new).faults) }
+        ensures faults { (source_plan self.new).faults ≡ count_after result (source_plan self.old).faults }
+        ensures never_falls { (source_plan self.old).faults ≤ (source_plan self.new).faults }
+        ensures rose { OnErr result (Rose (source_plan self.old).faults (source_plan self.new).faults) }
     {
         self.plan.begin_call()?;
         let most = self.plan.most.min(into.len());
@@ -107,8 +108,9 @@ impl Sink for MemSink {
         ensures some { IfOk result (λ count. 0 < count) }
         ensures within { WritesAtMost result piece.now }
         ensures bytes { WriteAppends (Some (bytes_taken self.old)) (Some (bytes_taken self.new)) result piece.now }
-        ensures counts { (sink_plan self.old).faults ≤ (sink_plan self.new).faults }
-        ensures failed { OnErr result (Rose (sink_plan self.old).faults (sink_plan self.new).faults) }
+        ensures faults { (sink_plan self.new).faults ≡ count_after result (sink_plan self.old).faults }
+        ensures never_falls { (sink_plan self.old).faults ≤ (sink_plan self.new).faults }
+        ensures rose { OnErr result (Rose (sink_plan self.old).faults (sink_plan self.new).faults) }
     {
         self.plan.begin_call()?;
         let count = self.plan.most.min(piece.len());

@@ -1,5 +1,5 @@
 ghost use Rattle.std.specs.Prelude.{◌≡◌, ◌<◌, ◌≤◌, ◌↔◌, IsErr, OnOk, OnErr};
-ghost use Rattle.aioc_io.specs.Faults.{Rose, one_more};
+ghost use Rattle.aioc_io.specs.Faults.{Rose, count_after};
 
 use crate::Failed;
 use crate::failed::count_fault;
@@ -34,10 +34,9 @@ impl Plan {
     pub fn begin_call(&mut self) -> Result<(), Failed>
         ensures planned { IsErr result ↔ FailsNext self.old }
         ensures call { OneCall self.old self.new }
-        ensures faults { OnOk result (self.new.faults ≡ self.old.faults) }
-        ensures fault { OnErr result (self.new.faults ≡ one_more self.old.faults) }
-        ensures failed { OnErr result (Rose self.old.faults self.new.faults) }
-        ensures counts { self.old.faults ≤ self.new.faults }
+        ensures faults { self.new.faults ≡ count_after result self.old.faults }
+        ensures never_falls { self.old.faults ≤ self.new.faults }
+        ensures rose { OnErr result (Rose self.old.faults self.new.faults) }
     {
         self.calls = self.calls.saturating_add(1);
         if self.fails.contains(&self.calls) {

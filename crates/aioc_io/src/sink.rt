@@ -21,16 +21,16 @@ pub trait Sink {
         ensures some { IfOk result (λ count. 0 < count) }
         ensures within { WritesAtMost result piece.now }
         ensures bytes { WriteAppends (taken self.old) (taken self.new) result piece.now }
-        ensures counts { faults self.old ≤ faults self.new }
-        ensures failed { OnErr result (Rose (faults self.old) (faults self.new)) };
+        ensures never_falls { faults self.old ≤ faults self.new }
+        ensures rose { OnErr result (Rose (faults self.old) (faults self.new)) };
 }
 
 /// Writes all the bytes, in as many calls as the sink needs, and takes no memory.
 pub fn write_all<O: Sink>(out: &mut O, bytes: &[u8]) -> Result<(), Failed>
     ensures whole { OnOk result (Appends (O.taken out.old) (O.taken out.new) bytes.now) }
     ensures part { OnErr result (TakesPart (O.taken out.old) (O.taken out.new) bytes.now) }
-    ensures failed { OnErr result (Rose (O.faults out.old) (O.faults out.new)) }
-    ensures counts { O.faults out.old ≤ O.faults out.new }
+    ensures rose { OnErr result (Rose (O.faults out.old) (O.faults out.new)) }
+    ensures never_falls { O.faults out.old ≤ O.faults out.new }
 {
     let mut done = 0;
     while done < bytes.len() {

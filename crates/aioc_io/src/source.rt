@@ -7,6 +7,8 @@ ghost use Rattle.aioc_io.specs.Source.{GivesAtMost};
 
 use crate::Failed;
 use std::alloc::{AllocError, Global};
+use std::error::Error;
+use std::fmt;
 
 /// What bytes are read from.
 pub trait Source {
@@ -23,8 +25,8 @@ pub trait Source {
         requires { 0 < length into.old }
         ensures within { ReadsAtMost result into.new }
         ensures bytes { ReadConsumes (left self.old) (left self.new) result into.new }
-        ensures counts { faults self.old ≤ faults self.new }
-        ensures failed { OnErr result (Rose (faults self.old) (faults self.new)) };
+        ensures never_falls { faults self.old ≤ faults self.new }
+        ensures rose { OnErr result (Rose (faults self.old) (faults self.new)) };
 }
 
 /// Why a source was not read to its end.
@@ -37,6 +39,18 @@ pub enum ReadAllFault {
     /// There was no memory for its bytes.
     Memory,
 }
+
+impl fmt::Display for ReadAllFault {
+    fn fmt<W: fmt::Write>(&self, f: &mut fmt::Formatter<W>) -> fmt::Result {
+        f.write_str(match self {
+            ReadAllFault::Fault => "the source failed",
+            ReadAllFault::TooLong => "the source has too many bytes",
+            ReadAllFault::Memory => "out of memory",
+        })
+    }
+}
+
+impl Error for ReadAllFault {}
 
 impl From<Failed> for ReadAllFault {
     ghost from_gives = { λ _ fault. fault ≡ Fault };
@@ -75,7 +89,7 @@ pub fn read_all<S: Source>(
     ensures fault { IsErrOf result ReadAllFault.Fault → Rose (S.faults source.old) (S.faults source.new) }
 
     ensures given { GivesAtMost (limit + 1) (S.left source.old) (S.left source.new) }
-    ensures counts { S.faults source.old ≤ S.faults source.new }
+    ensures never_falls { S.faults source.old ≤ S.faults source.new }
 {
     let mut bytes = Vec::new(alloc);
     let mut piece = [0; PIECE];

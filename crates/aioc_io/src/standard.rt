@@ -1,4 +1,7 @@
-ghost use Rattle.std.specs.Prelude.{◌≡◌, ◌<◌};
+ghost use Rattle.std.specs.Prelude.{◌≡◌, ◌<◌, ◌≤◌, IfOk, OnErr};
+ghost use Rattle.std.specs.Io.{ReadsAtMost, WritesAtMost};
+ghost use Rattle.std.specs.Io.KnownBytes.{ReadConsumes, WriteAppends};
+ghost use Rattle.aioc_io.specs.Faults.{Rose, count_after};
 
 use crate::failed::count_fault;
 use crate::{Failed, Sink, Source};
@@ -27,7 +30,16 @@ impl<R: Read> Source for StdSource<R> {
 
     ghost faults = { λ source. source.faults };
 
-    fn read(&mut self, into: &mut [u8]) -> Result<usize, Failed> {
+    fn read(&mut self, into: &mut [u8]) -> Result<usize, Failed>
+        ensures faults { let faults = ⟦<StdSource<R> as Source>⟧.faults in
+            faults self.new ≡ count_after result (faults self.old) }
+        ensures within { ReadsAtMost result into.new }
+        ensures bytes { let left = ⟦<StdSource<R> as Source>⟧.left in
+            ReadConsumes (left self.old) (left self.new) result into.new }
+        ensures never_falls { let faults = ⟦<StdSource<R> as Source>⟧.faults in faults self.old ≤ faults self.new }
+        ensures rose { let faults = ⟦<StdSource<R> as Source>⟧.faults in
+            OnErr result (Rose (faults self.old) (faults self.new)) }
+    {
         match self.inner.read(into) {
             Ok(count) => Ok(count),
             Err(_) => Err(count_fault(&mut self.faults)),
@@ -59,7 +71,17 @@ impl<W: Write> Sink for StdSink<W> {
 
     ghost faults = { λ sink. sink.faults };
 
-    fn write(&mut self, piece: &[u8]) -> Result<usize, Failed> {
+    fn write(&mut self, piece: &[u8]) -> Result<usize, Failed>
+        ensures faults { let faults = ⟦<StdSink<W> as Sink>⟧.faults in
+            faults self.new ≡ count_after result (faults self.old) }
+        ensures some { IfOk result (λ count. 0 < count) }
+        ensures within { WritesAtMost result piece.now }
+        ensures bytes { let taken = ⟦<StdSink<W> as Sink>⟧.taken in
+            WriteAppends (taken self.old) (taken self.new) result piece.now }
+        ensures never_falls { let faults = ⟦<StdSink<W> as Sink>⟧.faults in faults self.old ≤ faults self.new }
+        ensures rose { let faults = ⟦<StdSink<W> as Sink>⟧.faults in
+            OnErr result (Rose (faults self.old) (faults self.new)) }
+    {
         match self.inner.write(piece) {
             Ok(count) if count > 0 => Ok(count),
             _ => Err(count_fault(&mut self.faults)),

@@ -1,6 +1,7 @@
 ghost use Rattle.std.specs.Prelude.{◌≡◌, ◌+◌, ◌≤◌, ℕ, List, min, length, take, drop, None, Some, Ok, Err, IfOk, OnErr, vec_len, Option};
 ghost use Rattle.std.specs.Io.{ReadsAtMost, WritesAtMost};
 ghost use Rattle.std.specs.Io.KnownBytes.{ReadConsumes, WriteAppends};
+ghost use Rattle.aioc_io.specs.Faults.{last_count};
 
 use crate::{Failed, Sink, Source};
 
@@ -79,7 +80,7 @@ impl Sink for SureSink {
     /// Takes the whole piece.
     fn write(&mut self, piece: &[u8]) -> Result<usize, Failed>
         ensures whole { result ≡ Ok (length piece.now) }
-        ensures number { number_taken self.new ≡ min (number_taken self.old + length piece.now) 18446744073709551615 }
+        ensures number { number_taken self.new ≡ min (number_taken self.old + length piece.now) last_count }
     {
         self.count = self.count.saturating_add(piece.len() as u64);
         Ok(piece.len())
