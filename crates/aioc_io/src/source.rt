@@ -83,12 +83,13 @@ pub fn read_all<S: Source>(
     ensures end { OnOk result (IsAtEnd (S.left source.new)) }
     ensures within { IfOk result (λ all. vec_len all ≤ limit) }
 
-    // Whoever gave one byte too many is left with what stands behind that byte.
+    // It is too long where `limit + 1` bytes were given, and there alone.
     ensures too_long { IsErrOf result ReadAllFault.TooLong → IfSome (S.left source.old)
         (λ told. (limit < length told) × (S.left source.new ≡ Some (drop (limit + 1) told))) }
-    ensures fault { IsErrOf result ReadAllFault.Fault → Rose (S.faults source.old) (S.faults source.new) }
+    ensures given { IsErrOf result ReadAllFault.TooLong
+        ⊎ GivesAtMost limit (S.left source.old) (S.left source.new) }
 
-    ensures given { GivesAtMost (limit + 1) (S.left source.old) (S.left source.new) }
+    ensures fault { IsErrOf result ReadAllFault.Fault → Rose (S.faults source.old) (S.faults source.new) }
     ensures never_falls { S.faults source.old ≤ S.faults source.new }
 {
     let mut bytes = Vec::new(alloc);
