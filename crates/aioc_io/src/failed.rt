@@ -4,7 +4,7 @@ ghost use Rattle.aioc_io.specs.Faults.{Rose, one_more};
 use std::error::Error;
 use std::fmt;
 
-/// A call of a source or a sink failed, which its count of faults shows.
+/// A call of a source or a sink failed. Its count of faults shows it.
 #[derive(Clone, Copy, Debug, PartialEq, Eq)]
 pub struct Failed;
 
@@ -16,7 +16,7 @@ impl fmt::Display for Failed {
 
 impl Error for Failed {}
 
-// Counts a fault. The count stands still at its last value.
+// Counts a fault, for a device that fails. The count stands still at its last value.
 pub fn count_fault(faults: &mut u64) -> Failed
     ensures count { faults.new ≡ one_more faults.old }
     ensures never_falls { faults.old ≤ faults.new }

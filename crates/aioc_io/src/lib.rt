@@ -1,4 +1,8 @@
-//! Sources and sinks of bytes that count their faults, and reading and writing of whole texts.
+//! Sources and sinks of bytes, and reading and writing of whole texts.
+//!
+//! A source or a sink may tell its bytes, and always tells how often it failed. What is written
+//! over the two traits is proved for whatever device stands behind them: a failure is told only
+//! where the device's own count shows it.
 #![tactic(auto)]
 
 mod failed;

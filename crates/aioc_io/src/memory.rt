@@ -1,4 +1,4 @@
-ghost use Rattle.std.specs.Prelude.{◌≡◌, ◌+◌, ◌<◌, ◌≤◌, ◌↔◌, ℕ, List, [], min, length, Some, IsErr, IfOk, OnErr};
+ghost use Rattle.std.specs.Prelude.{◌≡◌, ◌<◌, ◌≤◌, ◌↔◌, [], min, length, Some, IsErr, IfOk, OnErr};
 ghost use Rattle.std.specs.Io.{ReadsAtMost, WritesAtMost};
 ghost use Rattle.std.specs.Io.KnownBytes.{ReadConsumes, WriteAppends};
 ghost use Rattle.aioc_io.specs.Faults.{Rose, count_after};
@@ -19,8 +19,8 @@ impl MemSource {
     ghost use Rattle.aioc_io.specs.Memory.{source_plan};
     ghost use Rattle.aioc_io.specs.Plan.{IsNewPlan};
 
-    /// A call gives at most `most` bytes, and those whose numbers `fails` has fail. The numbers of
-    /// the calls count from 1.
+    /// A call moves at most `most` bytes. The calls whose numbers are in `fails` fail, where the
+    /// first call has the number 1. This takes no memory.
     pub fn new(bytes: Vec<u8>, most: usize, fails: Vec<u64>) -> MemSource
         requires { 1 ≤ most }
         ensures left { ⟦<MemSource as Source>⟧.left result ≡ Some bytes.items }
@@ -47,9 +47,11 @@ impl Source for MemSource {
         ensures call { OneCall (source_plan self.old) (source_plan self.new) }
         ensures count { IfOk result (λ count. count
             ≡ min (length (bytes_to_read self.old)) (min (source_plan self.old).most (length into.old))) }
+        ensures faults { (source_plan self.new).faults ≡ count_after result (source_plan self.old).faults }
+
+        // What every source ensures.
         ensures within { ReadsAtMost result into.new }
         ensures bytes { ReadConsumes (Some (bytes_to_read self.old)) (Some (bytes_to_read self.new)) result into.new }
-        ensures faults { (source_plan self.new).faults ≡ count_after result (source_plan self.old).faults }
         ensures never_falls { (source_plan self.old).faults ≤ (source_plan self.new).faults }
         ensures rose { OnErr result (Rose (source_plan self.old).faults (source_plan self.new).faults) }
     {
@@ -70,8 +72,8 @@ impl MemSink {
     ghost use Rattle.aioc_io.specs.Memory.{sink_plan};
     ghost use Rattle.aioc_io.specs.Plan.{IsNewPlan};
 
-    /// A call takes at most `most` bytes, and those whose numbers `fails` has fail. The numbers of
-    /// the calls count from 1. A call that finds no memory fails too.
+    /// A call takes at most `most` bytes. The calls whose numbers are in `fails` fail, where the
+    /// first call has the number 1, and so does each that finds no memory. This takes none yet.
     pub fn new(alloc: Global, most: usize, fails: Vec<u64>) -> MemSink
         requires { 1 ≤ most }
         ensures taken { ⟦<MemSink as Sink>⟧.taken result ≡ Some [] }
@@ -105,10 +107,12 @@ impl Sink for MemSink {
         ensures planned { FailsNext (sink_plan self.old) → IsErr result }
         ensures call { OneCall (sink_plan self.old) (sink_plan self.new) }
         ensures count { IfOk result (λ count. count ≡ min (sink_plan self.old).most (length piece.now)) }
+        ensures faults { (sink_plan self.new).faults ≡ count_after result (sink_plan self.old).faults }
+
+        // What every sink ensures.
         ensures some { IfOk result (λ count. 0 < count) }
         ensures within { WritesAtMost result piece.now }
         ensures bytes { WriteAppends (Some (bytes_taken self.old)) (Some (bytes_taken self.new)) result piece.now }
-        ensures faults { (sink_plan self.new).faults ≡ count_after result (sink_plan self.old).faults }
         ensures never_falls { (sink_plan self.old).faults ≤ (sink_plan self.new).faults }
         ensures rose { OnErr result (Rose (sink_plan self.old).faults (sink_plan self.new).faults) }
     {

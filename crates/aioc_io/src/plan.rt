@@ -1,4 +1,4 @@
-ghost use Rattle.std.specs.Prelude.{◌≡◌, ◌<◌, ◌≤◌, ◌↔◌, IsErr, OnOk, OnErr};
+ghost use Rattle.std.specs.Prelude.{◌≡◌, ◌≤◌, ◌↔◌, IsErr, OnErr};
 ghost use Rattle.aioc_io.specs.Faults.{Rose, count_after};
 
 use crate::Failed;
@@ -17,7 +17,7 @@ pub struct Plan {
 impl Plan {
     ghost use Rattle.aioc_io.specs.Plan.{FailsNext, IsNewPlan, OneCall};
 
-    /// The numbers of the calls that fail count from 1.
+    /// The first call has the number 1.
     pub fn new(most: usize, fails: Vec<u64>) -> Plan
         requires { 1 ≤ most }
         ensures { IsNewPlan result most fails.items }

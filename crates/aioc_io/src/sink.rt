@@ -1,4 +1,4 @@
-ghost use Rattle.std.specs.Prelude.{◌≡◌, ℕ, ◌<◌, ◌≤◌, List, length, Option, IfOk, OnOk, OnErr};
+ghost use Rattle.std.specs.Prelude.{ℕ, ◌<◌, ◌≤◌, List, length, Option, IfOk, OnOk, OnErr};
 ghost use Rattle.std.specs.Io.{WritesAtMost};
 ghost use Rattle.std.specs.Io.KnownBytes.{Appends, WriteAppends};
 ghost use Rattle.aioc_io.specs.Faults.{Rose};
@@ -11,7 +11,7 @@ pub trait Sink {
     /// The bytes that were taken, where the sink tells them.
     ghost taken: { Self → Option (List ℕ) };
 
-    /// How often a call has failed. It never falls.
+    /// How often a call has failed: 0 when the sink is made, and it never falls.
     ghost faults: { Self → ℕ };
 
     /// Takes bytes from the front of `piece`, at least one, and answers their number.
@@ -25,7 +25,8 @@ pub trait Sink {
         ensures rose { OnErr result (Rose (faults self.old) (faults self.new)) };
 }
 
-/// Writes all the bytes, in as many calls as the sink needs, and takes no memory.
+/// Writes all the bytes, in as many calls as the sink needs. It stops at the first call that fails,
+/// and takes no memory.
 pub fn write_all<O: Sink>(out: &mut O, bytes: &[u8]) -> Result<(), Failed>
     ensures whole { OnOk result (Appends (O.taken out.old) (O.taken out.new) bytes.now) }
     ensures part { OnErr result (TakesPart (O.taken out.old) (O.taken out.new) bytes.now) }

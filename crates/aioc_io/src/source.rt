@@ -1,4 +1,4 @@
-ghost use Rattle.std.specs.Prelude.{◌≡◌, ◌⊎◌, ℕ, ◌+◌, ◌<◌, ◌≤◌, List, length, drop, Option, Some, vec_len, IfSome, IsOk, IfOk, OnOk, OnErr, IsErrOf};
+ghost use Rattle.std.specs.Prelude.{◌≡◌, ◌⊎◌, ℕ, ◌+◌, ◌<◌, ◌≤◌, List, length, drop, Option, Some, vec_len, IfSome, IfOk, OnOk, OnErr, IsErrOf};
 ghost use Rattle.std.specs.Io.{ReadsAtMost};
 ghost use Rattle.std.specs.Io.KnownBytes.{IsAtEnd, ReadConsumes};
 ghost use Rattle.aioc_io.specs.declared.source.ReadAllFault.TheVariants.{Fault, Memory};
@@ -15,12 +15,12 @@ pub trait Source {
     /// The bytes that are left, where the source tells them.
     ghost left: { Self → Option (List ℕ) };
 
-    /// How often a call has failed. It never falls.
+    /// How often a call has failed: 0 when the source is made, and it never falls.
     ghost faults: { Self → ℕ };
 
-    /// Moves bytes to the front of `into`, as many as fit there at most, and answers their number,
-    /// which is 0 only at the end of the input. What stands behind them in `into` is left open.
-    /// A call that fails has moved none.
+    /// Moves bytes to the front of `into`, no more than fit there, and answers their number, which
+    /// is 0 only at the end. What stands behind them in `into` is left open. A call that fails has
+    /// moved none.
     fn read(&mut self, into: &mut [u8]) -> Result<usize, Failed>
         requires { 0 < length into.old }
         ensures within { ReadsAtMost result into.new }
@@ -73,7 +73,8 @@ const PIECE: usize = 4096;
 
 /// Reads to the end of a source that has at most `limit` bytes left.
 ///
-/// It asks for no byte past the first `limit + 1`: where so many came, they are too many.
+/// It asks for no byte past the first `limit + 1`: where so many come, they are too many. After an
+/// error the bytes that were read are lost, and the source has what stood behind them.
 pub fn read_all<S: Source>(
     alloc: Global,
     source: &mut S,
@@ -83,7 +84,7 @@ pub fn read_all<S: Source>(
     ensures end { OnOk result (IsAtEnd (S.left source.new)) }
     ensures within { IfOk result (λ all. vec_len all ≤ limit) }
 
-    // It is too long where `limit + 1` bytes were given, and there alone.
+    // Too long is what gave `limit + 1` bytes, and nothing else.
     ensures too_long { IsErrOf result ReadAllFault.TooLong → IfSome (S.left source.old)
         (λ told. (limit < length told) × (S.left source.new ≡ Some (drop (limit + 1) told))) }
     ensures given { IsErrOf result ReadAllFault.TooLong

@@ -10,13 +10,14 @@ use std::io::{Read, Write};
 /// A reader of `std` as a source. Each error of the reader counts as a fault.
 ///
 /// It tells the bytes that the reader tells, which are none for standard input.
-#[derive(Drop)]
+#[derive(Debug, Drop)]
 pub struct StdSource<R: Read> {
     inner: R,
     faults: u64,
 }
 
 impl<R: Read> StdSource<R> {
+    /// Takes no memory.
     pub fn new(inner: R) -> StdSource<R>
         ensures left { ⟦<StdSource<R> as Source>⟧.left result ≡ R.remaining inner }
         ensures faults { ⟦<StdSource<R> as Source>⟧.faults result ≡ 0 }
@@ -33,6 +34,8 @@ impl<R: Read> Source for StdSource<R> {
     fn read(&mut self, into: &mut [u8]) -> Result<usize, Failed>
         ensures faults { let faults = ⟦<StdSource<R> as Source>⟧.faults in
             faults self.new ≡ count_after result (faults self.old) }
+
+        // What every source ensures.
         ensures within { ReadsAtMost result into.new }
         ensures bytes { let left = ⟦<StdSource<R> as Source>⟧.left in
             ReadConsumes (left self.old) (left self.new) result into.new }
@@ -51,13 +54,14 @@ impl<R: Read> Source for StdSource<R> {
 /// which it takes nothing.
 ///
 /// It tells the bytes that the writer tells, which are none for standard output.
-#[derive(Drop)]
+#[derive(Debug, Drop)]
 pub struct StdSink<W: Write> {
     inner: W,
     faults: u64,
 }
 
 impl<W: Write> StdSink<W> {
+    /// Takes no memory.
     pub fn new(inner: W) -> StdSink<W>
         ensures taken { ⟦<StdSink<W> as Sink>⟧.taken result ≡ W.contents inner }
         ensures faults { ⟦<StdSink<W> as Sink>⟧.faults result ≡ 0 }
@@ -74,6 +78,8 @@ impl<W: Write> Sink for StdSink<W> {
     fn write(&mut self, piece: &[u8]) -> Result<usize, Failed>
         ensures faults { let faults = ⟦<StdSink<W> as Sink>⟧.faults in
             faults self.new ≡ count_after result (faults self.old) }
+
+        // What every sink ensures.
         ensures some { IfOk result (λ count. 0 < count) }
         ensures within { WritesAtMost result piece.now }
         ensures bytes { let taken = ⟦<StdSink<W> as Sink>⟧.taken in

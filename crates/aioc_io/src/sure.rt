@@ -1,6 +1,6 @@
-ghost use Rattle.std.specs.Prelude.{◌≡◌, ◌+◌, ◌≤◌, ℕ, List, min, length, take, drop, None, Some, Ok, Err, IfOk, OnErr, vec_len, Option};
-ghost use Rattle.std.specs.Io.{ReadsAtMost, WritesAtMost};
-ghost use Rattle.std.specs.Io.KnownBytes.{ReadConsumes, WriteAppends};
+ghost use Rattle.std.specs.Prelude.{◌≡◌, ◌+◌, ◌≤◌, min, length, take, None, Some, Ok, vec_len};
+ghost use Rattle.std.specs.Io.{ReadsAtMost};
+ghost use Rattle.std.specs.Io.KnownBytes.{ReadConsumes};
 ghost use Rattle.aioc_io.specs.Faults.{last_count};
 
 use crate::{Failed, Sink, Source};
@@ -16,6 +16,7 @@ pub struct SureSource {
 impl SureSource {
     ghost use Rattle.aioc_io.specs.Sure.{bytes_left};
 
+    /// All the bytes are left. This takes no memory.
     pub fn new(bytes: Vec<u8>) -> SureSource
         ensures left { ⟦<SureSource as Source>⟧.left result ≡ Some bytes.items }
         ensures faults { ⟦<SureSource as Source>⟧.faults result ≡ 0 }
@@ -62,6 +63,7 @@ pub struct SureSink {
 impl SureSink {
     ghost use Rattle.aioc_io.specs.Sure.{number_taken};
 
+    /// No byte was taken. This takes no memory.
     pub fn new() -> SureSink
         ensures number { number_taken result ≡ 0 }
         ensures faults { ⟦<SureSink as Sink>⟧.faults result ≡ 0 }
