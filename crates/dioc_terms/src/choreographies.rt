@@ -1,7 +1,8 @@
 //! Choreographies.
 
 ghost use Rattle.std.specs.Prelude.{◌≡◌, IfOk};
-ghost use Rattle.dioc_terms.specs.Terms.{term};
+ghost use Rattle.dioc_terms.specs.Expressions.{expression};
+ghost use Rattle.dioc_terms.specs.Terms.{term, Com, Set, Input, If, While, Scope};
 
 use crate::copies::boxed;
 use crate::expressions::Expr;
@@ -70,6 +71,7 @@ pub enum Choreo {
 
 impl Choreo {
     /// A copy, the same term.
+    #[cycle(copy_choreo)]
     pub fn copy(&self, alloc: Global) -> Result<Choreo, Memory>
         ensures { IfOk result (λ copy. term copy ≡ term self.now) }
     {
@@ -82,62 +84,44 @@ impl Choreo {
                 expr,
                 to,
                 var,
-            } => Ok(Choreo::Com {
-                index: *index,
-                op: op.copy(alloc)?,
-                from: from.copy(alloc)?,
-                expr: expr.copy(alloc)?,
-                to: to.copy(alloc)?,
-                var: var.copy(alloc)?,
-            }),
+            } => copy_of_com(alloc, *index, op, from, expr, to, var),
             Choreo::Set {
                 index,
                 var,
                 role,
                 expr,
-            } => Ok(Choreo::Set {
-                index: *index,
-                var: var.copy(alloc)?,
-                role: role.copy(alloc)?,
-                expr: expr.copy(alloc)?,
-            }),
-            Choreo::Input { index, var, role } => Ok(Choreo::Input {
-                index: *index,
-                var: var.copy(alloc)?,
-                role: role.copy(alloc)?,
-            }),
-            Choreo::Seq(first, second) => Ok(Choreo::Seq(
-                boxed(alloc, first.copy(alloc)?)?,
-                boxed(alloc, second.copy(alloc)?)?,
-            )),
-            Choreo::Par(left, right) => Ok(Choreo::Par(
-                boxed(alloc, left.copy(alloc)?)?,
-                boxed(alloc, right.copy(alloc)?)?,
-            )),
+            } => copy_of_set(alloc, *index, var, role, expr),
+            Choreo::Input { index, var, role } => copy_of_input(alloc, *index, var, role),
+            Choreo::Seq(first, second) => {
+                let first = first.boxed_copy(alloc)?;
+                let second = second.boxed_copy(alloc)?;
+                Ok(Choreo::Seq(first, second))
+            }
+            Choreo::Par(left, right) => {
+                let left = left.boxed_copy(alloc)?;
+                let right = right.boxed_copy(alloc)?;
+                Ok(Choreo::Par(left, right))
+            }
             Choreo::If {
                 index,
                 leader,
                 guard,
                 yes,
                 no,
-            } => Ok(Choreo::If {
-                index: *index,
-                leader: leader.copy(alloc)?,
-                guard: guard.copy(alloc)?,
-                yes: boxed(alloc, yes.copy(alloc)?)?,
-                no: boxed(alloc, no.copy(alloc)?)?,
-            }),
+            } => {
+                let yes = yes.boxed_copy(alloc)?;
+                let no = no.boxed_copy(alloc)?;
+                copy_of_if(alloc, *index, leader, guard, yes, no)
+            }
             Choreo::While {
                 index,
                 leader,
                 guard,
                 body,
-            } => Ok(Choreo::While {
-                index: *index,
-                leader: leader.copy(alloc)?,
-                guard: guard.copy(alloc)?,
-                body: boxed(alloc, body.copy(alloc)?)?,
-            }),
+            } => {
+                let body = body.boxed_copy(alloc)?;
+                copy_of_while(alloc, *index, leader, guard, body)
+            }
             Choreo::Scope {
                 index,
                 leader,
@@ -145,14 +129,122 @@ impl Choreo {
                 extra,
                 props,
                 level,
-            } => Ok(Choreo::Scope {
-                index: *index,
-                leader: leader.copy(alloc)?,
-                body: boxed(alloc, body.copy(alloc)?)?,
-                extra: extra.copy(alloc)?,
-                props: props.copy(alloc)?,
-                level: *level,
-            }),
+            } => {
+                let body = body.boxed_copy(alloc)?;
+                copy_of_scope(alloc, *index, leader, body, extra, props, *level)
+            }
         }
     }
+
+    #[cycle(copy_choreo)]
+    fn boxed_copy(&self, alloc: Global) -> Result<Box<Choreo>, Memory>
+        ensures { IfOk result (λ copy. term copy.value ≡ term self.now) }
+    {
+        boxed(alloc, self.copy(alloc)?)
+    }
+}
+
+fn copy_of_com(
+    alloc: Global,
+    index: Index,
+    op: &Name,
+    from: &Role,
+    expr: &Expr,
+    to: &Role,
+    var: &Name,
+) -> Result<Choreo, Memory>
+    ensures { IfOk result (λ copy. term copy ≡ Com index op.now from.now (expression expr.now) to.now var.now) }
+{
+    Ok(Choreo::Com {
+        index,
+        op: op.copy(alloc)?,
+        from: from.copy(alloc)?,
+        expr: expr.copy(alloc)?,
+        to: to.copy(alloc)?,
+        var: var.copy(alloc)?,
+    })
+}
+
+fn copy_of_set(
+    alloc: Global,
+    index: Index,
+    var: &Name,
+    role: &Role,
+    expr: &Expr,
+) -> Result<Choreo, Memory>
+    ensures { IfOk result (λ copy. term copy ≡ Set index var.now role.now (expression expr.now)) }
+{
+    Ok(Choreo::Set {
+        index,
+        var: var.copy(alloc)?,
+        role: role.copy(alloc)?,
+        expr: expr.copy(alloc)?,
+    })
+}
+
+fn copy_of_input(alloc: Global, index: Index, var: &Name, role: &Role) -> Result<Choreo, Memory>
+    ensures { IfOk result (λ copy. term copy ≡ Input index var.now role.now) }
+{
+    Ok(Choreo::Input {
+        index,
+        var: var.copy(alloc)?,
+        role: role.copy(alloc)?,
+    })
+}
+
+fn copy_of_if(
+    alloc: Global,
+    index: Index,
+    leader: &Role,
+    guard: &Expr,
+    yes: Box<Choreo>,
+    no: Box<Choreo>,
+) -> Result<Choreo, Memory>
+    ensures { IfOk result (λ copy. term copy ≡ If index leader.now (expression guard.now) (term yes.value) (term no.value)) }
+{
+    Ok(Choreo::If {
+        index,
+        leader: leader.copy(alloc)?,
+        guard: guard.copy(alloc)?,
+        yes,
+        no,
+    })
+}
+
+fn copy_of_while(
+    alloc: Global,
+    index: Index,
+    leader: &Role,
+    guard: &Expr,
+    body: Box<Choreo>,
+) -> Result<Choreo, Memory>
+    ensures { IfOk result (λ copy. term copy ≡ While index leader.now (expression guard.now) (term body.value)) }
+{
+    Ok(Choreo::While {
+        index,
+        leader: leader.copy(alloc)?,
+        guard: guard.copy(alloc)?,
+        body,
+    })
+}
+
+fn copy_of_scope(
+    alloc: Global,
+    index: Index,
+    leader: &Role,
+    body: Box<Choreo>,
+    extra: &Roles,
+    props: &Bindings,
+    level: u32,
+) -> Result<Choreo, Memory>
+    ensures { IfOk result (λ copy. term copy ≡ Scope index leader.now (term body.value) extra.now props.now level) }
+{
+    Ok(Choreo::Scope {
+        index,
+        leader: leader.copy(alloc)?,
+        body,
+        extra: extra.copy(alloc)?,
+        props: props.copy(alloc)?,
+        level,
+    })
 }
