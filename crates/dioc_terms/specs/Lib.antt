@@ -3,6 +3,7 @@ pub mod Equality
 pub mod EqualityLaws
 pub mod EqualityLemmas
 pub mod Expressions
+pub mod KeptStores
 pub mod Messages
 pub mod Names
 pub mod Processes
