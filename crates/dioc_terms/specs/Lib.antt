@@ -1,4 +1,5 @@
 pub mod Bundles
+pub mod Conditions
 pub mod Equality
 pub mod EqualityLaws
 pub mod EqualityLemmas
@@ -8,6 +9,7 @@ pub mod Messages
 pub mod Names
 pub mod Processes
 pub mod Rules
+pub mod SeenValues
 pub mod Stores
 pub mod Terms
 pub mod Values

@@ -3,6 +3,7 @@
 use crate::faults::Memory;
 use crate::lists::Values;
 use crate::names::Name;
+use crate::seen::Seen;
 use crate::values::Value;
 use indexmap::IndexMap;
 use std::alloc::Global;
@@ -18,7 +19,8 @@ pub struct Store {
 impl Store {
     ghost use Rattle.std.specs.Prelude.{◌≡◌, ◌+◌, ◌<◌, ◌≤◌, None, OnOk};
     ghost use Rattle.std.specs.Option.{option_copied};
-    ghost use Rattle.dioc_terms.specs.Stores.{fresh_store, set_variable, next_input, drop_input};
+    ghost use Rattle.dioc_terms.specs.Stores.{fresh_store, variable, set_variable, next_input, drop_input};
+    ghost use Rattle.dioc_terms.specs.SeenValues.{seen_value};
     ghost use Rattle.dioc_terms.specs.KeptStores.{store_of, room};
 
     /// A store in which no variable is set, with these inputs left. It takes no memory.
@@ -36,6 +38,16 @@ impl Store {
         ensures { option_copied result ≡ (store_of self.now).variables name.now }
     {
         self.variables.get(name)
+    }
+
+    /// The value of a variable, Nil where it is unset.
+    pub(crate) fn seen(&self, name: &Name) -> Seen<'_>
+        ensures { seen_value result ≡ variable (store_of self.now) name.now }
+    {
+        match self.variables.get(name) {
+            Some(value) => value.seen(),
+            None => Seen::Nil,
+        }
     }
 
     /// Makes room for so many new variables.
