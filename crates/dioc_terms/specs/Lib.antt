@@ -1,13 +1,16 @@
 pub mod Bundles
+pub mod Conditions
 pub mod Equality
 pub mod EqualityLaws
 pub mod EqualityLemmas
 pub mod Expressions
+pub mod KeptStores
 pub mod Messages
 pub mod Moves
 pub mod Names
 pub mod Processes
 pub mod Rules
+pub mod SeenValues
 pub mod Stores
 pub mod Supported
 pub mod Terms
