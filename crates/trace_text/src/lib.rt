@@ -1,2 +1,7 @@
 //! The lines of a trace.
 #![tactic(auto)]
+
+mod lines;
+mod pieces;
+
+pub use lines::{write_last, write_line, write_text};
