@@ -3,5 +3,7 @@
 
 mod lines;
 mod pieces;
+#[cfg(test)]
+mod tests;
 
 pub use lines::{write_last, write_line, write_text};

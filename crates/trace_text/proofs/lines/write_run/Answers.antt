@@ -1,6 +1,4 @@
-use Rattle.std.proofs.Common.{rules}
 use Rattle.std.proofs.lemmas.Result.{err_from_is_err_and, on_err_weaker}
-use Rattle.trace_text.specs.Lines.{lines, last_line}
 use Rattle.trace_text.proofs.Fronts.{front_after}
 use Rattle.trace_text.proofs.lines.write_run.Goals as goal
 
