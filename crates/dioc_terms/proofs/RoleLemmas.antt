@@ -23,19 +23,19 @@ filter-both p r s h (x ∷ xs) = filter-head p x (filter r xs) (filter s xs) (r 
 known-other : (known : List Role) (x : Role) → member x known ≡ true → (q : Role) → not (member q known) ≡ (not (role_eq q x) && not (member q known))
 known-other known x there q = by (role_eq q x) refl
   where
-  by : (b : Bool) → role_eq q x ≡ b → not (member q known) ≡ (not b && not (member q known))
-  by true e = ap (λ (r : Role). not (member r known)) ((role_eq-decides q x).0 e) ∙ ap not there
-  by false e = refl
+    by : (b : Bool) → role_eq q x ≡ b → not (member q known) ≡ (not b && not (member q known))
+    by true e = ap (λ (r : Role). not (member r known)) ((role_eq-decides q x).0 e) ∙ ap not there
+    by false e = refl
 
 -- a role that is new to more roles is another one than the last, and new to the first ones
 more-other : (known : List Role) (x q : Role) → not (member q (known ++ x ∷ [])) ≡ (not (role_eq q x) && not (member q known))
 more-other known x q = ap not (list_any-append (role_eq q) known (x ∷ [])) ∙ by (member q known) (role_eq q x)
   where
-  by : (a b : Bool) → not (a || (b || false)) ≡ (not b && not a)
-  by true true = refl
-  by true false = refl
-  by false true = refl
-  by false false = refl
+    by : (a b : Bool) → not (a || (b || false)) ≡ (not b && not a)
+    by true true = refl
+    by true false = refl
+    by false true = refl
+    by false false = refl
 
 -- what is new to the known roles, of the first appearances in xs
 abbrev newcomers : List Role → List Role → List Role
@@ -44,7 +44,7 @@ newcomers known xs = filter (λ q. not (member q known)) (first_appearances xs)
 insert_key-appearances : (known : List Role) (x : Role) (xs : List Role) → ((more : List Role) → insert_all role_eq more xs ≡ more ++ newcomers more xs)
     → (b : Bool) → member x known ≡ b
     → insert_all role_eq (cond b known (known ++ x ∷ [])) xs
-        ≡ known ++ cond (not b) (x ∷ filter (λ q. not (member q known)) (filter (λ q. not (role_eq q x)) (first_appearances xs))) (filter (λ q. not (member q known)) (filter (λ q. not (role_eq q x)) (first_appearances xs)))
+    ≡ known ++ cond (not b) (x ∷ filter (λ q. not (member q known)) (filter (λ q. not (role_eq q x)) (first_appearances xs))) (filter (λ q. not (member q known)) (filter (λ q. not (role_eq q x)) (first_appearances xs)))
 insert_key-appearances known x xs below true e =
     below known
     ∙ ap (λ l. known ++ l) (sym (filter-both (λ q. not (member q known)) (λ q. not (role_eq q x)) (λ q. not (member q known)) (known-other known x e) (first_appearances xs)))

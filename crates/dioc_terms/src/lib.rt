@@ -14,6 +14,7 @@ mod mentions;
 mod names;
 mod processes;
 mod seen;
+mod stamps;
 mod stores;
 mod values;
 
@@ -29,5 +30,6 @@ pub use lists::{Bindings, Entries, Items, Keys, Roles, Values};
 pub use mentions::roles;
 pub use names::{Index, Name, Role, Text};
 pub use processes::{Key, Messages, Parts, Payload, Proc, ScopeHead, Tag};
+pub use stamps::stamped;
 pub use stores::Store;
 pub use values::Value;
