@@ -6,10 +6,12 @@ pub mod EqualityLemmas
 pub mod Expressions
 pub mod KeptStores
 pub mod Messages
+pub mod Moves
 pub mod Names
 pub mod Processes
 pub mod Rules
 pub mod SeenValues
 pub mod Stores
+pub mod Supported
 pub mod Terms
 pub mod Values

@@ -1,9 +1,10 @@
 -- Terms of the language: choreographies without where they lie in memory, their roles, and the marks that a text gives them.
-use Rattle.std.specs.Prelude.{ℕ, suc, ◌+◌, max, List, [], ◌∷◌, ◌++◌, Bool, true, false, ◌&&◌, ◌||◌, not, filter}
+use Rattle.std.specs.Prelude.{ℕ, suc, ◌+◌, max, List, [], ◌∷◌, ◌++◌, Bool, true, false, ◌&&◌, ◌||◌, not, filter, if◌then◌else◌}
 use Rattle.dioc_terms.specs.declared.names.Role.{Role}
 use Rattle.dioc_terms.specs.declared.names.Index.{Index}
 use Rattle.dioc_terms.specs.declared.values.Value.{Value}
 use Rattle.dioc_terms.specs.declared.choreographies.Choreo.{Choreo}
+use Rattle.dioc_terms.specs.declared.processes.ScopeHead.{ScopeHead}
 use Rattle.dioc_terms.specs.declared.choreographies.Choreo as choreo
 use Rattle.dioc_terms.specs.Equality.{role_eq, member}
 use Rattle.dioc_terms.specs.Expressions.{Expression, expression}
@@ -105,6 +106,16 @@ stamped (If i r g I J) n level = If (at_epoch n i) r g (stamped I n level) (stam
 stamped (While i r g I) n level = While (at_epoch n i) r g (stamped I n level)
 stamped (Scope i r I extra props _) n level = Scope (at_epoch n i) r (stamped I n level) extra props level
 
+-- the interactions of a role with itself, in the order of the text
+abbrev pub self_messages : Term → List Index
+self_messages (Com i o a e b x) = if role_eq a b then i ∷ [] else []
+self_messages (Seq I J) = self_messages I ++ self_messages J
+self_messages (Par I J) = self_messages I ++ self_messages J
+self_messages (If i r g I J) = self_messages I ++ self_messages J
+self_messages (While i r g I) = self_messages I
+self_messages (Scope i r I extra props level) = self_messages I
+self_messages _ = []
+
 -- how many indexed constructs
 abbrev pub constructs : Term → ℕ
 constructs Skip = 0
@@ -152,3 +163,8 @@ depth (If i r g I J) = suc (max (depth I) (depth J))
 depth (While i r g I) = suc (depth I)
 depth (Scope i r I extra props level) = suc (depth I)
 depth _ = 1
+
+-- what the leader of a scope shows the book: the scope without its body, its roles in the order of the cast
+abbrev pub head_of : List Role → Index → Role → Term → List Role → List (List ℕ × Value) → ℕ → ScopeHead
+head_of cast i r I extra props level =
+    record { index = i; leader = r; roles = roles_in cast (Scope i r I extra props level); props = props; level = level }

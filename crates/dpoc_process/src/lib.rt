@@ -1,0 +1,2 @@
+//! One step of a role's process.
+#![tactic(auto)]

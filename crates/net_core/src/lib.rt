@@ -1,0 +1,12 @@
+//! The network of a bundle, stepped entry by entry, and which bundles may run.
+#![tactic(auto)]
+
+mod moves;
+mod network;
+mod refusals;
+mod runs;
+
+pub use moves::{Finish, Move, StepFault};
+pub use network::Net;
+pub use refusals::{Refusal, Where, Which, accept};
+pub use runs::run_first;

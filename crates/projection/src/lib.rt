@@ -1,0 +1,2 @@
+//! What each role does of a choreography.
+#![tactic(auto)]
