@@ -1,1 +1,2 @@
+pub mod RoleLemmas
 pub mod ValueLemmas
