@@ -1,8 +1,11 @@
-pub mod Equality
 pub mod Constructs
+pub mod Ends
+pub mod Equality
+pub mod Gates
 pub mod Mark
 pub mod MarkSteps
 pub mod Moves
 pub mod Norm
 pub mod Proper
+pub mod RoleLists
 pub mod Roles
