@@ -1,7 +1,12 @@
 pub mod Constructs
 pub mod Ends
 pub mod Equality
+pub mod Found
+pub mod FoundHeld
+pub mod FoundParts
+pub mod FoundStill
 pub mod Gates
+pub mod Mails
 pub mod Mark
 pub mod MarkSteps
 pub mod Moves
