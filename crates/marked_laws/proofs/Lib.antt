@@ -2,10 +2,12 @@ pub mod Constructs
 pub mod Ends
 pub mod Equality
 pub mod Gates
+pub mod Keeps
 pub mod Mark
 pub mod MarkSteps
 pub mod Moves
 pub mod Norm
+pub mod Others
 pub mod Proper
 pub mod RoleLists
 pub mod Roles
