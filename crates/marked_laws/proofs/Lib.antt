@@ -3,6 +3,7 @@ pub mod Ends
 pub mod Equality
 pub mod Gates
 pub mod Keeps
+pub mod Mails
 pub mod Mark
 pub mod MarkSteps
 pub mod Moves
