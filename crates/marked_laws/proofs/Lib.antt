@@ -2,6 +2,7 @@ pub mod Constructs
 pub mod Ends
 pub mod Equality
 pub mod Gates
+pub mod Groups
 pub mod Keeps
 pub mod Mails
 pub mod Mark
