@@ -13,3 +13,4 @@ pub mod Others
 pub mod Proper
 pub mod RoleLists
 pub mod Roles
+pub mod Stays
