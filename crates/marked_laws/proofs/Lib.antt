@@ -10,6 +10,7 @@ pub mod MarkSteps
 pub mod Moves
 pub mod Norm
 pub mod Others
+pub mod Plays
 pub mod Proper
 pub mod RoleLists
 pub mod Roles
