@@ -20,11 +20,11 @@ use Rattle.dioc_terms.specs.Terms.{distinct_roles}
 use Rattle.dpoc_process.specs.Steps.{Deed, Takes, Given, Got, Decision, ended, key, take_value, step}
 use Rattle.global_steps.specs.Follow.{Answer}
 use Rattle.marked_laws.specs.Network.{decision}
+use Rattle.marked_laws.proofs.Agreeing.{agrees_first, agrees_next, agrees_second, agrees_both, agrees_inside}
 use Rattle.marked_laws.proofs.Equality.{role_same, key_itself}
 use Rattle.marked_laws.proofs.FoundHeld.{finds_held}
 use Rattle.marked_laws.proofs.FoundParts.{taken_by, when_act, seq_does}
 use Rattle.marked_laws.proofs.FoundStill.{Finds, finds_either, finds_skip, finds_first, finds_both, finds_still}
-use Rattle.marked_laws.proofs.Mails.{agrees_first, agrees_next, agrees_second, agrees_both, agrees_inside}
 use Rattle.marked_laws.proofs.Mark.{Mark, Still, Flying, Over, First, Second, Both, Held, Spent, place, Fine}
 use Rattle.marked_laws.proofs.MarkSteps.{Steps, lands, seq_lags, seq_goes, doer_of, given_by, Agrees}
 use Rattle.marked_laws.proofs.Moves.{does_same, stuck_does}

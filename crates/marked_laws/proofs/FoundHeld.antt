@@ -21,13 +21,13 @@ use Rattle.dioc_terms.specs.Terms.{Term, is_in, others, distinct_roles}
 use Rattle.projection.specs.Projection.{projected}
 use Rattle.dpoc_process.specs.Steps.{Deed, Puts, Takes, Given, Got, Decision, ended, after, key, tell, gather, send_one, take_flag, take_begin, take_any, while_follows, scope_follows, step}
 use Rattle.global_steps.specs.Follow.{Answer, updated}
+use Rattle.marked_laws.proofs.Agreeing.{own_given}
 use Rattle.marked_laws.proofs.Constructs.{Phase, Phases, Kind, Branch, Turning, Stopping, Scoped, Releasing, Waits, Told, Inside, Sent, Gone, waits, gone, is_early, all_wait, leader, index, tag, told, whole, body, telling_key, backing_key, letter, opened, own_mail, Backs, turn_backs, end_backs, Busy, Begins, leads, before, inside, outside, follows, untold, ungone}
 use Rattle.marked_laws.proofs.Ends.{place_leader, place_follower}
 use Rattle.marked_laws.proofs.Equality.{role_itself, key_itself, key_parts}
 use Rattle.marked_laws.proofs.FoundParts.{taken_by, when_act, seq_does, tell_does, gather_does, take_any_does, tell_over, gather_over}
 use Rattle.marked_laws.proofs.FoundStill.{untold_all, Found, Finds, made, picks_loop}
 use Rattle.marked_laws.proofs.Gates.{outsider, untold_head, ungone_head, untold_tells, ungone_gathers, untold_same, ungone_same}
-use Rattle.marked_laws.proofs.Mails.{own_given}
 use Rattle.marked_laws.proofs.Mark.{Mark, Held, Spent, run, place, Fine, Closed}
 use Rattle.marked_laws.proofs.MarkSteps.{Steps, again, leaves, tells, hears, works, arrives, gathers, frees, doer_of, given_by, Agrees}
 use Rattle.marked_laws.proofs.Moves.{does_same, stuck_does}

@@ -1,3 +1,4 @@
+pub mod Agreeing
 pub mod Constructs
 pub mod Ends
 pub mod Equality
@@ -6,11 +7,16 @@ pub mod FoundHeld
 pub mod FoundParts
 pub mod FoundStill
 pub mod Gates
+pub mod Groups
+pub mod Keeps
 pub mod Mails
 pub mod Mark
 pub mod MarkSteps
 pub mod Moves
 pub mod Norm
+pub mod Others
+pub mod Plays
 pub mod Proper
 pub mod RoleLists
 pub mod Roles
+pub mod Stays

@@ -18,7 +18,7 @@ use Rattle.dpoc_process.specs.Steps.{key, ended}
 use Rattle.global_steps.specs.Running as running
 use Rattle.global_steps.specs.Running.{Running, started, light}
 use Rattle.marked_laws.proofs.Constructs.{Phase, Phases, Kind, Releasing, waits, is_early, is_late, leader, index, whole, body, runs, own_mail, leads, follows, untold, ungone, Begins}
-use Rattle.marked_laws.proofs.Proper.{Proper, Linked, Within}
+use Rattle.marked_laws.proofs.Proper.{Proper, Linked, Within, proper_seq, proper_par}
 
 pub data Mark : Type 0 where
   -- nobody has begun it
@@ -161,3 +161,10 @@ module _ (cast : List Role) where
     pub told : untold cast k phases ≡ []
     pub done : ended (place M (leader k)) ≡ true
     pub gathered : ungone cast k phases ≡ []
+
+  -- a sequence, and a parallel, as soon as a part is begun
+  pub first_fine : (I J : Term) → Proper cast (term.Seq I J) → Fine (First (Still I) J)
+  first_fine I J h = let parts = proper_seq cast I J h in (parts.0, parts.1, parts.2, parts.3)
+
+  pub both_fine : (I J : Term) → Proper cast (term.Par I J) → Fine (Both (Still I) (Still J))
+  both_fine I J h = let parts = proper_par cast I J h in (parts.0, parts.1, parts.2)
