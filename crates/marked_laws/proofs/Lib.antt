@@ -1,3 +1,4 @@
+pub mod Acts
 pub mod Agreeing
 pub mod Constructs
 pub mod Ends
