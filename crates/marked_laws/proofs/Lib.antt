@@ -10,6 +10,7 @@ pub mod FoundStill
 pub mod Gates
 pub mod Groups
 pub mod Keeps
+pub mod Keys
 pub mod Mails
 pub mod Mark
 pub mod MarkSteps
