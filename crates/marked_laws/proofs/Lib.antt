@@ -1,5 +1,6 @@
 pub mod Acts
 pub mod Agreeing
+pub mod CanStep
 pub mod Constructs
 pub mod Ends
 pub mod Equality
