@@ -8,6 +8,7 @@ pub mod Mails
 pub mod Mark
 pub mod MarkSteps
 pub mod Moves
+pub mod Networks
 pub mod Norm
 pub mod Others
 pub mod Plays
