@@ -11,8 +11,10 @@ pub mod Moves
 pub mod Networks
 pub mod Norm
 pub mod Others
+pub mod Pending
 pub mod Plays
 pub mod Proper
 pub mod RoleLists
 pub mod Roles
+pub mod Simulate
 pub mod Stays
