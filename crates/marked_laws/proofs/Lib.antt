@@ -13,6 +13,7 @@ pub mod Norm
 pub mod Others
 pub mod Pending
 pub mod Plays
+pub mod Premise
 pub mod Proper
 pub mod RoleLists
 pub mod Roles
