@@ -1,3 +1,4 @@
+pub mod Choices
 pub mod Constructs
 pub mod Ends
 pub mod Equality
@@ -19,3 +20,4 @@ pub mod RoleLists
 pub mod Roles
 pub mod Simulate
 pub mod Stays
+pub mod Whole

@@ -81,7 +81,7 @@ groups_is q (Scope i r I extra props level) =
     and_true (member q (mentions (Scope i r I extra props level))) ∙ mentions_is q (Scope i r I extra props level)
 
 -- a test that holds of all roles of a list
-all_member : (f : Role → Bool) (rs : List Role) (q : Role) → list_all f rs ≡ true → member q rs ≡ true → f q ≡ true
+pub all_member : (f : Role → Bool) (rs : List Role) (q : Role) → list_all f rs ≡ true → member q rs ≡ true → f q ≡ true
 all_member f [] q h k = absurd (both_ways false refl k)
 all_member f (r ∷ rs) q h k =
     let parts = and_parts (f r) (list_all f rs) h in
