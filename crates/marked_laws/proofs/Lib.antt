@@ -1,3 +1,4 @@
+pub mod Away
 pub mod Constructs
 pub mod Ends
 pub mod Equality
