@@ -8,6 +8,7 @@ pub mod Mark
 pub mod MarkSteps
 pub mod Moves
 pub mod Norm
+pub mod Orders
 pub mod Others
 pub mod Proper
 pub mod RoleLists
