@@ -1,6 +1,6 @@
 -- The second invariant of a run: who has begun a second part has ended the first. A step keeps it, since who does a step had not
 -- ended before.
-use Rattle.std.proofs.Common.{◌≡◌, ◌⊎◌, ℕ, suc, List, [], ◌∷◌, Bool, true, false, ◌&&◌, ◌||◌, not, if◌then◌else◌, Option, Some, None, refl, sym, ap, ◌∙◌, subst, inl, inr, ⊎_elim}
+use Rattle.std.proofs.Common.{◌≡◌, ◌⊎◌, ℕ, List, ◌∷◌, Bool, true, false, ◌||◌, not, refl, sym, ap, ◌∙◌, subst, inl, inr, ⊎_elim}
 use Rattle.std.proofs.lemmas.Bool.{and_parts, and_left, and_right, or_cases, or_from, or_left, or_right, both_ways, cases_Bool, cond-true, cond-false, false_from_ne_true}
 use Rattle.dioc_terms.specs.declared.names.Role.{Role}
 use Rattle.dioc_terms.specs.declared.names.Index.{Index}
@@ -8,33 +8,23 @@ use Rattle.dioc_terms.specs.declared.values.Value.{Value}
 use Rattle.dioc_terms.specs.declared.processes.Tag.{Tag}
 use Rattle.dioc_terms.specs.declared.processes.Tag.TheVariants.{Choice, Go, Begin, Out, Turn, End}
 use Rattle.dioc_terms.specs.declared.processes.ScopeHead.{ScopeHead}
-use Rattle.dioc_terms.specs.declared.entries.Entry.{Entry}
-use Rattle.dioc_terms.specs.declared.entries.Entry.TheVariants as entry
-use Rattle.dioc_terms.specs.Equality.{role_eq, member}
+use Rattle.dioc_terms.specs.Equality.{role_eq}
 use Rattle.dioc_terms.specs.Expressions.{Expression}
-use Rattle.dioc_terms.specs.Messages.{is_aux, is_aux_tag}
-use Rattle.dioc_terms.specs.Moves.{Move, Stuck, Does}
 use Rattle.dioc_terms.specs.Processes as process
 use Rattle.dioc_terms.specs.Processes.{Process, Load, Flag, Done}
 use Rattle.dioc_terms.specs.Stores.{Store}
 use Rattle.dioc_terms.specs.Terms as term
 use Rattle.dioc_terms.specs.Terms.{Term, is_in, others}
-use Rattle.projection.specs.Projection.{projected}
-use Rattle.dpoc_process.specs.Steps.{Deed, key, tell, gather, ended, entry_of}
-use Rattle.global_steps.specs.Running as running
-use Rattle.global_steps.specs.Running.{Running, started, is_due}
-use Rattle.global_steps.specs.Follow.{Answer, Effect, plays, updated}
-use Rattle.global_steps.specs.Settled.{Due, due_after, nobody, NoneDue, Released, Played, SettledAt}
-use Rattle.marked_laws.proofs.Away.{deed_is_at, ended_plays, mark_away}
-use Rattle.marked_laws.proofs.Constructs.{Phase, Phases, Kind, Branch, Turning, Stopping, Scoped, Releasing, Waits, Told, Inside, Sent, Gone, waits, gone, is_early, all_wait, leader, tag, whole, runs, Backs, turn_backs, end_backs, leads, before, inside, follows, followers, untold, ungone}
-use Rattle.marked_laws.proofs.Ends.{place_leader, place_follower, held_inside, all_over}
+use Rattle.dpoc_process.specs.Steps.{Deed, tell, gather, ended}
+use Rattle.global_steps.specs.Running.{started}
+use Rattle.global_steps.specs.Follow.{Answer, updated}
+use Rattle.marked_laws.proofs.Constructs.{Phase, Phases, Kind, Branch, Turning, Stopping, Scoped, Releasing, Waits, Told, Inside, Sent, Gone, waits, gone, is_early, leader, whole, Backs, turn_backs, end_backs, leads, inside, follows, untold, ungone}
+use Rattle.marked_laws.proofs.Ends.{place_leader, place_follower, held_inside}
 use Rattle.marked_laws.proofs.Equality.{role_same, role_itself}
-use Rattle.marked_laws.proofs.Gates.{before_busy, untold_head, ungone_none, closed_ended, is_follower}
-use Rattle.marked_laws.proofs.Keeps.{deed_index, deed_at}
-use Rattle.marked_laws.proofs.Mark.{Mark, Still, Flying, Over, First, Second, Both, Held, Spent, run, At, in_bars, has_passed, acted, place, Fine, Order, Closed, first_fine, both_fine}
+use Rattle.marked_laws.proofs.Gates.{before_busy, untold_head, ungone_none, closed_ended}
+use Rattle.marked_laws.proofs.Mark.{Mark, Still, Flying, Over, First, Second, Both, Held, Spent, run, in_bars, has_passed, acted, place, Fine, Order, Closed, first_fine, both_fine}
 use Rattle.marked_laws.proofs.MarkSteps.{Steps, sends, lands, sets, reads, seq_opens, par_opens, seq_first, seq_begins, seq_lags, seq_goes, par_left, par_right, picks, turns, stops, again, leaves, tells, hears, works, arrives, gathers, keeps, replaces, frees, doer_of}
 use Rattle.marked_laws.proofs.Others.{place_other}
-use Rattle.marked_laws.proofs.Proper.{Proper, Within}
 use Rattle.marked_laws.proofs.Roles.{role_cases, role_swap, updated_here, updated_there}
 
 -- a role that is told nothing new hasn't begun the construct by that
