@@ -40,7 +40,7 @@ module _ (cast : List Role) where
   whole_not_skip (Releasing i r I extra props level) h = cc
 
   -- a mark of an empty program has ended for everybody
-  still_skip : (M : Mark) (q : Role) → origin M ≡ term.Skip → ended (place cast M q) ≡ true
+  pub still_skip : (M : Mark) (q : Role) → origin M ≡ term.Skip → ended (place cast M q) ≡ true
   still_skip (Still term.Skip) q h = refl
   still_skip (Over I) q h = refl
   still_skip (Spent G) q h = refl
@@ -81,7 +81,7 @@ module _ (cast : List Role) where
       (role_cases q (leader k))
 
   -- the leader of a turn has still to pick again
-  turn_goes_on : (i : Index) (r : Role) (g : Expression) (I : Term) (phases : Phases) (M : Mark) → ended (place cast (Held (Turning i r g I) phases M) r) ≡ true → ⊥
+  pub turn_goes_on : (i : Index) (r : Role) (g : Expression) (I : Term) (phases : Phases) (M : Mark) → ended (place cast (Held (Turning i r g I) phases M) r) ≡ true → ⊥
   turn_goes_on i r g I phases M h =
       let led = sym (ap ended (place_leader (Turning i r g I) phases M r refl)) ∙ h in
       both_ways _ (ap ended (cond-true (role_eq r r) _ _ (role_itself r))) (and_parts _ (ended (projected cast (term.While i r g I) r)) (and_parts (ended (place cast M r)) _ (and_parts _ _ led).1).1).1

@@ -150,3 +150,75 @@ module _ (cast : List Role) (stores : Role → Store) (answers : ScopeHead → A
   at_step (keeps e) n h = ⊎_elim (λ k. inl k) (λ k. inl (inr k)) h
   at_step (replaces {level = level} {B = B} e) n h = ⊎_elim (λ k. inl k) (λ k. inr (stamped_new B (suc updates) (suc level) n k)) h
   at_step (frees e f) n h = ⊎_elim (λ k. inl (inl k)) (λ k. absurd k) h
+
+  runs_over : (k : Kind) (G H : Running) → (running.ended G ≡ true → running.ended H ≡ true) → running.ended (runs k G) ≡ true
+      → running.ended (runs k H) ≡ true
+  runs_over (Branch i r g I J b) G H f h = f h
+  runs_over (Turning i r g I) G H f h = cc
+  runs_over (Stopping i r g I) G H f h = refl
+  runs_over (Scoped i r I extra props level begin B) G H f h = f h
+  runs_over (Releasing i r I extra props level) G H f h = f h
+
+  -- what has ended stays so
+  pub over_step : {M N : Mark} {d : Deed} → Steps cast stores answers updates M d N → running.ended (run M) ≡ true → running.ended (run N) ≡ true
+  over_step sends h = cc
+  over_step lands h = cc
+  over_step sets h = cc
+  over_step reads h = cc
+  over_step (seq_opens s) h = over_step s h
+  over_step (par_opens s) h = over_step s h
+  over_step (seq_first s) h = let parts = and_parts _ _ h in and_from _ _ (over_step s parts.0) parts.1
+  over_step (seq_begins e s) h = let parts = and_parts _ _ h in and_from _ _ parts.0 (over_step s parts.1)
+  over_step (seq_lags s) h = let parts = and_parts _ _ h in and_from _ _ (over_step s parts.0) parts.1
+  over_step (seq_goes e s) h = let parts = and_parts _ _ h in and_from _ _ parts.0 (over_step s parts.1)
+  over_step (par_left s) h = let parts = and_parts _ _ h in and_from _ _ (over_step s parts.0) parts.1
+  over_step (par_right s) h = let parts = and_parts _ _ h in and_from _ _ parts.0 (over_step s parts.1)
+  over_step picks h = cc
+  over_step (turns e) h = cc
+  over_step (stops e) h = cc
+  over_step (again e c) h = cc
+  over_step (leaves e c) h = cc
+  over_step (tells e) h = h
+  over_step (hears e) h = h
+  over_step (works {k = k} {M = M} {N = N} b s) h = runs_over k (run M) (run N) (λ x. over_step s x) h
+  over_step (arrives b e f) h = h
+  over_step (gathers b e f) h = h
+  over_step (keeps e) h = cc
+  over_step (replaces e) h = cc
+  over_step (frees c e) h = h
+
+  runs_light : (k : Kind) (G H : Running) → (running.ended G ≡ true → running.ended H ≡ true) → (light G ≡ true → light H ≡ true)
+      → light (runs k G) ≡ true → light (runs k H) ≡ true
+  runs_light (Branch i r g I J b) G H f f' h = f' h
+  runs_light (Turning i r g I) G H f f' h = cc
+  runs_light (Stopping i r g I) G H f f' h = refl
+  runs_light (Scoped i r I extra props level begin B) G H f f' h = f h
+  runs_light (Releasing i r I extra props level) G H f f' h = f h
+
+  -- where nothing was left but messages in flight, nothing else is
+  pub light_step : {M N : Mark} {d : Deed} → Steps cast stores answers updates M d N → light (run M) ≡ true → light (run N) ≡ true
+  light_step sends h = cc
+  light_step lands h = refl
+  light_step sets h = cc
+  light_step reads h = cc
+  light_step (seq_opens s) h = light_step s h
+  light_step (par_opens s) h = light_step s h
+  light_step (seq_first s) h = let parts = and_parts _ _ h in and_from _ _ (light_step s parts.0) parts.1
+  light_step (seq_begins e s) h = let parts = and_parts _ _ h in and_from _ _ parts.0 (light_step s parts.1)
+  light_step (seq_lags s) h = let parts = and_parts _ _ h in and_from _ _ (light_step s parts.0) parts.1
+  light_step (seq_goes e s) h = let parts = and_parts _ _ h in and_from _ _ parts.0 (light_step s parts.1)
+  light_step (par_left s) h = let parts = and_parts _ _ h in and_from _ _ (light_step s parts.0) parts.1
+  light_step (par_right s) h = let parts = and_parts _ _ h in and_from _ _ parts.0 (light_step s parts.1)
+  light_step picks h = cc
+  light_step (turns e) h = cc
+  light_step (stops e) h = cc
+  light_step (again e c) h = cc
+  light_step (leaves e c) h = cc
+  light_step (tells e) h = h
+  light_step (hears e) h = h
+  light_step (works {k = k} {M = M} {N = N} b s) h = runs_light k (run M) (run N) (λ x. over_step s x) (λ x. light_step s x) h
+  light_step (arrives b e f) h = h
+  light_step (gathers b e f) h = h
+  light_step (keeps e) h = cc
+  light_step (replaces e) h = cc
+  light_step (frees c e) h = h

@@ -3,7 +3,9 @@ pub mod Constructs
 pub mod Ends
 pub mod Equality
 pub mod Gates
+pub mod Groups
 pub mod Keeps
+pub mod Mails
 pub mod Mark
 pub mod MarkSteps
 pub mod Moves

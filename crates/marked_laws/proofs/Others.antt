@@ -48,7 +48,7 @@ module _ (cast : List Role) where
   leads_same (Releasing i r I extra props level) phases phases' P h h' = ap (λ qs. tell r qs i Out (λ q. process.Done)) h
 
   -- a phase of another role that the leader doesn't see either
-  phase_other : (k : Kind) (phases : Phases) (M : Mark) (t : Role) (p : Phase) (q : Role) → waits p ≡ waits (phases t) → gone p ≡ gone (phases t)
+  pub phase_other : (k : Kind) (phases : Phases) (M : Mark) (t : Role) (p : Phase) (q : Role) → waits p ≡ waits (phases t) → gone p ≡ gone (phases t)
       → role_eq q t ≡ false → place cast (Held k (updated t p phases) M) q ≡ place cast (Held k phases M) q
   phase_other k phases M t p q h h' differs =
       ap₂ (λ P Q. if role_eq q (leader k) then P else Q)
@@ -56,7 +56,7 @@ module _ (cast : List Role) where
         (ap (λ x. follows cast k q x (place cast M q)) (updated_there t p phases q differs))
 
   -- a phase that makes no difference to the role itself
-  phase_alike : (k : Kind) (phases : Phases) (M : Mark) (t : Role) (p : Phase) (q : Role) → role_eq q (leader k) ≡ false
+  pub phase_alike : (k : Kind) (phases : Phases) (M : Mark) (t : Role) (p : Phase) (q : Role) → role_eq q (leader k) ≡ false
       → follows cast k t p (place cast M t) ≡ follows cast k t (phases t) (place cast M t)
       → place cast (Held k (updated t p phases) M) q ≡ place cast (Held k phases M) q
   phase_alike k phases M t p q other h =
@@ -69,7 +69,7 @@ module _ (cast : List Role) where
       ∙ sym (place_follower cast k phases M q other)
 
   -- at a turn or a scope that is over, a role of it is outside, and another one waits
-  closed_phase : (k : Kind) (phases : Phases) (M : Mark) → Fine cast (Held k phases M) → Closed cast k phases M → (q : Role) → role_eq q (leader k) ≡ false
+  pub closed_phase : (k : Kind) (phases : Phases) (M : Mark) → Fine cast (Held k phases M) → Closed cast k phases M → (q : Role) → role_eq q (leader k) ≡ false
       → ((phases q ≡ Gone) × (is_in q (whole k) ≡ true)) ⊎ ((phases q ≡ Waits) × (is_in q (whole k) ≡ false))
   closed_phase k phases M fine closed q other = ⊎_elim
       (λ in_it. inl (gone_phase (phases q) (ungone_none cast k phases q fine.1.proper closed.gathered other in_it), in_it))
@@ -77,7 +77,7 @@ module _ (cast : List Role) where
       (cases_Bool (is_in q (whole k)))
 
   -- what a follower of such a construct does next
-  closed_follows : (k : Kind) (phases : Phases) (M : Mark) → Fine cast (Held k phases M) → Closed cast k phases M → (q : Role) → role_eq q (leader k) ≡ false
+  pub closed_follows : (k : Kind) (phases : Phases) (M : Mark) → Fine cast (Held k phases M) → Closed cast k phases M → (q : Role) → role_eq q (leader k) ≡ false
       → (P : Process) → (is_in q (whole k) ≡ true → outside cast k q ≡ P) → (is_in q (whole k) ≡ false → before cast k q ≡ P)
       → place cast (Held k phases M) q ≡ P
   closed_follows k phases M fine closed q other P in_case out_case =
