@@ -225,3 +225,51 @@ module _ (cast : List Role) where
   groups_light (Held (Scoped i r I extra props level begin B) phases M) q fine h e = scope_over i r I extra props level begin B phases M q fine h e
   groups_light (Held (Releasing i r I extra props level) phases M) q fine h e = all_over cast M fine.0 (λ p. still_skip cast M p fine.1.is_body)
   groups_light (Spent G) q fine h e = over_light G fine
+
+  -- who has ended a mark has no message in flight in it
+  pub ended_due : (M : Mark) (q : Role) → Fine cast M → ended (place cast M q) ≡ true → is_due q (run M) ≡ false
+  ended_due (Still I) q fine h = started_due q I
+  ended_due (Flying i o a e b x v) q fine h = ⊎_elim
+      (λ is. ap (λ r. role_eq r b) is ∙ fine.no_self)
+      (λ differs. ⊎_elim
+        (λ yes. absurd (both_ways false refl (sym (ap ended (cond-false (role_eq q a) process.Skip _ differs ∙ cond-true (role_eq q b) (process.Recv i o a x) process.Skip yes)) ∙ h)))
+        (λ no. no) (cases_Bool (role_eq q b)))
+      (role_cases q a)
+  ended_due (Over I) q fine h = refl
+  ended_due (First M J) q fine h = or_from _ _ (ended_due M q fine.0 (and_parts _ (ended (projected cast J q)) h).0) (started_due q J)
+  ended_due (Second M N) q fine h = let parts = and_parts _ _ h in or_from _ _ (ended_due M q fine.0 parts.0) (ended_due N q fine.1 parts.1)
+  ended_due (Both M N) q fine h = let parts = and_parts _ _ h in or_from _ _ (ended_due M q fine.0 parts.0) (ended_due N q fine.1 parts.1)
+  ended_due (Held (Branch i r g I J b) phases M) q fine h = ended_due M q fine.0 (held_inside cast (Branch i r g I J b) phases M q fine h)
+  ended_due (Held (Turning i r g I) phases M) q fine h = ended_due M q fine.0 (held_inside cast (Turning i r g I) phases M q fine h)
+  ended_due (Held (Stopping i r g I) phases M) q fine h = refl
+  ended_due (Held (Scoped i r I extra props level begin B) phases M) q fine h = ended_due M q fine.0 (held_inside cast (Scoped i r I extra props level begin B) phases M q fine h)
+  ended_due (Held (Releasing i r I extra props level) phases M) q fine h = ended_due M q fine.0 (held_inside cast (Releasing i r I extra props level) phases M q fine h)
+  ended_due (Spent G) q fine h = over_due q G fine
+
+  module _ (stores : Role → Store) (answers : ScopeHead → Answer) (updates : ℕ) where
+    seq_start_first : (q : Role) (I J : Term) → is_start q I ≡ true → is_start q (Seq I J) ≡ true
+    seq_start_first q I J h = cond-false (empty I) (is_start q J) (is_start q I) (start_busy q I h) ∙ h
+
+    seq_start_second : (q : Role) (I J : Term) → Proper cast (Seq I J) → ended (projected cast I q) ≡ true → is_start q J ≡ true → is_start q (Seq I J) ≡ true
+    seq_start_second q I J proper e h =
+        cond-true (empty I) (is_start q J) (is_start q I) (groups_empty q I ((proper_seq cast I J proper).3 q h) e) ∙ h
+
+    -- a term that nobody has begun is begun by a role that begins it
+    pub starts : {I : Term} {N : Mark} {d : Deed} → Steps cast stores answers updates (Still I) d N → Proper cast I → is_start (doer_of d) I ≡ true
+    starts (sends {a = a}) proper = role_itself a
+    starts (sets {r = r}) proper = role_itself r
+    starts (reads {r = r}) proper = role_itself r
+    starts (seq_opens {I = I} {J = J} {d = d} (seq_first s)) proper = seq_start_first (doer_of d) I J (starts s (proper_seq cast I J proper).0)
+    starts (seq_opens {I = I} {J = J} {d = d} (seq_begins e s)) proper = seq_start_second (doer_of d) I J proper e (starts s (proper_seq cast I J proper).1)
+    starts (par_opens {I = I} {J = J} {d = d} (par_left s)) proper = or_left (is_start (doer_of d) I) (is_start (doer_of d) J) (starts s (proper_par cast I J proper).0)
+    starts (par_opens {I = I} {J = J} {d = d} (par_right s)) proper = or_right (is_start (doer_of d) I) (is_start (doer_of d) J) (starts s (proper_par cast I J proper).1)
+    starts (picks {r = r}) proper = role_itself r
+    starts (turns {r = r} e) proper = role_itself r
+    starts (stops {r = r} e) proper = role_itself r
+    starts (keeps {r = r} e) proper = role_itself r
+    starts (replaces {r = r} e) proper = role_itself r
+
+    -- where the second part of a sequence is begun nothing is left of the first but messages in flight
+    pub begins_light : (M : Mark) {N : Mark} {J : Term} {d : Deed} → Fine cast (First M J) → ended (place cast M (doer_of d)) ≡ true
+        → Steps cast stores answers updates (Still J) d N → light (run M) ≡ true
+    begins_light M {d = d} fine e s = groups_light M (doer_of d) fine.0 (fine.3 (doer_of d) (starts s fine.1)) e

@@ -15,3 +15,4 @@ pub mod Others
 pub mod Proper
 pub mod RoleLists
 pub mod Roles
+pub mod Stays
