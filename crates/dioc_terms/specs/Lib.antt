@@ -1,5 +1,7 @@
 pub mod Bundles
 pub mod Equality
+pub mod EqualityLaws
+pub mod EqualityLemmas
 pub mod Expressions
 pub mod Messages
 pub mod Moves

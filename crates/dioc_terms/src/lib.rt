@@ -3,8 +3,11 @@
 
 mod bundles;
 mod choreographies;
+mod copies;
 mod entries;
+mod equality;
 mod expressions;
+mod faults;
 mod lists;
 mod names;
 mod processes;
@@ -12,8 +15,11 @@ mod values;
 
 pub use bundles::{Bundle, Change, Last, Rule, Timed, Trace};
 pub use choreographies::Choreo;
+pub use copies::TryCopy;
 pub use entries::{Act, Chosen, Entry, Note};
+pub use equality::equality_decides;
 pub use expressions::{Expr, Oper};
+pub use faults::{Memory, NameFault, SyntaxFault, TextFault};
 pub use lists::{Bindings, Entries, Items, Keys, Roles, Values};
 pub use names::{Index, Name, Role, Text};
 pub use processes::{Key, Messages, Parts, Payload, Proc, ScopeHead, Tag};
