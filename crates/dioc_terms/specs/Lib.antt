@@ -9,5 +9,6 @@ pub mod Names
 pub mod Processes
 pub mod Rules
 pub mod Stores
+pub mod TermLaws
 pub mod Terms
 pub mod Values

@@ -11,6 +11,7 @@ mod faults;
 mod lists;
 mod names;
 mod processes;
+mod term_laws;
 mod values;
 
 pub use bundles::{Bundle, Change, Last, Rule, Timed, Trace};
@@ -23,4 +24,5 @@ pub use faults::{Memory, NameFault, SyntaxFault, TextFault};
 pub use lists::{Bindings, Entries, Items, Keys, Roles, Values};
 pub use names::{Index, Name, Role, Text};
 pub use processes::{Key, Messages, Parts, Payload, Proc, ScopeHead, Tag};
+pub use term_laws::{casts_are_roles, mentions_are_roles, stamped_bodies};
 pub use values::Value;
