@@ -115,6 +115,14 @@ body (Stopping i r g I) = term.Skip
 body (Scoped i r I extra props level begin B) = B
 body (Releasing i r I extra props level) = term.Skip
 
+-- no construct is the empty program
+pub whole_not_skip : (k : Kind) → whole k ≡ term.Skip → ⊥
+whole_not_skip (Branch i r g I J b) h = cc
+whole_not_skip (Turning i r g I) h = cc
+whole_not_skip (Stopping i r g I) h = cc
+whole_not_skip (Scoped i r I extra props level begin B) h = cc
+whole_not_skip (Releasing i r I extra props level) h = cc
+
 -- the kinds whose other roles tell the leader that they are through, and by which tag
 pub data Backs : Kind → Tag → Type 0 where
   turn_backs : {i : Index} {r : Role} {g : Expression} {I : Term} → Backs (Turning i r g I) Turn

@@ -16,7 +16,7 @@ use Rattle.projection.specs.Projection.{projected}
 use Rattle.dpoc_process.specs.Steps.{key, ended, tell, gather}
 use Rattle.global_steps.specs.Running as running
 use Rattle.global_steps.specs.Running.{Running, started}
-use Rattle.marked_laws.proofs.Constructs.{Phase, Phases, Kind, Branch, Turning, Stopping, Scoped, Releasing, Waits, Told, Inside, Sent, Gone, waits, is_early, is_late, leader, whole, body, runs, letter, peer, opened, own_mail, leads, before, inside, outside, follows, untold, ungone}
+use Rattle.marked_laws.proofs.Constructs.{Phase, Phases, Kind, Branch, Turning, Stopping, Scoped, Releasing, Waits, Told, Inside, Sent, Gone, waits, is_early, is_late, leader, whole, body, runs, whole_not_skip, letter, peer, opened, own_mail, leads, before, inside, outside, follows, untold, ungone}
 use Rattle.marked_laws.proofs.Equality.{role_itself}
 use Rattle.marked_laws.proofs.Gates.{outsider, before_busy, before_out, outsider_body}
 use Rattle.marked_laws.proofs.Mark.{Mark, Still, Flying, Over, First, Second, Both, Held, Spent, origin, run, mail, first_of_two, place, Sound, Fine}
@@ -31,13 +31,6 @@ module _ (cast : List Role) where
   pub place_follower : (k : Kind) (phases : Phases) (M : Mark) (q : Role) → role_eq q (leader k) ≡ false
       → place cast (Held k phases M) q ≡ follows cast k q (phases q) (place cast M q)
   place_follower k phases M q other = cond-false (role_eq q (leader k)) _ _ other
-
-  whole_not_skip : (k : Kind) → whole k ≡ term.Skip → ⊥
-  whole_not_skip (Branch i r g I J b) h = cc
-  whole_not_skip (Turning i r g I) h = cc
-  whole_not_skip (Stopping i r g I) h = cc
-  whole_not_skip (Scoped i r I extra props level begin B) h = cc
-  whole_not_skip (Releasing i r I extra props level) h = cc
 
   -- a mark of an empty program has ended for everybody
   pub still_skip : (M : Mark) (q : Role) → origin M ≡ term.Skip → ended (place cast M q) ≡ true

@@ -9,9 +9,11 @@ pub mod Mails
 pub mod Mark
 pub mod MarkSteps
 pub mod Moves
+pub mod Networks
 pub mod Norm
 pub mod Orders
 pub mod Others
+pub mod Plays
 pub mod Proper
 pub mod RoleLists
 pub mod Roles
