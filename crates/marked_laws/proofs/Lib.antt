@@ -1,4 +1,3 @@
-pub mod Away
 pub mod Constructs
 pub mod Ends
 pub mod Equality
@@ -17,4 +16,5 @@ pub mod Plays
 pub mod Proper
 pub mod RoleLists
 pub mod Roles
+pub mod Settles
 pub mod Stays
