@@ -19,6 +19,7 @@ pub mod MarkSteps
 pub mod Moves
 pub mod Networks
 pub mod Norm
+pub mod Orders
 pub mod Others
 pub mod Pending
 pub mod Plays
@@ -26,6 +27,7 @@ pub mod Premise
 pub mod Proper
 pub mod RoleLists
 pub mod Roles
+pub mod Settles
 pub mod Simulate
 pub mod Stays
 pub mod Whole
