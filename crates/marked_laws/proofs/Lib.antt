@@ -27,6 +27,7 @@ pub mod Premise
 pub mod Proper
 pub mod RoleLists
 pub mod Roles
+pub mod Settlements
 pub mod Settles
 pub mod Simulate
 pub mod Stays

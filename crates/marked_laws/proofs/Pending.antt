@@ -1,10 +1,11 @@
 -- The pending messages, seen as the payloads of each key in their order: a mark has at most one of each key.
-use Rattle.std.proofs.Common.{◌≡◌, ◌⊎◌, List, [], ◌∷◌, ◌++◌, Bool, true, false, if◌then◌else◌, cond, Option, Some, None, refl, sym, ap, ap₂, ◌∙◌, subst, inl, inr, ⊎_elim, append-nil}
-use Rattle.std.proofs.lemmas.Bool.{cases_Bool, cond-true, cond-false, both_ways, false_from_ne_true}
+use Rattle.std.proofs.Common.{◌≡◌, ◌⊎◌, List, [], ◌∷◌, ◌++◌, map, Bool, true, false, if◌then◌else◌, cond, Option, Some, None, refl, sym, ap, ap₂, ◌∙◌, subst, inl, inr, ⊎_elim, append-nil}
+use Rattle.std.proofs.lemmas.Bool.{cases_Bool, cond-true, cond-false, both_ways, false_from_ne_true, or_from, and_from, not_from_false}
 use Rattle.dioc_terms.specs.declared.processes.Key.{Key}
 use Rattle.dioc_terms.specs.Equality.{key_eq}
 use Rattle.dioc_terms.specs.Processes.{Load}
 use Rattle.dpoc_process.specs.Steps.{Deed, Puts, Takes, Sets, Inputs, Picks, Chooses}
+use Rattle.marked_laws.specs.Laws.{key_among, distinct_keys}
 use Rattle.marked_laws.specs.Network.{pending_at, without, pending_after}
 use Rattle.marked_laws.proofs.Equality.{key_same, key_itself}
 use Rattle.marked_laws.proofs.Mails.{mail_after, MailFits}
@@ -105,3 +106,40 @@ pending_step (Sets i r x v) mails p fits h k = h k
 pending_step (Inputs i r x v) mails p fits h k = h k
 pending_step (Picks i r b) mails p fits h k = h k
 pending_step (Chooses i r c) mails p fits h k = h k
+
+some_nil : {A : Type 0} {a : A} {as_ : List A} → a ∷ as_ ≡ [] → ⊥
+some_nil e = cc
+
+-- where no key has a message none is pending
+pub no_loads : (p : List (Key × Load)) → ((k : Key) → loads k p ≡ []) → p ≡ []
+no_loads [] h = refl
+no_loads (message ∷ rest) h = absurd (some_nil
+    (sym (cond-true (key_eq message.0 message.0) (message.1 ∷ loads message.0 rest) (loads message.0 rest) (key_itself message.0)) ∙ h message.0))
+
+-- a key without a message isn't among the keys of the messages
+none_among : (k : Key) (p : List (Key × Load)) → loads k p ≡ [] → key_among k (map (λ message. message.0) p) ≡ false
+none_among k [] h = refl
+none_among k (message ∷ rest) h = ⊎_elim
+    (λ yes. absurd (some_nil (sym (cond-true (key_eq k message.0) (message.1 ∷ loads k rest) (loads k rest) yes) ∙ h)))
+    (λ no. or_from (key_eq k message.0) _ no (none_among k rest (sym (cond-false (key_eq k message.0) (message.1 ∷ loads k rest) (loads k rest) no) ∙ h)))
+    (cases_Bool (key_eq k message.0))
+
+one_queued : (l : Load) (ls : List Load) (o : Option Load) → l ∷ ls ≡ queued o → ls ≡ []
+one_queued l ls None h = absurd (some_nil h)
+one_queued l ls (Some m) h = cc
+
+-- where each key has at most one message no two have one key
+pub pending_distinct : (p : List (Key × Load)) → ((k : Key) → (o : Option Load) × (loads k p ≡ queued o)) → distinct_keys (map (λ message. message.0) p) ≡ true
+pending_distinct [] h = refl
+pending_distinct (message ∷ rest) h =
+    let here = h message.0 in
+    and_from _ _
+      (not_from_false _ (none_among message.0 rest (one_queued message.1 (loads message.0 rest) here.0
+        (sym (cond-true (key_eq message.0 message.0) (message.1 ∷ loads message.0 rest) (loads message.0 rest) (key_itself message.0)) ∙ here.1))))
+      (pending_distinct rest (λ k. later k (h k)))
+  where
+  later : (k : Key) → (o : Option Load) × (loads k (message ∷ rest) ≡ queued o) → (o : Option Load) × (loads k rest ≡ queued o)
+  later k at = ⊎_elim
+      (λ yes. (None, one_queued message.1 (loads k rest) at.0 (sym (cond-true (key_eq k message.0) (message.1 ∷ loads k rest) (loads k rest) yes) ∙ at.1)))
+      (λ no. (at.0, sym (cond-false (key_eq k message.0) (message.1 ∷ loads k rest) (loads k rest) no) ∙ at.1))
+      (cases_Bool (key_eq k message.0))

@@ -25,6 +25,7 @@ use Rattle.global_steps.specs.Running.{Running}
 use Rattle.global_steps.specs.Follow.{Answer, Effect, State, affected, answer_of, change_entry, shows, updates_after, updated, plays, follow, follow_role, follow_change, play_from}
 use Rattle.marked_laws.specs.Network.{Network, decision, given_at, pending_at, visible_after, network_step, run_from}
 use Rattle.marked_laws.proofs.Equality.{entry_itself}
+use Rattle.marked_laws.proofs.Found.{found}
 use Rattle.marked_laws.proofs.Keeps.{new_step}
 use Rattle.marked_laws.proofs.Mails.{mail_step, mail_fits}
 use Rattle.marked_laws.proofs.Mark.{Mark, run, mail, At, place, Fine}
@@ -40,14 +41,6 @@ use Rattle.marked_laws.proofs.Stays.{fine_step}
 -- what the book answers of a scope in a network, given the stores as they are
 abbrev pub answers_in : Bundle → Network → ScopeHead → Answer
 answers_in b N head = answer_of b.rules N.book head (N.stores head.leader)
-
--- Each step of a role's place is a step of the mark.
-abbrev pub Found : List Role → Type 0
-Found cast = (stores : Role → Store) (answers : ScopeHead → Answer) (updates : ℕ) (M : Mark) → Fine cast M
-    → (mails : Key → Option Load) (decide : ScopeHead → Decision) (q : Role) → Agrees mails M
-    → ((head : ScopeHead) → head.leader ≡ q → decide head ≡ decision cast updates head (answers head))
-    → (a : Act) (d : Deed) (P : Process) → step q (stores q) (place cast M q) a (given_by mails decide a) ≡ Does d P
-    → (N : Mark) × Steps cast stores answers updates M d N × (norm P ≡ norm (place cast N q)) × (doer_of d ≡ q)
 
 -- the state of the play that the mark is in
 abbrev pub state_of : Network → Mark → State
@@ -152,7 +145,7 @@ pub record Moved (b : Bundle) (N : Network) (M : Mark) (e : Entry) (N' : Network
   -- it is a step of the mark or a change
   pub why : ((d : Deed) × (e ≡ entry_of d) × Steps b.cast N.stores (answers_in b N) N.updates M d mark) ⊎ ((doer e ≡ None) × (mark ≡ M))
 
-module _ (b : Bundle) (found : Found b.cast) (sound : (N : Network) → SoundAnswers b.cast (answers_in b N) N.updates) where
+module _ (b : Bundle) (unique : distinct_roles b.cast ≡ true) (sound : (N : Network) → SoundAnswers b.cast (answers_in b N) N.updates) where
   deed_marks : (N : Network) (M M' : Mark) (r : Role) (d : Deed) (P : Process) → Marks b.cast N M → Steps b.cast N.stores (answers_in b N) N.updates M d M'
       → norm P ≡ norm (place b.cast M' r) → doer_of d ≡ r → Marks b.cast (after_deed N r d P) M'
   deed_marks N M M' r d P marks steps same who = record {
@@ -195,10 +188,10 @@ module _ (b : Bundle) (found : Found b.cast) (sound : (N : Network) → SoundAns
       let steps : step s.role (N.stores s.role) (N.processes s.role) s.act (given_by mails decide s.act) ≡ Does s.deed s.next =
           ap (step s.role (N.stores s.role) (N.processes s.role) s.act) (sym (given_same b N s.role s.act)) ∙ s.steps in
       let alike = alike_step s.role (N.stores s.role) s.act (given_by mails decide s.act) (N.processes s.role) (place b.cast M s.role) (marks.places s.role) steps in
-      let here = found N.stores (answers_in b N) N.updates M marks.fine mails decide s.role
+      let here = found b.cast N.stores (answers_in b N) N.updates unique M marks.fine mails decide s.role
           (λ j at. pending_is j N.pending (mail M j) (marks.mails j))
           (λ head is. ap (λ r. decision b.cast N.updates head (answer_of b.rules N.book head (N.stores r))) (sym is))
-          s.act s.deed alike.0 alike.1 in
+          s.act alike.1 in
       let moved : Moved b N M (entry_of s.deed) (after_deed N s.role s.deed s.next) = record {
             mark = here.0;
             marks = deed_marks N M here.0 s.role s.deed s.next marks here.1 (alike.2 ∙ here.2) here.3;
@@ -226,7 +219,7 @@ module _ (b : Bundle) (found : Found b.cast) (sound : (N : Network) → SoundAns
   pub moves : (N : Network) (M : Mark) (e : Entry) (N' : Network) → Marks b.cast N M → network_step b N e ≡ Some N' → Moved b N M e N'
   moves N M e N' marks h = ⊎_elim (λ s. role_moves N M e N' marks s) (λ s. change_moves N M e N' marks s) (network_cases b N e N' h)
 
-  after_both : (f : Option Network) (es : List Entry) (N' : Network) → option_and_then (λ next. run_from b next es) f ≡ Some N'
+  pub after_both : (f : Option Network) (es : List Entry) (N' : Network) → option_and_then (λ next. run_from b next es) f ≡ Some N'
       → (next : Network) × (f ≡ Some next) × (run_from b next es ≡ Some N')
   after_both None es N' h = absurd (none_some h)
   after_both (Some next) es N' h = (next, refl, h)

@@ -19,19 +19,21 @@ use Rattle.projection.specs.Projection.{projected}
 use Rattle.dpoc_process.specs.Steps.{Deed, ended, entry_of}
 use Rattle.global_steps.specs.Running as running
 use Rattle.global_steps.specs.Follow.{Answer, State, play}
-use Rattle.marked_laws.specs.Laws.{IsSound, Explains}
+use Rattle.marked_laws.specs.Laws.{IsSound, Simulation, Settlement, UniqueKeys, NothingLeft, distinct_keys, taken_keys}
 use Rattle.marked_laws.specs.Network.{Network, no_message, network_start, network_run, network_ended, run_from}
 use Rattle.marked_laws.proofs.Choices.{cast_unique, sound_answers}
 use Rattle.marked_laws.proofs.Constructs.{Kind, Phases, leader, whole, follows}
 use Rattle.marked_laws.proofs.Ends.{place_follower, all_over, no_mail}
 use Rattle.marked_laws.proofs.Equality.{key_itself}
 use Rattle.marked_laws.proofs.Gates.{outsider, outsider_waits, before_out, leader_in}
+use Rattle.marked_laws.proofs.Keys.{few_takes}
 use Rattle.marked_laws.proofs.Mark.{Mark, Still, Flying, Over, First, Second, Both, Held, Spent, run, mail, At, place, Fine}
-use Rattle.marked_laws.proofs.Norm.{ended_alike}
-use Rattle.marked_laws.proofs.Pending.{loads, queued}
+use Rattle.marked_laws.proofs.Norm.{ended_alike, offers_alike}
+use Rattle.marked_laws.proofs.Pending.{loads, queued, no_loads, pending_distinct}
 use Rattle.marked_laws.proofs.Premise.{all_member, proper_text, text_epoch, in_cast_of}
 use Rattle.marked_laws.proofs.Proper.{Proper, Within}
-use Rattle.marked_laws.proofs.Simulate.{Found, Marks, Moved, state_of, answers_in, runs_explained}
+use Rattle.marked_laws.proofs.Settlements.{runs_settled}
+use Rattle.marked_laws.proofs.Simulate.{Marks, state_of, runs_explained}
 use Rattle.marked_laws.proofs.Roles.{role_cases}
 
 -- who isn't of the cast is in nothing that is proper
@@ -72,29 +74,32 @@ start_marks b sound = record {
   mails = λ k. refl;
   old = λ n at. omega (arith, text_epoch (term_of b.choreo) sound.formed.choreo.marks n at) }
 
-module _ (found : (cast : List Role) → distinct_roles cast ≡ true → Found cast) where
-  -- a run ends in a network of a mark, and what is visible of it is played
-  pub explained : (b : Bundle) (H : List Entry) (N : Network) → IsSound b → network_run b H ≡ Some N
-      → (M : Mark) × Marks b.cast N M × (play b (visible H) ≡ Some (state_of N M))
-  explained b H N sound h =
-      runs_explained b (found b.cast (cast_unique b sound)) (sound_answers b sound) H (network_start b) N (Still (term_of b.choreo)) (start_marks b sound) h
+-- a run ends in a network of a mark, and what is visible of it is played
+explained : (b : Bundle) (H : List Entry) (N : Network) → IsSound b → network_run b H ≡ Some N
+    → (M : Mark) × Marks b.cast N M × (play b (visible H) ≡ Some (state_of N M))
+explained b H N sound h =
+    runs_explained b (cast_unique b sound) (sound_answers b sound) H (network_start b) N (Still (term_of b.choreo)) (start_marks b sound) h
 
-  pub simulation : (b : Bundle) (H : List Entry) (N : Network) → IsSound b → network_run b H ≡ Some N → Explains b (visible H) N
-  simulation b H N sound h =
-      let parts = explained b H N sound h in
-      record { state = state_of N parts.0; plays = parts.2; stores = λ q. refl; book = refl; updates = refl; changes = refl; entries = refl;
-        ended = λ all. all_over b.cast parts.0 (parts.1).fine
-          (all_roles b.cast N parts.0 parts.1 (and_parts (list_all (λ q. ended (N.processes q)) b.cast) (no_message N.pending) all).0) }
+pub simulation : Simulation
+simulation b H N sound h =
+    let parts = explained b H N sound h in
+    record { state = state_of N parts.0; plays = parts.2; stores = λ q. refl; book = refl; updates = refl; changes = refl; entries = refl;
+      ended = λ all. all_over b.cast parts.0 (parts.1).fine
+        (all_roles b.cast N parts.0 parts.1 (and_parts (list_all (λ q. ended (N.processes q)) b.cast) (no_message N.pending) all).0) }
 
-  no_loads : (pending : List (Key × Load)) → ((k : Key) → loads k pending ≡ []) → pending ≡ []
-  no_loads [] h = refl
-  no_loads (message ∷ rest) h = absurd (some_nil (sym (cond-true (key_eq message.0 message.0) (message.1 ∷ loads message.0 rest) (loads message.0 rest) (key_itself message.0)) ∙ h message.0))
-    where
-    some_nil : {l : Load} {ls : List Load} → l ∷ ls ≡ [] → ⊥
-    some_nil e = cc
+pub settlement : Settlement
+settlement b H N sound h =
+    runs_settled b (cast_unique b sound) (sound_answers b sound) H (network_start b) N (Still (term_of b.choreo)) (start_marks b sound) tt h
 
-  pub nothing_left : (b : Bundle) (H : List Entry) (N : Network) → IsSound b → network_run b H ≡ Some N
-      → list_all (λ q. ended (N.processes q)) b.cast ≡ true → N.pending ≡ []
-  nothing_left b H N sound h all =
-      let parts = explained b H N sound h in
-      no_loads N.pending (λ k. (parts.1).mails k ∙ ap queued (no_mail b.cast parts.0 (parts.1).fine (all_roles b.cast N parts.0 parts.1 all) k))
+pub unique_keys : UniqueKeys
+unique_keys b H N sound h =
+    let parts = explained b H N sound h in (
+      pending_distinct N.pending (λ k. (mail parts.0 k, (parts.1).mails k)),
+      λ q. ap (λ acts. distinct_keys (taken_keys acts)) (offers_alike q (N.processes q) (place b.cast parts.0 q) ((parts.1).places q))
+        ∙ few_takes b.cast (cast_unique b sound) parts.0 (parts.1).fine q,
+    )
+
+pub nothing_left : NothingLeft
+nothing_left b H N sound h all =
+    let parts = explained b H N sound h in
+    no_loads N.pending (λ k. (parts.1).mails k ∙ ap queued (no_mail b.cast parts.0 (parts.1).fine (all_roles b.cast N parts.0 parts.1 all) k))
