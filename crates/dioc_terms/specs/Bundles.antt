@@ -125,9 +125,9 @@ abbrev pub adds : List Timed → List ℕ
 adds [] = []
 adds (timed ∷ rest) = with_add timed.change (adds rest)
   where
-  with_add : Change → List ℕ → List ℕ
-  with_add (change.Add m) ms = m ∷ ms
-  with_add _ ms = ms
+    with_add : Change → List ℕ → List ℕ
+    with_add (change.Add m) ms = m ∷ ms
+    with_add _ ms = ms
 
 abbrev pub is_formed_change : Change → Bool
 is_formed_change (change.Add m) = true

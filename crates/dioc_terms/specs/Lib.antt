@@ -1,5 +1,7 @@
 pub mod Bundles
 pub mod Equality
+pub mod EqualityLaws
+pub mod EqualityLemmas
 pub mod Expressions
 pub mod Messages
 pub mod Moves
@@ -7,5 +9,6 @@ pub mod Names
 pub mod Processes
 pub mod Rules
 pub mod Stores
+pub mod TermLaws
 pub mod Terms
 pub mod Values

@@ -23,9 +23,9 @@ module _ (rules : List Rule) where
   abbrev pub is_named : List ℕ → ℕ → Bool
   is_named name m = named_rule (slice_get rules m)
     where
-    named_rule : Option Rule → Bool
-    named_rule None = false
-    named_rule (Some rule) = name_eq rule.name name
+      named_rule : Option Rule → Bool
+      named_rule None = false
+      named_rule (Some rule) = name_eq rule.name name
 
   -- an add whose name is present replaces the rule at its place, else it goes last
   abbrev pub add_rule : ℕ → List ℕ → List ℕ → List ℕ
@@ -36,9 +36,9 @@ module _ (rules : List Rule) where
   abbrev pub added : ℕ → List ℕ → List ℕ
   added m order = by_rule (slice_get rules m)
     where
-    by_rule : Option Rule → List ℕ
-    by_rule None = order
-    by_rule (Some rule) = add_rule m rule.name order
+      by_rule : Option Rule → List ℕ
+      by_rule None = order
+      by_rule (Some rule) = add_rule m rule.name order
 
   -- a drop of an absent name changes nothing; an environment change sets a key
   abbrev pub apply : Book → Change → Book
@@ -52,27 +52,27 @@ module _ (rules : List Rule) where
   abbrev pub fits : Book → ScopeHead → Store → ℕ → Bool
   fits book head s m = rule_fits (slice_get rules m)
     where
-    rule_fits : Option Rule → Bool
-    rule_fits None = false
-    rule_fits (Some rule) = holds (expression rule.cond) s (bound head.props) book.environment
-        && list_all (λ q. member q head.roles) (mentions (term rule.body)) && nat_lt head.level 16
+      rule_fits : Option Rule → Bool
+      rule_fits None = false
+      rule_fits (Some rule) = holds (expression rule.cond) s (bound head.props) book.environment
+          && list_all (λ q. member q head.roles) (mentions (term rule.body)) && nat_lt head.level 16
 
   -- whether rule m has no lower priority than rule n
   abbrev pub no_lower : ℕ → ℕ → Bool
   no_lower m n = compare_rules (slice_get rules m) (slice_get rules n)
     where
-    compare_rules : Option Rule → Option Rule → Bool
-    compare_rules (Some a) (Some b) = int_le b.priority a.priority
-    compare_rules _ _ = true
+      compare_rules : Option Rule → Option Rule → Bool
+      compare_rules (Some a) (Some b) = int_le b.priority a.priority
+      compare_rules _ _ = true
 
   -- of these rules the first of those with the greatest priority
   abbrev pub first_greatest : List ℕ → Option ℕ
   first_greatest [] = None
   first_greatest (m ∷ ms) = better (first_greatest ms)
     where
-    better : Option ℕ → Option ℕ
-    better None = Some m
-    better (Some n) = if no_lower m n then Some m else Some n
+      better : Option ℕ → Option ℕ
+      better None = Some m
+      better (Some n) = if no_lower m n then Some m else Some n
 
   -- what the book chooses for a scope, given its leader's store
   abbrev pub choose : Book → ScopeHead → Store → Option ℕ

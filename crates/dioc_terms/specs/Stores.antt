@@ -24,14 +24,14 @@ set_variable name v s = record { variables = λ other. if name_eq other name the
 abbrev pub next_input : Store → Value
 next_input s = first_or_nil s.inputs
   where
-  first_or_nil : List Value → Value
-  first_or_nil [] = Nil
-  first_or_nil (v ∷ vs) = v
+    first_or_nil : List Value → Value
+    first_or_nil [] = Nil
+    first_or_nil (v ∷ vs) = v
 
 -- the store without its next input
 abbrev pub drop_input : Store → Store
 drop_input s = record { variables = s.variables; inputs = rest s.inputs }
   where
-  rest : List Value → List Value
-  rest [] = []
-  rest (v ∷ vs) = vs
+    rest : List Value → List Value
+    rest [] = []
+    rest (v ∷ vs) = vs

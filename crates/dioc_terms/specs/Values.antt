@@ -97,9 +97,9 @@ is_true _ = false
 abbrev pub bound : List (List ℕ × Value) → List ℕ → Value
 bound pairs name = last_of Nil pairs
   where
-  last_of : Value → List (List ℕ × Value) → Value
-  last_of so_far [] = so_far
-  last_of so_far (pair ∷ rest) = last_of (if name_eq pair.0 name then pair.1 else so_far) rest
+    last_of : Value → List (List ℕ × Value) → Value
+    last_of so_far [] = so_far
+    last_of so_far (pair ∷ rest) = last_of (if name_eq pair.0 name then pair.1 else so_far) rest
 
 -- whether a rule's condition holds
 abbrev pub holds : Expression → Store → (List ℕ → Value) → (List ℕ → Value) → Bool

@@ -26,7 +26,11 @@ pub enum Choreo {
         expr: Expr,
     },
     /// `role` sets `var` to its next input.
-    Input { index: Index, var: Name, role: Role },
+    Input {
+        index: Index,
+        var: Name,
+        role: Role,
+    },
     /// The first, and then the second.
     Seq(Box<Choreo>, Box<Choreo>),
     /// Both, side by side.

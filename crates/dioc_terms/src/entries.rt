@@ -1,8 +1,13 @@
 //! Entries of a history, and acts of a role.
 
+ghost use Rattle.std.specs.Prelude.{◌≡◌, IfOk};
+ghost use Rattle.dioc_terms.specs.Equality.{variable_eq};
+
+use crate::faults::Memory;
 use crate::names::{Index, Name, Role};
 use crate::processes::Key;
 use crate::values::Value;
+use std::alloc::Global;
 
 /// What an entry shows of a payload: of an update's part its epoch alone.
 #[derive(Debug, Drop)]
@@ -14,6 +19,48 @@ pub enum Note {
     Done,
 }
 
+impl Note {
+    /// A copy, the same note.
+    pub fn copy(&self, alloc: Global) -> Result<Note, Memory>
+        ensures { IfOk result (λ copy. copy ≡ self.now) }
+    {
+        match self {
+            Note::Val(value) => Ok(Note::Val(value.copy(alloc)?)),
+            Note::Flag(flag) => Ok(Note::Flag(*flag)),
+            Note::Keep => Ok(Note::Keep),
+            Note::Part(epoch) => Ok(Note::Part(*epoch)),
+            Note::Done => Ok(Note::Done),
+        }
+    }
+}
+
+impl PartialEq for Note {
+    ghost use Rattle.dioc_terms.specs.Equality.{note_eq};
+    ghost use Rattle.dioc_terms.specs.EqualityLemmas.{equivalence_from_Decides, note_eq-decides};
+    ghost use Rattle.std.specs.Cmp.{partial_equiv_from_equiv};
+
+    ghost eq = { note_eq };
+
+    ghost laws = { partial_equiv_from_equiv (equivalence_from_Decides note_eq note_eq-decides) };
+
+    fn eq(&self, other: &Note) -> bool {
+        match (self, other) {
+            (Note::Val(mine), Note::Val(theirs)) => mine == theirs,
+            (Note::Flag(mine), Note::Flag(theirs)) => mine == theirs,
+            (Note::Keep, Note::Keep) | (Note::Done, Note::Done) => true,
+            (Note::Part(mine), Note::Part(theirs)) => mine == theirs,
+            _ => false,
+        }
+    }
+}
+
+impl Eq for Note {
+    ghost use Rattle.dioc_terms.specs.Equality.{note_eq};
+    ghost use Rattle.dioc_terms.specs.EqualityLemmas.{equivalence_from_Decides, note_eq-decides};
+
+    ghost laws = { equivalence_from_Decides note_eq note_eq-decides };
+}
+
 /// What the leader of a scope chose.
 #[derive(Debug, Drop)]
 pub enum Chosen {
@@ -21,18 +68,340 @@ pub enum Chosen {
     Rule { name: Name, epoch: u32 },
 }
 
+impl Chosen {
+    /// A copy, the same choice.
+    pub fn copy(&self, alloc: Global) -> Result<Chosen, Memory>
+        ensures { IfOk result (λ copy. copy ≡ self.now) }
+    {
+        match self {
+            Chosen::Keep => Ok(Chosen::Keep),
+            Chosen::Rule { name, epoch } => Ok(Chosen::Rule {
+                name: name.copy(alloc)?,
+                epoch: *epoch,
+            }),
+        }
+    }
+}
+
+impl PartialEq for Chosen {
+    ghost use Rattle.dioc_terms.specs.Equality.{chosen_eq};
+    ghost use Rattle.dioc_terms.specs.EqualityLemmas.{equivalence_from_Decides, chosen_eq-decides};
+    ghost use Rattle.std.specs.Cmp.{partial_equiv_from_equiv};
+
+    ghost eq = { chosen_eq };
+
+    ghost laws = { partial_equiv_from_equiv (equivalence_from_Decides chosen_eq chosen_eq-decides) };
+
+    fn eq(&self, other: &Chosen) -> bool {
+        match (self, other) {
+            (Chosen::Keep, Chosen::Keep) => true,
+            (
+                Chosen::Rule {
+                    name: mine,
+                    epoch: my_epoch,
+                },
+                Chosen::Rule {
+                    name: theirs,
+                    epoch,
+                },
+            ) => { mine == theirs && my_epoch == epoch }
+            _ => false,
+        }
+    }
+}
+
+impl Eq for Chosen {
+    ghost use Rattle.dioc_terms.specs.Equality.{chosen_eq};
+    ghost use Rattle.dioc_terms.specs.EqualityLemmas.{equivalence_from_Decides, chosen_eq-decides};
+
+    ghost laws = { equivalence_from_Decides chosen_eq chosen_eq-decides };
+}
+
 /// One step of a run.
 #[derive(Debug, Drop)]
 pub enum Entry {
-    Put { key: Key, note: Note },
-    Take { key: Key, var: Option<Name> },
-    Set { index: Index, role: Role, var: Name, value: Value },
-    Input { index: Index, role: Role, var: Name, value: Value },
-    Pick { index: Index, role: Role, flag: bool },
-    Scope { index: Index, role: Role, chosen: Chosen },
-    Add { name: Name },
-    Drop { name: Name },
-    Env { key: Name, value: Value },
+    Put {
+        key: Key,
+        note: Note,
+    },
+    Take {
+        key: Key,
+        var: Option<Name>,
+    },
+    Set {
+        index: Index,
+        role: Role,
+        var: Name,
+        value: Value,
+    },
+    Input {
+        index: Index,
+        role: Role,
+        var: Name,
+        value: Value,
+    },
+    Pick {
+        index: Index,
+        role: Role,
+        flag: bool,
+    },
+    Scope {
+        index: Index,
+        role: Role,
+        chosen: Chosen,
+    },
+    Add {
+        name: Name,
+    },
+    Drop {
+        name: Name,
+    },
+    Env {
+        key: Name,
+        value: Value,
+    },
+}
+
+impl Entry {
+    /// A copy, the same entry.
+    pub fn copy(&self, alloc: Global) -> Result<Entry, Memory>
+        ensures { IfOk result (λ copy. copy ≡ self.now) }
+    {
+        match self {
+            Entry::Put { key, note } => Ok(Entry::Put {
+                key: key.copy(alloc)?,
+                note: note.copy(alloc)?,
+            }),
+            Entry::Take { key, var } => Ok(Entry::Take {
+                key: key.copy(alloc)?,
+                var: copy_of_variable(alloc, var)?,
+            }),
+            Entry::Set {
+                index,
+                role,
+                var,
+                value,
+            } => Ok(Entry::Set {
+                index: *index,
+                role: role.copy(alloc)?,
+                var: var.copy(alloc)?,
+                value: value.copy(alloc)?,
+            }),
+            Entry::Input {
+                index,
+                role,
+                var,
+                value,
+            } => Ok(Entry::Input {
+                index: *index,
+                role: role.copy(alloc)?,
+                var: var.copy(alloc)?,
+                value: value.copy(alloc)?,
+            }),
+            Entry::Pick { index, role, flag } => Ok(Entry::Pick {
+                index: *index,
+                role: role.copy(alloc)?,
+                flag: *flag,
+            }),
+            Entry::Scope {
+                index,
+                role,
+                chosen,
+            } => Ok(Entry::Scope {
+                index: *index,
+                role: role.copy(alloc)?,
+                chosen: chosen.copy(alloc)?,
+            }),
+            Entry::Add { name } => Ok(Entry::Add {
+                name: name.copy(alloc)?,
+            }),
+            Entry::Drop { name } => Ok(Entry::Drop {
+                name: name.copy(alloc)?,
+            }),
+            Entry::Env { key, value } => Ok(Entry::Env {
+                key: key.copy(alloc)?,
+                value: value.copy(alloc)?,
+            }),
+        }
+    }
+}
+
+impl PartialEq for Entry {
+    ghost use Rattle.dioc_terms.specs.Equality.{entry_eq};
+    ghost use Rattle.dioc_terms.specs.EqualityLemmas.{equivalence_from_Decides, entry_eq-decides};
+    ghost use Rattle.std.specs.Cmp.{partial_equiv_from_equiv};
+
+    ghost eq = { entry_eq };
+
+    ghost laws = { partial_equiv_from_equiv (equivalence_from_Decides entry_eq entry_eq-decides) };
+
+    fn eq(&self, other: &Entry) -> bool {
+        match self {
+            Entry::Put { key, note } => other.is_put(key, note),
+            Entry::Take { key, var } => other.is_take(key, var),
+            Entry::Set {
+                index,
+                role,
+                var,
+                value,
+            } => other.is_set(*index, role, var, value),
+            Entry::Input {
+                index,
+                role,
+                var,
+                value,
+            } => other.is_input(*index, role, var, value),
+            Entry::Pick { index, role, flag } => other.is_pick(*index, role, *flag),
+            Entry::Scope {
+                index,
+                role,
+                chosen,
+            } => other.is_scope(*index, role, chosen),
+            Entry::Add { name } => other.is_add(name),
+            Entry::Drop { name } => other.is_drop(name),
+            Entry::Env { key, value } => other.is_env(key, value),
+        }
+    }
+}
+
+impl Eq for Entry {
+    ghost use Rattle.dioc_terms.specs.Equality.{entry_eq};
+    ghost use Rattle.dioc_terms.specs.EqualityLemmas.{equivalence_from_Decides, entry_eq-decides};
+
+    ghost laws = { equivalence_from_Decides entry_eq entry_eq-decides };
+}
+
+/// Whether an entry is the one of that kind with these parts.
+impl Entry {
+    ghost use Rattle.dioc_terms.specs.declared.entries.Entry.TheVariants as entry;
+    ghost use Rattle.dioc_terms.specs.Equality.{entry_eq};
+
+    fn is_put(&self, key: &Key, note: &Note) -> bool
+        ensures { result ≡ entry_eq (entry.Put key.now note.now) self.now }
+    {
+        match self {
+            Entry::Put {
+                key: its_key,
+                note: its_note,
+            } => key == its_key && note == its_note,
+            _ => false,
+        }
+    }
+
+    fn is_take(&self, key: &Key, var: &Option<Name>) -> bool
+        ensures { result ≡ entry_eq (entry.Take key.now var.now) self.now }
+    {
+        match self {
+            Entry::Take {
+                key: its_key,
+                var: its_var,
+            } => key == its_key && is_same_variable(var, its_var),
+            _ => false,
+        }
+    }
+
+    fn is_set(&self, index: Index, role: &Role, var: &Name, value: &Value) -> bool
+        ensures { result ≡ entry_eq (entry.Set index role.now var.now value.now) self.now }
+    {
+        match self {
+            Entry::Set {
+                index: its_index,
+                role: its_role,
+                var: its_var,
+                value: its_value,
+            } => index == *its_index && role == its_role && var == its_var && value == its_value,
+            _ => false,
+        }
+    }
+
+    fn is_input(&self, index: Index, role: &Role, var: &Name, value: &Value) -> bool
+        ensures { result ≡ entry_eq (entry.Input index role.now var.now value.now) self.now }
+    {
+        match self {
+            Entry::Input {
+                index: its_index,
+                role: its_role,
+                var: its_var,
+                value: its_value,
+            } => index == *its_index && role == its_role && var == its_var && value == its_value,
+            _ => false,
+        }
+    }
+
+    fn is_pick(&self, index: Index, role: &Role, flag: bool) -> bool
+        ensures { result ≡ entry_eq (entry.Pick index role.now flag) self.now }
+    {
+        match self {
+            Entry::Pick {
+                index: its_index,
+                role: its_role,
+                flag: its_flag,
+            } => index == *its_index && role == its_role && flag == *its_flag,
+            _ => false,
+        }
+    }
+
+    fn is_scope(&self, index: Index, role: &Role, chosen: &Chosen) -> bool
+        ensures { result ≡ entry_eq (entry.Scope index role.now chosen.now) self.now }
+    {
+        match self {
+            Entry::Scope {
+                index: its_index,
+                role: its_role,
+                chosen: its_chosen,
+            } => index == *its_index && role == its_role && chosen == its_chosen,
+            _ => false,
+        }
+    }
+
+    fn is_add(&self, name: &Name) -> bool
+        ensures { result ≡ entry_eq (entry.Add name.now) self.now }
+    {
+        match self {
+            Entry::Add { name: its_name } => name == its_name,
+            _ => false,
+        }
+    }
+
+    fn is_drop(&self, name: &Name) -> bool
+        ensures { result ≡ entry_eq (entry.Drop name.now) self.now }
+    {
+        match self {
+            Entry::Drop { name: its_name } => name == its_name,
+            _ => false,
+        }
+    }
+
+    fn is_env(&self, key: &Name, value: &Value) -> bool
+        ensures { result ≡ entry_eq (entry.Env key.now value.now) self.now }
+    {
+        match self {
+            Entry::Env {
+                key: its_key,
+                value: its_value,
+            } => key == its_key && value == its_value,
+            _ => false,
+        }
+    }
+}
+
+fn copy_of_variable(alloc: Global, variable: &Option<Name>) -> Result<Option<Name>, Memory>
+    ensures { IfOk result (λ copy. copy ≡ variable.now) }
+{
+    match variable {
+        None => Ok(None),
+        Some(name) => Ok(Some(name.copy(alloc)?)),
+    }
+}
+
+fn is_same_variable(mine: &Option<Name>, theirs: &Option<Name>) -> bool
+    ensures { result ≡ variable_eq mine.now theirs.now }
+{
+    match (mine, theirs) {
+        (None, None) => true,
+        (Some(mine), Some(theirs)) => mine == theirs,
+        _ => false,
+    }
 }
 
 /// What a process can do next.
@@ -44,4 +413,33 @@ pub enum Act {
     Input(Index),
     Pick(Index),
     Scope(Index),
+}
+
+impl PartialEq for Act {
+    ghost use Rattle.dioc_terms.specs.Equality.{act_eq};
+    ghost use Rattle.dioc_terms.specs.EqualityLemmas.{equivalence_from_Decides, act_eq-decides};
+    ghost use Rattle.std.specs.Cmp.{partial_equiv_from_equiv};
+
+    ghost eq = { act_eq };
+
+    ghost laws = { partial_equiv_from_equiv (equivalence_from_Decides act_eq act_eq-decides) };
+
+    fn eq(&self, other: &Act) -> bool {
+        match (self, other) {
+            (Act::Put(mine), Act::Put(theirs)) => mine == theirs,
+            (Act::Take(mine), Act::Take(theirs)) => mine == theirs,
+            (Act::Set(mine), Act::Set(theirs)) => mine == theirs,
+            (Act::Input(mine), Act::Input(theirs)) => mine == theirs,
+            (Act::Pick(mine), Act::Pick(theirs)) => mine == theirs,
+            (Act::Scope(mine), Act::Scope(theirs)) => mine == theirs,
+            _ => false,
+        }
+    }
+}
+
+impl Eq for Act {
+    ghost use Rattle.dioc_terms.specs.Equality.{act_eq};
+    ghost use Rattle.dioc_terms.specs.EqualityLemmas.{equivalence_from_Decides, act_eq-decides};
+
+    ghost laws = { equivalence_from_Decides act_eq act_eq-decides };
 }

@@ -3,18 +3,26 @@
 
 mod bundles;
 mod choreographies;
+mod copies;
 mod entries;
+mod equality;
 mod expressions;
+mod faults;
 mod lists;
 mod names;
 mod processes;
+mod term_laws;
 mod values;
 
 pub use bundles::{Bundle, Change, Last, Rule, Timed, Trace};
 pub use choreographies::Choreo;
+pub use copies::TryCopy;
 pub use entries::{Act, Chosen, Entry, Note};
+pub use equality::equality_decides;
 pub use expressions::{Expr, Oper};
+pub use faults::{Memory, NameFault, SyntaxFault, TextFault};
 pub use lists::{Bindings, Entries, Items, Keys, Roles, Values};
 pub use names::{Index, Name, Role, Text};
 pub use processes::{Key, Messages, Parts, Payload, Proc, ScopeHead, Tag};
+pub use term_laws::{casts_are_roles, mentions_are_roles, stamped_bodies};
 pub use values::Value;

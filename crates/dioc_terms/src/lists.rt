@@ -1,5 +1,7 @@
 //! A list inside a public type.
 
+ghost use Rattle.std.specs.Prelude.{◌≡◌, ◌↔◌, [], length, IsTrue};
+
 use crate::entries::Entry;
 use crate::names::{Name, Role};
 use crate::processes::Key;
@@ -18,6 +20,43 @@ impl<T> Model for Items<T> {
     ghost Value = { List T };
 
     ghost view = { λ list. list.items.items };
+}
+
+impl<T> Items<T> {
+    /// The list of these items. It takes no memory.
+    pub fn new(items: Vec<T>) -> Items<T>
+        ensures { result ≡ items.items }
+    {
+        Items { items }
+    }
+
+    /// The items, in their order.
+    pub fn as_slice(&self) -> &[T]
+        ensures { result.now ≡ self.now }
+    {
+        self.items.as_slice()
+    }
+
+    /// The items, in their order, to be changed or moved out.
+    pub fn into_vec(self) -> Vec<T>
+        ensures { result.items ≡ self }
+    {
+        self.items
+    }
+
+    /// How many items.
+    pub fn len(&self) -> usize
+        ensures { result ≡ length self.now }
+    {
+        self.items.len()
+    }
+
+    /// Whether there are none.
+    pub fn is_empty(&self) -> bool
+        ensures { IsTrue result ↔ (self.now ≡ []) }
+    {
+        self.items.is_empty()
+    }
 }
 
 /// Roles, in an order.

@@ -1,5 +1,12 @@
 //! Names, texts, roles and indices.
 
+ghost use Rattle.std.specs.Prelude.{◌≡◌, ◌↔◌, true, false, IfOk, IsErrOf};
+ghost use Rattle.std.specs.List.{list_all};
+ghost use Rattle.dioc_terms.specs.Names.{is_letter, is_word, is_printable, is_name, is_text};
+
+use crate::faults::{Memory, NameFault, TextFault};
+use std::alloc::Global;
+use std::hash::{Hash, Hasher};
 use std::marker::Model;
 
 /// A name: a letter, then letters, digits and `_`, 1 to 64 bytes in all. Contracts see its bytes.
@@ -20,6 +27,75 @@ impl Model for Name {
     ghost invariant = { λ name. IsName name.bytes.items };
 }
 
+impl Name {
+    /// Reads a name.
+    ///
+    /// The error is `NotAName` exactly where the bytes aren't a letter followed by at most 63 letters, digits or `_`, and
+    /// `Memory` where memory runs out.
+    pub fn read(alloc: Global, bytes: &[u8]) -> Result<Name, NameFault>
+        ensures ok { IfOk result (λ name. name ≡ bytes.now) }
+        ensures not_a_name { IsErrOf result NameFault.NotAName ↔ (is_name bytes.now ≡ false) }
+    {
+        if !is_name(bytes) {
+            return Err(NameFault::NotAName);
+        }
+        let bytes = copy_of_bytes(alloc, bytes)?;
+        Ok(Name { bytes })
+    }
+
+    /// The bytes that were read.
+    pub fn bytes(&self) -> &[u8]
+        ensures value { result.now ≡ self.now }
+        ensures valid { is_name self.now ≡ true }
+    {
+        let _bytes = &self.bytes;
+        self.bytes.as_slice()
+    }
+
+    /// A copy, the same name.
+    pub fn copy(&self, alloc: Global) -> Result<Name, Memory>
+        ensures { IfOk result (λ copy. copy ≡ self.now) }
+    {
+        let bytes = copy_of_bytes(alloc, &self.bytes)?;
+        Ok(Name { bytes })
+    }
+}
+
+impl PartialEq for Name {
+    ghost use Rattle.dioc_terms.specs.Equality.{name_eq};
+    ghost use Rattle.dioc_terms.specs.EqualityLemmas.{equivalence_from_Decides, name_eq-decides};
+    ghost use Rattle.std.specs.Cmp.{partial_equiv_from_equiv};
+
+    ghost eq = { name_eq };
+
+    ghost laws = { partial_equiv_from_equiv (equivalence_from_Decides name_eq name_eq-decides) };
+
+    fn eq(&self, other: &Name) -> bool {
+        self.bytes == other.bytes
+    }
+}
+
+impl Eq for Name {
+    ghost use Rattle.dioc_terms.specs.Equality.{name_eq};
+    ghost use Rattle.dioc_terms.specs.EqualityLemmas.{equivalence_from_Decides, name_eq-decides};
+
+    ghost laws = { equivalence_from_Decides name_eq name_eq-decides };
+}
+
+impl Hash for Name {
+    ghost use Rattle.std.specs.Hash as fed;
+    ghost use Rattle.dioc_terms.specs.Equality.{name_eq};
+    ghost use Rattle.dioc_terms.specs.EqualityLemmas.{fed_alike, name_eq-decides};
+
+    ghost hash_input = { λ name. fed.slice fed.u8 name };
+
+    ghost respects_eq = { fed_alike name_eq name_eq-decides (λ name. fed.slice fed.u8 name) };
+
+    fn hash<H: Hasher>(&self, state: &mut H) {
+        self.bytes.hash(state);
+    }
+}
+
 /// A text: at most 1,024 bytes, each from 0x20 to 0x7E. Contracts see its bytes.
 #[derive(Debug, Drop)]
 pub struct Text {
@@ -38,9 +114,94 @@ impl Model for Text {
     ghost invariant = { λ text. IsText text.bytes.items };
 }
 
+impl Text {
+    /// Reads a text.
+    ///
+    /// The error is `NotText` exactly where there are more than 1,024 bytes or one is outside 0x20 to 0x7E, and `Memory` where
+    /// memory runs out.
+    pub fn read(alloc: Global, bytes: &[u8]) -> Result<Text, TextFault>
+        ensures ok { IfOk result (λ text. text ≡ bytes.now) }
+        ensures not_text { IsErrOf result TextFault.NotText ↔ (is_text bytes.now ≡ false) }
+    {
+        if !is_text(bytes) {
+            return Err(TextFault::NotText);
+        }
+        let bytes = copy_of_bytes(alloc, bytes)?;
+        Ok(Text { bytes })
+    }
+
+    /// The bytes that were read.
+    pub fn bytes(&self) -> &[u8]
+        ensures value { result.now ≡ self.now }
+        ensures valid { is_text self.now ≡ true }
+    {
+        let _bytes = &self.bytes;
+        self.bytes.as_slice()
+    }
+
+    /// A copy, the same text.
+    pub fn copy(&self, alloc: Global) -> Result<Text, Memory>
+        ensures { IfOk result (λ copy. copy ≡ self.now) }
+    {
+        let bytes = copy_of_bytes(alloc, &self.bytes)?;
+        Ok(Text { bytes })
+    }
+}
+
+impl PartialEq for Text {
+    ghost use Rattle.std.specs.Str.{bytes_eq};
+    ghost use Rattle.dioc_terms.specs.EqualityLemmas.{equivalence_from_Decides, name_eq-decides};
+    ghost use Rattle.std.specs.Cmp.{partial_equiv_from_equiv};
+
+    ghost eq = { bytes_eq };
+
+    ghost laws = { partial_equiv_from_equiv (equivalence_from_Decides bytes_eq name_eq-decides) };
+
+    fn eq(&self, other: &Text) -> bool {
+        self.bytes == other.bytes
+    }
+}
+
+impl Eq for Text {
+    ghost use Rattle.std.specs.Str.{bytes_eq};
+    ghost use Rattle.dioc_terms.specs.EqualityLemmas.{equivalence_from_Decides, name_eq-decides};
+
+    ghost laws = { equivalence_from_Decides bytes_eq name_eq-decides };
+}
+
 /// A role of a choreography, known by its name.
-#[derive(Debug, Drop)]
+#[derive(Debug, Drop, Hash)]
 pub struct Role(pub Name);
+
+impl Role {
+    /// A copy, the same role.
+    pub fn copy(&self, alloc: Global) -> Result<Role, Memory>
+        ensures { IfOk result (λ copy. copy ≡ self.now) }
+    {
+        Ok(Role(self.0.copy(alloc)?))
+    }
+}
+
+impl PartialEq for Role {
+    ghost use Rattle.dioc_terms.specs.Equality.{role_eq};
+    ghost use Rattle.dioc_terms.specs.EqualityLemmas.{equivalence_from_Decides, role_eq-decides};
+    ghost use Rattle.std.specs.Cmp.{partial_equiv_from_equiv};
+
+    ghost eq = { role_eq };
+
+    ghost laws = { partial_equiv_from_equiv (equivalence_from_Decides role_eq role_eq-decides) };
+
+    fn eq(&self, other: &Role) -> bool {
+        self.0 == other.0
+    }
+}
+
+impl Eq for Role {
+    ghost use Rattle.dioc_terms.specs.Equality.{role_eq};
+    ghost use Rattle.dioc_terms.specs.EqualityLemmas.{equivalence_from_Decides, role_eq-decides};
+
+    ghost laws = { equivalence_from_Decides role_eq role_eq-decides };
+}
 
 /// The index of a construct: the number of the update that it stands in, 0 in the program's own text,
 /// and its place in that text, the number of indexed constructs that begin before it.
@@ -48,4 +209,63 @@ pub struct Role(pub Name);
 pub struct Index {
     pub epoch: u32,
     pub place: u32,
+}
+
+fn copy_of_bytes(alloc: Global, bytes: &[u8]) -> Result<Vec<u8>, Memory>
+    ensures { IfOk result (λ copy. copy.items ≡ bytes.now) }
+{
+    Ok(Vec::from_slice(alloc, bytes)?)
+}
+
+fn is_letter(byte: u8) -> bool
+    ensures { result ≡ is_letter byte }
+{
+    byte.is_ascii_alphabetic()
+}
+
+fn is_word(byte: u8) -> bool
+    ensures { result ≡ is_word byte }
+{
+    is_letter(byte) || byte.is_ascii_digit() || byte == b'_'
+}
+
+fn are_words(bytes: &[u8]) -> bool
+    ensures { result ≡ list_all is_word bytes.now }
+{
+    bytes.iter().all(|byte| is_word(*byte))
+}
+
+fn is_name(bytes: &[u8]) -> bool
+    ensures { result ≡ is_name bytes.now }
+{
+    match bytes.split_first() {
+        None => false,
+        Some((first, rest)) => is_letter(*first) && are_words(rest) && rest.len() <= 63,
+    }
+}
+
+fn is_printable(byte: u8) -> bool
+    ensures { result ≡ is_printable byte }
+{
+    matches!(byte, 0x20..=0x7E)
+}
+
+fn are_printable(bytes: &[u8]) -> bool
+    ensures { result ≡ list_all is_printable bytes.now }
+{
+    bytes.iter().all(|byte| is_printable(*byte))
+}
+
+fn is_text(bytes: &[u8]) -> bool
+    ensures { result ≡ is_text bytes.now }
+{
+    bytes.len() <= 1024 && are_printable(bytes)
+}
+
+#[derived]
+impl Hash for Role {
+    ghost use Rattle.dioc_terms.specs.Equality.{role_eq};
+    ghost use Rattle.dioc_terms.specs.EqualityLemmas.{fed_alike, role_eq-decides};
+
+    ghost respects_eq = { fed_alike role_eq role_eq-decides _ };
 }

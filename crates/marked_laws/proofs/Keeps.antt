@@ -18,10 +18,10 @@ use Rattle.dioc_terms.specs.Terms as term
 use Rattle.dioc_terms.specs.Terms.{Term, is_in, others, distinct_roles, stamped, at_epoch}
 use Rattle.dioc_terms.specs.Values.{eval, is_true}
 use Rattle.projection.specs.Projection.{projected}
-use Rattle.dpoc_process.specs.Steps.{Deed, Puts, Takes, Sets, Inputs, Picks, Chooses, key, tell, gather, ended}
+use Rattle.dpoc_process.specs.Steps.{Deed, Puts, Takes, Sets, Inputs, Picks, Chooses, entry_of, key, tell, gather, ended}
 use Rattle.global_steps.specs.Running as running
 use Rattle.global_steps.specs.Running.{Running, started, light}
-use Rattle.global_steps.specs.Follow.{Answer, updated}
+use Rattle.global_steps.specs.Follow.{Answer, updated, updates_after}
 use Rattle.marked_laws.proofs.Constructs.{Phase, Phases, Kind, Branch, Turning, Stopping, Scoped, Releasing, Waits, Told, Inside, Sent, Gone, waits, gone, is_early, is_late, all_wait, leader, index, tag, told, whole, body, runs, telling_key, backing_key, Backs, turn_backs, end_backs, letter, peer, opened, own_mail, leads, before, inside, outside, follows, untold, ungone, Busy}
 use Rattle.marked_laws.proofs.Ends.{place_leader, place_follower}
 use Rattle.marked_laws.proofs.Equality.{role_itself, key_itself}
@@ -118,38 +118,42 @@ module _ (cast : List Role) (stores : Role → Store) (answers : ScopeHead → A
   deed_at (replaces e) = inl refl
   deed_at (frees e f) = inl (inl refl)
 
-  -- the indices after a step are those before it, but for those of an update
-  pub at_step : {M N : Mark} {d : Deed} → Steps cast stores answers updates M d N → (n : Index) → At n N → At n M ⊎ New updates n
-  at_step sends n h = inl h
-  at_step lands n h = absurd h
-  at_step sets n h = absurd h
-  at_step reads n h = absurd h
-  at_step (seq_opens s) n h = at_step s n h
-  at_step (par_opens s) n h = at_step s n h
-  at_step (seq_first s) n h = ⊎_elim (λ k. ⊎_elim (λ l. inl (inl l)) (λ l. inr l) (at_step s n k)) (λ k. inl (inr k)) h
-  at_step (seq_begins e s) n h = ⊎_elim (λ k. inl (inl k)) (λ k. ⊎_elim (λ l. inl (inr l)) (λ l. inr l) (at_step s n k)) h
-  at_step (seq_lags s) n h = ⊎_elim (λ k. ⊎_elim (λ l. inl (inl l)) (λ l. inr l) (at_step s n k)) (λ k. inl (inr k)) h
-  at_step (seq_goes e s) n h = ⊎_elim (λ k. inl (inl k)) (λ k. ⊎_elim (λ l. inl (inr l)) (λ l. inr l) (at_step s n k)) h
-  at_step (par_left s) n h = ⊎_elim (λ k. ⊎_elim (λ l. inl (inl l)) (λ l. inr l) (at_step s n k)) (λ k. inl (inr k)) h
-  at_step (par_right s) n h = ⊎_elim (λ k. inl (inl k)) (λ k. ⊎_elim (λ l. inl (inr l)) (λ l. inr l) (at_step s n k)) h
-  at_step (picks {r = r} {g = g} {I = I} {J = J}) n h =
+  -- the indices after a step are those before it, but for those of an update, and that is counted
+  pub new_step : {M N : Mark} {d : Deed} → Steps cast stores answers updates M d N → (n : Index) → At n N
+      → At n M ⊎ (New updates n × (updates_after (entry_of d) updates ≡ suc updates))
+  new_step sends n h = inl h
+  new_step lands n h = absurd h
+  new_step sets n h = absurd h
+  new_step reads n h = absurd h
+  new_step (seq_opens s) n h = new_step s n h
+  new_step (par_opens s) n h = new_step s n h
+  new_step (seq_first s) n h = ⊎_elim (λ k. ⊎_elim (λ l. inl (inl l)) (λ l. inr l) (new_step s n k)) (λ k. inl (inr k)) h
+  new_step (seq_begins e s) n h = ⊎_elim (λ k. inl (inl k)) (λ k. ⊎_elim (λ l. inl (inr l)) (λ l. inr l) (new_step s n k)) h
+  new_step (seq_lags s) n h = ⊎_elim (λ k. ⊎_elim (λ l. inl (inl l)) (λ l. inr l) (new_step s n k)) (λ k. inl (inr k)) h
+  new_step (seq_goes e s) n h = ⊎_elim (λ k. inl (inl k)) (λ k. ⊎_elim (λ l. inl (inr l)) (λ l. inr l) (new_step s n k)) h
+  new_step (par_left s) n h = ⊎_elim (λ k. ⊎_elim (λ l. inl (inl l)) (λ l. inr l) (new_step s n k)) (λ k. inl (inr k)) h
+  new_step (par_right s) n h = ⊎_elim (λ k. inl (inl k)) (λ k. ⊎_elim (λ l. inl (inr l)) (λ l. inr l) (new_step s n k)) h
+  new_step (picks {r = r} {g = g} {I = I} {J = J}) n h =
       ⊎_elim (λ k. inl k) (λ k. inl (inr (of_branch (is_true (eval g (stores r))) k))) h
     where
     of_branch : (b : Bool) → Within n (if b then I else J) → Within n I ⊎ Within n J
     of_branch true k = inl k
     of_branch false k = inr k
-  at_step (turns e) n h = ⊎_elim (λ k. inl k) (λ k. inl (inr k)) h
-  at_step (stops e) n h = ⊎_elim (λ k. inl k) (λ k. absurd k) h
-  at_step (again e c) n h = ⊎_elim (λ k. inl (inl k)) (λ k. inl (inl (inr k))) h
-  at_step (leaves e c) n h = ⊎_elim (λ k. inl (inl k)) (λ k. absurd k) h
-  at_step (tells e) n h = inl h
-  at_step (hears e) n h = inl h
-  at_step (works e s) n h = ⊎_elim (λ k. inl (inl k)) (λ k. ⊎_elim (λ l. inl (inr l)) (λ l. inr l) (at_step s n k)) h
-  at_step (arrives b e f) n h = inl h
-  at_step (gathers b e f) n h = inl h
-  at_step (keeps e) n h = ⊎_elim (λ k. inl k) (λ k. inl (inr k)) h
-  at_step (replaces {level = level} {B = B} e) n h = ⊎_elim (λ k. inl k) (λ k. inr (stamped_new B (suc updates) (suc level) n k)) h
-  at_step (frees e f) n h = ⊎_elim (λ k. inl (inl k)) (λ k. absurd k) h
+  new_step (turns e) n h = ⊎_elim (λ k. inl k) (λ k. inl (inr k)) h
+  new_step (stops e) n h = ⊎_elim (λ k. inl k) (λ k. absurd k) h
+  new_step (again e c) n h = ⊎_elim (λ k. inl (inl k)) (λ k. inl (inl (inr k))) h
+  new_step (leaves e c) n h = ⊎_elim (λ k. inl (inl k)) (λ k. absurd k) h
+  new_step (tells e) n h = inl h
+  new_step (hears e) n h = inl h
+  new_step (works e s) n h = ⊎_elim (λ k. inl (inl k)) (λ k. ⊎_elim (λ l. inl (inr l)) (λ l. inr l) (new_step s n k)) h
+  new_step (arrives b e f) n h = inl h
+  new_step (gathers b e f) n h = inl h
+  new_step (keeps e) n h = ⊎_elim (λ k. inl k) (λ k. inl (inr k)) h
+  new_step (replaces {level = level} {B = B} e) n h = ⊎_elim (λ k. inl k) (λ k. inr (stamped_new B (suc updates) (suc level) n k, refl)) h
+  new_step (frees e f) n h = ⊎_elim (λ k. inl (inl k)) (λ k. absurd k) h
+
+  pub at_step : {M N : Mark} {d : Deed} → Steps cast stores answers updates M d N → (n : Index) → At n N → At n M ⊎ New updates n
+  at_step s n h = ⊎_elim (λ k. inl k) (λ k. inr k.0) (new_step s n h)
 
   runs_over : (k : Kind) (G H : Running) → (running.ended G ≡ true → running.ended H ≡ true) → running.ended (runs k G) ≡ true
       → running.ended (runs k H) ≡ true

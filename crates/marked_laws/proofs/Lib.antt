@@ -1,6 +1,7 @@
 pub mod Acts
 pub mod Agreeing
 pub mod CanStep
+pub mod Choices
 pub mod Constructs
 pub mod Ends
 pub mod Equality
@@ -17,10 +18,18 @@ pub mod Mails
 pub mod Mark
 pub mod MarkSteps
 pub mod Moves
+pub mod Networks
 pub mod Norm
+pub mod Orders
 pub mod Others
+pub mod Pending
 pub mod Plays
+pub mod Premise
 pub mod Proper
 pub mod RoleLists
 pub mod Roles
+pub mod Settlements
+pub mod Settles
+pub mod Simulate
 pub mod Stays
+pub mod Whole

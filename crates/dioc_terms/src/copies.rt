@@ -1,0 +1,70 @@
+//! Copies of values.
+
+ghost use Rattle.std.specs.Prelude.{◌≡◌, IfOk};
+
+use crate::entries::Entry;
+use crate::faults::Memory;
+use crate::lists::Items;
+use crate::names::{Name, Role};
+use crate::processes::Key;
+use crate::values::Value;
+use std::alloc::Global;
+
+/// What has a copy that is the same value.
+pub trait TryCopy: Drop {
+    /// A copy.
+    fn try_copy(&self, alloc: Global) -> Result<Self, Memory>
+        ensures { IfOk result (λ copy. copy ≡ self.now) };
+}
+
+impl<T: TryCopy> Items<T> {
+    /// A copy of the list, item by item.
+    pub fn copy(&self, alloc: Global) -> Result<Items<T>, Memory>
+        ensures { IfOk result (λ copy. copy ≡ self.now) }
+    {
+        let items = self.as_slice();
+        let mut copies = Vec::with_capacity(alloc, items.len())?;
+        for item in items {
+            copies.push(item.try_copy(alloc)?)?;
+        }
+        Ok(Items::new(copies))
+    }
+}
+
+impl TryCopy for Name {
+    fn try_copy(&self, alloc: Global) -> Result<Name, Memory> {
+        self.copy(alloc)
+    }
+}
+
+impl TryCopy for Role {
+    fn try_copy(&self, alloc: Global) -> Result<Role, Memory> {
+        self.copy(alloc)
+    }
+}
+
+impl TryCopy for Value {
+    fn try_copy(&self, alloc: Global) -> Result<Value, Memory> {
+        self.copy(alloc)
+    }
+}
+
+impl TryCopy for Key {
+    fn try_copy(&self, alloc: Global) -> Result<Key, Memory> {
+        self.copy(alloc)
+    }
+}
+
+impl TryCopy for Entry {
+    fn try_copy(&self, alloc: Global) -> Result<Entry, Memory> {
+        self.copy(alloc)
+    }
+}
+
+impl TryCopy for (Name, Value) {
+    fn try_copy(&self, alloc: Global) -> Result<(Name, Value), Memory> {
+        let name = self.0.copy(alloc)?;
+        let value = self.1.copy(alloc)?;
+        Ok((name, value))
+    }
+}

@@ -1,0 +1,2 @@
+mod ExampleRuns
+pub mod Examples
