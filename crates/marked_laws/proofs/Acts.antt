@@ -1,6 +1,5 @@
 -- What a step is: the act by which it is done, and that the process offers this act.
-use Rattle.std.proofs.Common.{◌≡◌, ◌⊎◌, ℕ, List, [], ◌∷◌, ◌++◌, map, Bool, true, false, ◌&&◌, ◌||◌, if◌then◌else◌, cond, Option, Some, None, refl, sym, ap, ap₂, ◌∙◌, subst, inl, inr, ⊎_elim}
-use Rattle.std.specs.List.{list_any}
+use Rattle.std.proofs.Common.{◌≡◌, ℕ, List, [], ◌∷◌, Bool, true, false, Some, refl, sym, ap, ◌∙◌, ⊎_elim}
 use Rattle.std.proofs.lemmas.Bool.{and_left, and_right, or_left, or_right, cond-true, cond-false}
 use Rattle.std.proofs.lemmas.List.Folds.{list_any-append}
 use Rattle.dioc_terms.specs.declared.names.Role.{Role}
@@ -10,14 +9,13 @@ use Rattle.dioc_terms.specs.declared.processes.Tag.TheVariants.{Op, Choice, Go, 
 use Rattle.dioc_terms.specs.declared.processes.ScopeHead.{ScopeHead}
 use Rattle.dioc_terms.specs.declared.entries.Act.{Act}
 use Rattle.dioc_terms.specs.declared.entries.Act.TheVariants as act
-use Rattle.dioc_terms.specs.declared.entries.Entry.TheVariants as entry
 use Rattle.dioc_terms.specs.Equality.{act_eq}
 use Rattle.dioc_terms.specs.Messages.{act_of}
-use Rattle.dioc_terms.specs.Moves.{Move, Stuck, Does, under, when}
-use Rattle.dioc_terms.specs.Processes.{Process, Skip, Send, Recv, Assign, Read, Seq, Par, IfLead, IfFollow, WhileLead, WhileFollow, ScopeLead, ScopeFollow, Tell, Gather, Letters, Nothing, More, Load, Val, Flag, Keep, Part, Done}
+use Rattle.dioc_terms.specs.Moves.{Move, Does, when}
+use Rattle.dioc_terms.specs.Processes.{Process, Skip, Send, Recv, Assign, Read, Seq, Par, IfLead, IfFollow, WhileLead, WhileFollow, ScopeLead, ScopeFollow, Tell, Gather, Nothing, More, Val, Flag, Keep, Part}
 use Rattle.dioc_terms.specs.Stores.{Store, next_input}
 use Rattle.dioc_terms.specs.Values.{eval, is_true}
-use Rattle.dpoc_process.specs.Steps.{Deed, Puts, Takes, Sets, Inputs, Picks, Chooses, Given, Nil, Got, Answers, Decision, Keeps, Replaces, entry_of, ended, after, key, telling, gathering, take_value, take_flag, take_any, take_begin, begin_scope, choose_scope, if_leads, while_leads, while_follows, offers, is_offered, step}
+use Rattle.dpoc_process.specs.Steps.{Deed, Puts, Sets, Inputs, Picks, Given, Got, Answers, Decision, Keeps, Replaces, entry_of, ended, key, telling, gathering, take_value, take_flag, take_any, take_begin, begin_scope, choose_scope, if_leads, while_leads, while_follows, offers, is_offered, step}
 use Rattle.marked_laws.proofs.FoundParts.{when_act, seq_does, par_does, take_any_does}
 use Rattle.marked_laws.proofs.Moves.{does_same, stuck_does, when_does}
 use Rattle.marked_laws.proofs.Norm.{norm_of_ended, offers_alike}

@@ -1,5 +1,5 @@
 -- When a process can do an act.
-use Rattle.std.proofs.Common.{◌≡◌, ◌⊎◌, ℕ, List, [], ◌∷◌, map, Bool, true, false, if◌then◌else◌, Option, Some, None, refl, sym, ap, ◌∙◌, subst, ⊎_elim}
+use Rattle.std.proofs.Common.{◌≡◌, ℕ, List, [], ◌∷◌, map, true, false, if◌then◌else◌, Option, Some, refl, sym, ap, ◌∙◌, subst, ⊎_elim}
 use Rattle.std.proofs.lemmas.Bool.{cond-true, cond-false}
 use Rattle.dioc_terms.specs.declared.names.Role.{Role}
 use Rattle.dioc_terms.specs.declared.names.Index.{Index}
@@ -19,10 +19,10 @@ use Rattle.dioc_terms.specs.Stores.{Store}
 use Rattle.dioc_terms.specs.Terms as term
 use Rattle.dioc_terms.specs.Terms.{Term, is_in}
 use Rattle.projection.specs.Projection.{projected}
-use Rattle.dpoc_process.specs.Steps.{Deed, Given, Got, Answers, Decision, Keeps, Replaces, ended, after, key, tell, gather, gathering, take_value, take_flag, take_any, take_begin, begin_scope, while_follows, offers, is_offered, step}
+use Rattle.dpoc_process.specs.Steps.{Deed, Got, Decision, Keeps, Replaces, ended, after, key, tell, gather, gathering, take_value, take_flag, take_any, take_begin, begin_scope, while_follows, offers, is_offered, step}
 use Rattle.marked_laws.proofs.Acts.{step_offered, step_unended, ended_offers}
 use Rattle.marked_laws.proofs.Constructs.{Kind, Branch, Turning, Stopping, Scoped, Releasing, leader, whole, telling_key, told, Begins, before}
-use Rattle.marked_laws.proofs.Equality.{act_itself, role_itself}
+use Rattle.marked_laws.proofs.Equality.{act_itself}
 use Rattle.marked_laws.proofs.MarkSteps.{given_by}
 use Rattle.marked_laws.proofs.Moves.{when_true}
 

@@ -78,12 +78,12 @@ no_release i r I extra props level begin B q Sent l h = opened_apart (key r q i 
 no_release i r I extra props level begin B q Gone l h = none_some h
 
 -- the role at the other end of a message from the leader, and of one to the leader
-from_leader : (k : Kind) (phases : Phases) (q : Role) (t : Tag)
+pub from_leader : (k : Kind) (phases : Phases) (q : Role) (t : Tag)
     → own_mail k phases (key (leader k) q (index k) t) ≡ opened (letter k q (phases q)) (key (leader k) q (index k) t)
 from_leader k phases q t =
     ap (λ p. opened (letter k p (phases p)) (key (leader k) q (index k) t)) (cond-true (role_eq (leader k) (leader k)) q (leader k) (role_itself (leader k)))
 
-to_leader : (k : Kind) (phases : Phases) (q : Role) (t : Tag) → role_eq q (leader k) ≡ false
+pub to_leader : (k : Kind) (phases : Phases) (q : Role) (t : Tag) → role_eq q (leader k) ≡ false
     → own_mail k phases (backing_key k t q) ≡ opened (letter k q (phases q)) (backing_key k t q)
 to_leader k phases q t other =
     ap (λ p. opened (letter k p (phases p)) (backing_key k t q)) (cond-false (role_eq q (leader k)) (leader k) q other)

@@ -1,10 +1,9 @@
 -- No two takes of what a role offers have one key.
-use Rattle.std.proofs.Common.{◌≡◌, ◌⊎◌, ℕ, List, [], ◌∷◌, ◌++◌, map, Bool, true, false, ◌&&◌, ◌||◌, not, if◌then◌else◌, cond, Option, Some, None, refl, sym, ap, ap₂, ◌∙◌, subst, inl, inr, ⊎_elim}
-use Rattle.std.proofs.lemmas.Bool.{and_parts, and_from, or_cases, or_from, or_left, or_right, cases_Bool, cond-true, cond-false, both_ways, not-true, not_from_false, false_from_ne_true}
+use Rattle.std.proofs.Common.{◌≡◌, ◌⊎◌, List, [], ◌∷◌, ◌++◌, Bool, true, false, not, if◌then◌else◌, refl, sym, ap, ◌∙◌, inl, inr, ⊎_elim}
+use Rattle.std.proofs.lemmas.Bool.{and_parts, and_from, or_cases, or_from, or_left, or_right, cond-true, both_ways, not-true, not_from_false, false_from_ne_true}
 use Rattle.std.proofs.lemmas.List.Folds.{list_any-append}
 use Rattle.dioc_terms.specs.declared.names.Role.{Role}
 use Rattle.dioc_terms.specs.declared.names.Index.{Index}
-use Rattle.dioc_terms.specs.declared.values.Value.{Value}
 use Rattle.dioc_terms.specs.declared.processes.Key.{Key}
 use Rattle.dioc_terms.specs.declared.processes.Tag.{Tag}
 use Rattle.dioc_terms.specs.declared.processes.Tag.TheVariants.{Op, Choice, Go, Turn, Begin, End, Out}
@@ -15,17 +14,14 @@ use Rattle.dioc_terms.specs.Expressions.{Expression}
 use Rattle.dioc_terms.specs.Processes as process
 use Rattle.dioc_terms.specs.Processes.{Process, Load, Done}
 use Rattle.dioc_terms.specs.Terms as term
-use Rattle.dioc_terms.specs.Terms.{Term, is_in, others, head_of, distinct_roles}
+use Rattle.dioc_terms.specs.Terms.{Term, is_in, others, head_of}
 use Rattle.projection.specs.Projection.{projected}
 use Rattle.dpoc_process.specs.Steps.{ended, key, tell, gather, send_one, offers}
 use Rattle.marked_laws.specs.Laws.{key_among, distinct_keys, taken_keys}
-use Rattle.marked_laws.proofs.Constructs.{Phase, Phases, Kind, Branch, Turning, Stopping, Scoped, Releasing, Waits, Told, Inside, Sent, Gone, leader, index, whole, leads, before, inside, outside, follows, untold, ungone}
-use Rattle.marked_laws.proofs.Ends.{place_leader, place_follower}
+use Rattle.marked_laws.proofs.Constructs.{Phase, Phases, Kind, Branch, Turning, Stopping, Scoped, Releasing, Waits, Told, Inside, Sent, Gone, leader, whole, leads, before, inside, outside, follows, untold, ungone}
 use Rattle.marked_laws.proofs.Equality.{role_itself, key_itself, key_parts, index_same}
-use Rattle.marked_laws.proofs.Keeps.{index_in}
 use Rattle.marked_laws.proofs.Mark.{Mark, Still, Flying, Over, First, Second, Both, Held, Spent, At, place, Fine}
 use Rattle.marked_laws.proofs.Proper.{Proper, Within, proper_seq, proper_par}
-use Rattle.marked_laws.proofs.Roles.{role_cases}
 
 taken-append : (xs ys : List Act) → taken_keys (xs ++ ys) ≡ taken_keys xs ++ taken_keys ys
 taken-append [] ys = refl
@@ -307,5 +303,5 @@ module _ (q : Role) where
 
 -- no key stands twice among the takes that a role offers
 module _ (cast : List Role) where
-  pub few_takes : distinct_roles cast ≡ true → (M : Mark) → Fine cast M → (q : Role) → distinct_keys (taken_keys (offers q (place cast M q))) ≡ true
-  few_takes unique M fine q = few_at q cast M fine
+  pub few_takes : (M : Mark) → Fine cast M → (q : Role) → distinct_keys (taken_keys (offers q (place cast M q))) ≡ true
+  few_takes M fine q = few_at q cast M fine

@@ -10,6 +10,7 @@ pub mod FoundHeld
 pub mod FoundParts
 pub mod FoundStill
 pub mod Gates
+pub mod Goes
 pub mod Groups
 pub mod Keeps
 pub mod Keys
