@@ -18,7 +18,7 @@ use Rattle.marked_laws.proofs.MarkSteps.{Agrees}
 use Rattle.marked_laws.proofs.Proper.{Within}
 
 -- a message is of no other index than its key's
-pub opened_away : (message : Key × Load) (j : Key) → (j.index ≡ message.0.index → ⊥) → opened (Some message) j ≡ None
+opened_away : (message : Key × Load) (j : Key) → (j.index ≡ message.0.index → ⊥) → opened (Some message) j ≡ None
 opened_away message j away =
     cond-false (key_eq j message.0) (Some message.1) None (false_from_ne_true (key_eq j message.0) (λ h. away (index_same j.index message.0.index (key_parts j message.0 h).index)))
 
@@ -34,7 +34,7 @@ letter_away (Releasing i r I extra props level) q Sent j away = refl
 letter_away k q Gone j away = refl
 
 -- a construct's own messages have its index
-pub own_away : (k : Kind) (phases : Phases) (j : Key) → (j.index ≡ index k → ⊥) → own_mail k phases j ≡ None
+own_away : (k : Kind) (phases : Phases) (j : Key) → (j.index ≡ index k → ⊥) → own_mail k phases j ≡ None
 own_away k phases j away = letter_away k (peer k j) (phases (peer k j)) j away
 
 module _ (mails : Key → Option Load) where

@@ -74,9 +74,6 @@ sent_at : (p : Phase) → is_late p ≡ true → gone p ≡ false → p ≡ Sent
 sent_at Sent h k = refl
 sent_at p h k = cc
 
-waits_told : (p : Phase) → p ≡ Told → waits p ≡ false
-waits_told p h = ap waits h
-
 inside_no_other : (p : Phase) → is_inside p ≡ false → p ≡ Inside → ⊥
 inside_no_other p h is = both_ways (is_inside p) h (ap is_inside is)
 

@@ -46,10 +46,10 @@ distinct-append (k ∷ ks) ls h h' apart =
 
 module _ (q : Role) where
   -- the process is ready to take the message of a key
-  abbrev pub Ready : Process → Key → Type 0
+  abbrev Ready : Process → Key → Type 0
   Ready P j = key_among j (taken_keys (offers q P)) ≡ true
 
-  abbrev pub Few : Process → Type 0
+  abbrev Few : Process → Type 0
   Few P = distinct_keys (taken_keys (offers q P)) ≡ true
 
   ready_seq : (P Q : Process) (j : Key) → Ready (process.Seq P Q) j → Ready P j ⊎ Ready Q j
