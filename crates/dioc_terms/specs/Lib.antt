@@ -13,5 +13,6 @@ pub mod Rules
 pub mod SeenValues
 pub mod Stores
 pub mod Supported
+pub mod TermLaws
 pub mod Terms
 pub mod Values

@@ -16,6 +16,7 @@ mod processes;
 mod seen;
 mod stamps;
 mod stores;
+mod term_laws;
 mod values;
 
 pub use bundles::{Bundle, Change, Last, Rule, Timed, Trace};
@@ -32,4 +33,5 @@ pub use names::{Index, Name, Role, Text};
 pub use processes::{Key, Messages, Parts, Payload, Proc, ScopeHead, Tag};
 pub use stamps::stamped;
 pub use stores::Store;
+pub use term_laws::{casts_are_roles, mentions_are_roles, stamped_bodies};
 pub use values::Value;

@@ -1,2 +1,6 @@
 //! The network of the roles' processes, and the laws that tie its runs to the choreography.
 #![tactic(auto)]
+
+mod laws;
+
+pub use laws::{nothing_left, progress, settlement, simulation, unique_keys};

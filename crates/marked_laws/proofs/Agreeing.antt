@@ -1,0 +1,75 @@
+-- Pending messages that agree with a mark agree with its parts, and with the own messages of a construct.
+use Rattle.std.proofs.Common.{◌≡◌, Option, Some, None, refl, sym, ap, ◌∙◌, subst, inl, inr}
+use Rattle.std.proofs.lemmas.Bool.{cond-false, false_from_ne_true}
+use Rattle.dioc_terms.specs.declared.names.Role.{Role}
+use Rattle.dioc_terms.specs.declared.names.Index.{Index}
+use Rattle.dioc_terms.specs.declared.processes.Key.{Key}
+use Rattle.dioc_terms.specs.declared.processes.Tag.TheVariants.{Turn, End}
+use Rattle.dioc_terms.specs.Equality.{key_eq}
+use Rattle.dioc_terms.specs.Processes.{Load, Done}
+use Rattle.dioc_terms.specs.Terms.{Term}
+use Rattle.dpoc_process.specs.Steps.{key}
+use Rattle.marked_laws.proofs.Constructs.{Phase, Phases, Kind, Branch, Turning, Stopping, Scoped, Releasing, Waits, Told, Inside, Sent, Gone, index, whole, told, telling_key, letter, peer, opened, own_mail}
+use Rattle.marked_laws.proofs.Equality.{key_parts, index_same}
+use Rattle.marked_laws.proofs.Mark.{Mark, Still, First, Second, Both, Held, mail, first_of_two, At}
+use Rattle.marked_laws.proofs.Keeps.{index_in}
+use Rattle.marked_laws.proofs.Mails.{mail_absent, first_then_none}
+use Rattle.marked_laws.proofs.MarkSteps.{Agrees}
+use Rattle.marked_laws.proofs.Proper.{Within}
+
+-- a message is of no other index than its key's
+opened_away : (message : Key × Load) (j : Key) → (j.index ≡ message.0.index → ⊥) → opened (Some message) j ≡ None
+opened_away message j away =
+    cond-false (key_eq j message.0) (Some message.1) None (false_from_ne_true (key_eq j message.0) (λ h. away (index_same j.index message.0.index (key_parts j message.0 h).index)))
+
+letter_away : (k : Kind) (q : Role) (p : Phase) (j : Key) → (j.index ≡ index k → ⊥) → opened (letter k q p) j ≡ None
+letter_away k q Waits j away = refl
+letter_away k q Told j away = opened_away (telling_key k q, told k q) j away
+letter_away k q Inside j away = refl
+letter_away (Branch i r g I J b) q Sent j away = refl
+letter_away (Turning i r g I) q Sent j away = opened_away (key q r i Turn, Done) j away
+letter_away (Stopping i r g I) q Sent j away = refl
+letter_away (Scoped i r I extra props level begin B) q Sent j away = opened_away (key q r i End, Done) j away
+letter_away (Releasing i r I extra props level) q Sent j away = refl
+letter_away k q Gone j away = refl
+
+-- a construct's own messages have its index
+own_away : (k : Kind) (phases : Phases) (j : Key) → (j.index ≡ index k → ⊥) → own_mail k phases j ≡ None
+own_away k phases j away = letter_away k (peer k j) (phases (peer k j)) j away
+
+module _ (mails : Key → Option Load) where
+  pub agrees_first : (M : Mark) (J : Term) → Agrees mails (First M J) → Agrees mails M
+  agrees_first M J agrees j at = agrees j (inl at)
+
+  pub agrees_next : (M : Mark) (J : Term) → ((n : Index) → At n M → Within n J → ⊥) → Agrees mails (First M J) → Agrees mails (Still J)
+  agrees_next M J apart agrees j at = agrees j (inr at) ∙ mail_absent M j (λ h. apart j.index h at)
+
+  left_part : (M N : Mark) (j : Key) → (At j.index N → ⊥) → first_of_two (mail M j) (mail N j) ≡ mail M j
+  left_part M N j away = ap (first_of_two (mail M j)) (mail_absent N j away) ∙ first_then_none (mail M j)
+
+  right_part : (M N : Mark) (j : Key) → (At j.index M → ⊥) → first_of_two (mail M j) (mail N j) ≡ mail N j
+  right_part M N j away = ap (λ m. first_of_two m (mail N j)) (mail_absent M j away)
+
+  pub agrees_second : (M N : Mark) → ((n : Index) → At n M → At n N → ⊥) → Agrees mails (Second M N) → Agrees mails M × Agrees mails N
+  agrees_second M N apart agrees = (
+    λ j at. agrees j (inl at) ∙ left_part M N j (λ h. apart j.index at h),
+    λ j at. agrees j (inr at) ∙ right_part M N j (λ h. apart j.index h at),
+  )
+
+  pub agrees_both : (M N : Mark) → ((n : Index) → At n M → At n N → ⊥) → Agrees mails (Both M N) → Agrees mails M × Agrees mails N
+  agrees_both M N apart agrees = (
+    λ j at. agrees j (inl at) ∙ left_part M N j (λ h. apart j.index at h),
+    λ j at. agrees j (inr at) ∙ right_part M N j (λ h. apart j.index h at),
+  )
+
+  module _ (k : Kind) (phases : Phases) (M : Mark) (own : At (index k) M → ⊥) (agrees : Agrees mails (Held k phases M)) where
+    -- the messages of a construct's body, and its own
+    pub agrees_inside : Agrees mails M
+    agrees_inside j at =
+        agrees j (inr at) ∙ ap (λ m. first_of_two m (mail M j)) (own_away k phases j (λ h. own (subst (λ n. At n M) h at)))
+
+    pub own_given : (j : Key) → j.index ≡ index k → mails j ≡ own_mail k phases j
+    own_given j is =
+        agrees j (inl (subst (λ n. Within n (whole k)) (sym is) (index_in k)))
+        ∙ ap (first_of_two (own_mail k phases j)) (mail_absent M j (λ h. own (subst (λ n. At n M) is h)))
+        ∙ first_then_none (own_mail k phases j)

@@ -1,0 +1,5 @@
+use Rattle.marked_laws.proofs.Whole.{simulation}
+use Rattle.marked_laws.proofs.laws.simulation.Goals as goal
+
+pub returns : goal.returns
+returns c = simulation
