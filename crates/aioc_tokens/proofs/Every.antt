@@ -48,9 +48,11 @@ token_or_none text no_comment = by_letter (is_ascii_alphabetic (get_or text 0 0)
     by_quote : (quote : Bool) → (get_or text 0 0 == 34) ≡ quote → is_ascii_alphabetic (get_or text 0 0) ≡ false → is_ascii_digit (get_or text 0 0) ≡ false → TokenOrNone text
     by_quote true is no_letter no_digit = text_or_none text ((Decides-eqb (get_or text 0 0) 34).0 is) (text_end false (drop 1 text)) refl
     by_quote false is no_letter no_digit = symbol_or_none text (symbol_by (get_or text 0 0) no_letter no_digit (not_from_Decides (get_or text 0 0 == 34) (Decides-eqb (get_or text 0 0) 34) is)) no_comment
+
     by_digit : (digit : Bool) → is_ascii_digit (get_or text 0 0) ≡ digit → is_ascii_alphabetic (get_or text 0 0) ≡ false → TokenOrNone text
     by_digit true is no_letter = token (number_longest text is)
     by_digit false is no_letter = by_quote (get_or text 0 0 == 34) refl no_letter is
+
     by_letter : (letter : Bool) → is_ascii_alphabetic (get_or text 0 0) ≡ letter → TokenOrNone text
     by_letter true is = token (name_longest text is)
     by_letter false is = by_digit (is_ascii_digit (get_or text 0 0)) refl is
@@ -66,6 +68,7 @@ front_of text some = by_comment (bytes_eq (take 2 text) (codes "//")) refl
     by_space : (is : Bool) → is_space (get_or text 0 0) ≡ is → (¬ BeginsComment text) → FrontOf text
     by_space true is no_comment = blank (space_blank text some is)
     by_space false is no_comment = other (no_blank text is no_comment) (token_or_none text no_comment)
+
     by_comment : (begins : Bool) → bytes_eq (take 2 text) (codes "//") ≡ begins → FrontOf text
     by_comment true is = blank (comment {text = text} {count = line_length text} ((bytes_eq-Decides (take 2 text) (codes "//")).0 is) refl)
     by_comment false is = by_space (is_space (get_or text 0 0)) refl (not_from_Decides _ (bytes_eq-Decides (take 2 text) (codes "//")) is)

@@ -252,8 +252,7 @@ pub begins_more : (wanted : List Sort) (all : List Lexeme) (at place : ℕ) (oth
     → Begins (drop place wanted) (drop (at + place) all) ↔ Begins wanted (drop at all) → Begins (drop (place + 1) wanted) (drop (at + (place + 1)) all) ↔ Begins wanted (drop at all)
 begins_more wanted all at place other inside same kept =
     let step = drop_more wanted place other inside in
-    let rest : drop 1 (drop (at + place) all) ≡ drop (at + (place + 1)) all = drop-drop 1 (at + place) all ∙ ap (λ count. drop count all) (add_assoc at place 1) in
-    (
+    let rest : drop 1 (drop (at + place) all) ≡ drop (at + (place + 1)) all = drop-drop 1 (at + place) all ∙ ap (λ count. drop count all) (add_assoc at place 1) in (
       λ others. kept.0 (subst (λ sorts. Begins sorts (drop (at + place) all)) (sym step) (same, subst (Begins (drop (place + 1) wanted)) (sym rest) others)),
       λ whole. subst (Begins (drop (place + 1) wanted)) rest (second (get_or wanted place other) (drop (place + 1) wanted) (subst (λ sorts. Begins sorts (drop (at + place) all)) step (kept.1 whole))),
     )

@@ -78,12 +78,14 @@ text_end_spelled false (byte ∷ others) count is = go (byte == 34) refl is (tex
         → ((less : ℕ) → text_end false others ≡ Some less → IsTail false others less) → IsTail false (byte ∷ others) count
     last true plain printable found rest = let (less, at, more) = bump_some _ _ found in tail_plain byte others count less plain printable more (rest less at)
     last false plain printable found rest = absurd cc
+
     inner : (backslash : Bool) → (byte == 34) ≡ false → (byte == 92) ≡ backslash
         → cond backslash (bump (text_end true others)) (cond (is_printable byte) (bump (text_end false others)) None) ≡ Some count
         → ((less : ℕ) → text_end true others ≡ Some less → IsTail true others less)
         → ((less : ℕ) → text_end false others ≡ Some less → IsTail false others less) → IsTail false (byte ∷ others) count
     inner true quote backslash found paired plain = let (less, at, more) = bump_some _ _ found in tail_backslash byte others count less (grind (arith, nat_tests)) more (paired less at)
     inner false quote backslash found paired plain = last (is_printable byte) (grind (arith, nat_tests)) refl found plain
+
     go : (quote : Bool) → (byte == 34) ≡ quote
         → cond quote (Some 1) (cond (byte == 92) (bump (text_end true others)) (cond (is_printable byte) (bump (text_end false others)) None)) ≡ Some count
         → ((less : ℕ) → text_end true others ≡ Some less → IsTail true others less)
@@ -124,7 +126,7 @@ text_longest [] count quote found = absurd cc
 text_longest (first ∷ inside) count quote found =
     let tail = text_end_spelled false inside count found in
     let front : IsFront (first ∷ inside) Text (suc count) =
-        record { within = omega (arith, tail.within); spells = (tail.value, tail.printable, ap (λ byte. byte ∷ take count inside) quote ∙ ap (λ rest. 34 ∷ rest) tail.spelled) } in
+    record { within = omega (arith, tail.within); spells = (tail.value, tail.printable, ap (λ byte. byte ∷ take count inside) quote ∙ ap (λ rest. 34 ∷ rest) tail.spelled) } in
     record {
       front = front;
       longest = λ other more that.

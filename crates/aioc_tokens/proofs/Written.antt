@@ -97,6 +97,7 @@ lone_front mark byte others is stops = one_longest (byte ∷ others) (record { w
     no_two [] stops front = absurd (omega (arith, front.within))
     no_two (next ∷ others) stops front =
         first_stops goes_on next others stops (ap (λ word. goes_on (get_or word 1 61)) front.spells.1 ∙ second_goes_on front.spells.0)
+
     no_comment : (others : List ℕ) → prefix_len goes_on others ≡ 0 → BeginsComment (byte ∷ others) → ⊥
     no_comment [] stops begins = absurd cc
     no_comment (next ∷ others) stops begins = first_stops goes_on next others stops (ap (λ word. goes_on (get_or word 1 61)) begins)
