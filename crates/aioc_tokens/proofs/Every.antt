@@ -1,16 +1,15 @@
 -- A text has tokens, or a byte of it is in none.
-use Rattle.std.proofs.Common.{◌≡◌, ◌⊎◌, ℕ, zero, suc, ◌+◌, ◌<◌, ◌≤◌, ◌==◌, Bool, true, false, List, [], ◌∷◌, length, get_or, take, drop, Option, Some, None, is_some, refl, ap, sym, ◌∙◌, subst, arith, inl, inr, ⊎_elim, length-drop, codes, bytes_eq}
+use Rattle.std.proofs.Common.{◌≡◌, ◌⊎◌, ℕ, zero, suc, ◌+◌, ◌<◌, ◌≤◌, ◌==◌, Bool, true, false, List, [], ◌∷◌, length, get_or, take, drop, Option, Some, None, is_some, refl, ap, arith, inl, inr, ⊎_elim, length-drop, codes, bytes_eq}
 use Rattle.std.specs.Char.{is_ascii_alphabetic, is_ascii_digit}
-use Rattle.std.specs.List.{prefix_len}
 use Rattle.std.proofs.lemmas.Bool.{both_ways}
-use Rattle.std.proofs.lemmas.Bool.Decides.{nat_tests, Decides-eqb, not_from_Decides}
+use Rattle.std.proofs.lemmas.Bool.Decides.{Decides-eqb, not_from_Decides}
 use Rattle.std.proofs.lemmas.Slice.Eq.{bytes_eq-Decides}
 use Rattle.std.proofs.str.Laws.{order}
 use Rattle.aioc_tokens.specs.declared.kinds.Kind.{Kind}
-use Rattle.aioc_tokens.specs.declared.kinds.Kind.TheVariants.{Name, Number, Text, Symbol}
+use Rattle.aioc_tokens.specs.declared.kinds.Kind.TheVariants.{Text, Symbol}
 use Rattle.aioc_tokens.specs.declared.kinds.Token.{Token}
 use Rattle.aioc_tokens.specs.Words.{mark_of}
-use Rattle.aioc_tokens.specs.Tokens.{is_space, is_name_byte, line_length, IsFront, IsBlank, comment, IsLongestToken, BeginsComment}
+use Rattle.aioc_tokens.specs.Tokens.{is_space, line_length, IsFront, IsBlank, comment, IsLongestToken, BeginsComment}
 use Rattle.aioc_tokens.specs.Lexing.{Lexes, ended, blank_first, token_first, Breaks, at_once, after_blank, after_token}
 use Rattle.aioc_tokens.proofs.Firsts.{kind_by, symbol_by, no_other}
 use Rattle.aioc_tokens.proofs.Blanks.{space_blank, no_blank, blank_size}

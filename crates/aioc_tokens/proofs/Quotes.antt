@@ -1,12 +1,11 @@
 -- Where a text in quotes ends.
-use Rattle.std.proofs.Common.{◌≡◌, ℕ, zero, suc, ◌+◌, ◌<◌, ◌≤◌, Bool, true, false, ◌&&◌, ◌==◌, cond, List, [], ◌∷◌, ◌++◌, length, get_or, take, drop, Option, Some, None, option_map, refl, ap, sym, ◌∙◌, subst, arith, flat_map, append_assoc, length-append, length-take-le, take-append-drop}
+use Rattle.std.proofs.Common.{◌≡◌, ℕ, suc, ◌+◌, ◌<◌, ◌≤◌, Bool, true, false, ◌&&◌, ◌==◌, cond, List, [], ◌∷◌, ◌++◌, length, get_or, take, drop, Option, Some, None, option_map, refl, ap, sym, ◌∙◌, subst, arith, flat_map, append_assoc, length-append, length-take-le, take-append-drop}
 use Rattle.std.specs.List.{list_all}
 use Rattle.std.proofs.lemmas.List.{at_drop_more, drop_all}
 use Rattle.std.proofs.lemmas.Bool.{and_from}
 use Rattle.std.proofs.lemmas.Bool.Decides.{nat_tests}
-use Rattle.aioc_tokens.specs.declared.kinds.Kind.{Kind}
 use Rattle.aioc_tokens.specs.declared.kinds.Kind.TheVariants.{Text}
-use Rattle.aioc_tokens.specs.Tokens.{needs_pair, is_printable, escaped, quoted, Spells, IsFront, IsLongestToken, BeginsComment}
+use Rattle.aioc_tokens.specs.Tokens.{needs_pair, is_printable, escaped, IsFront, IsLongestToken}
 use Rattle.aioc_tokens.proofs.Firsts.{same_kind}
 use Rattle.aioc_tokens.proofs.Runs.{no_comment_by}
 

@@ -1,9 +1,8 @@
 -- What is written is read again.
-use Rattle.std.proofs.Common.{◌≡◌, ◌≢◌, ℕ, zero, suc, ◌+◌, ◌-◌, ◌*◌, ◌<◌, ◌≤◌, ◌==◌, ◌||◌, ◌&&◌, Bool, true, false, cond, List, [], ◌∷◌, ◌++◌, length, get_or, take, drop, map, Option, Some, None, is_some, refl, ap, sym, ◌∙◌, subst, arith, length-append, length-drop, drop-drop, append_assoc, take_at, drop_at, flat_map, append-nil, codes, nat_le}
+use Rattle.std.proofs.Common.{◌≡◌, ℕ, suc, ◌+◌, ◌<◌, ◌≤◌, ◌==◌, ◌||◌, ◌&&◌, Bool, true, false, cond, List, [], ◌∷◌, ◌++◌, length, get_or, take, drop, Some, refl, ap, sym, ◌∙◌, subst, arith, length-append, drop-drop, append_assoc, take_at, drop_at, flat_map, append-nil, codes, nat_le}
 use Rattle.std.specs.List.{list_all, prefix_len, AllByRecursion}
-use Rattle.std.specs.Char.{is_ascii_digit, is_ascii_alphabetic}
+use Rattle.std.specs.Char.{is_ascii_digit}
 use Rattle.std.proofs.lemmas.Bool.Decides.{nat_tests}
-use Rattle.std.proofs.lemmas.List.Folds.{prefix_len-append}
 use Rattle.aioc_tokens.specs.declared.kinds.Kind.{Kind}
 use Rattle.aioc_tokens.specs.declared.kinds.Kind.TheVariants as kinds
 use Rattle.aioc_tokens.specs.declared.kinds.Token.{Token}
@@ -12,8 +11,8 @@ use Rattle.aioc_tokens.specs.declared.words.Word.{Word}
 use Rattle.aioc_tokens.specs.declared.words.Word.TheVariants.{Aioc, Skip}
 use Rattle.aioc_tokens.specs.declared.words.Mark.{Mark}
 use Rattle.aioc_tokens.specs.declared.words.Mark.TheVariants.{LeftBrace, RightBrace}
-use Rattle.aioc_tokens.specs.Words.{word_spelling, word_of, mark_spelling, mark_of}
-use Rattle.aioc_tokens.specs.Tokens.{is_space, is_name_byte, is_printable, escaped, quoted, Spells, IsNameSpelling, IsFront, IsLongestToken, BeginsComment, space}
+use Rattle.aioc_tokens.specs.Words.{word_spelling, mark_spelling, mark_of}
+use Rattle.aioc_tokens.specs.Tokens.{is_space, is_name_byte, is_printable, escaped, quoted, IsNameSpelling, IsFront, IsLongestToken, BeginsComment, space}
 use Rattle.aioc_tokens.specs.Lexing.{Lexes, ended, blank_first, token_first, bytes_of}
 use Rattle.aioc_tokens.specs.Lexemes.{Lexeme, Name, Long, Number, Text, Reserved, Symbol, lexeme, lexemes, HasLexemes, HasSpelling}
 use Rattle.aioc_tokens.specs.Spelling.{spelling, spelled}

@@ -1,4 +1,4 @@
-use Rattle.std.proofs.Common.{◌≡◌, ◌-◌, ◌+◌, false, ap, sym, subst, ◌∙◌, take, drop, length, arith}
+use Rattle.std.proofs.Common.{◌-◌, ◌+◌, false, ap, sym, subst, ◌∙◌, take, drop, length, arith}
 use Rattle.std.proofs.lemmas.List.{take_rest}
 use Rattle.aioc_tokens.specs.declared.kinds.Kind.TheVariants.{Text}
 use Rattle.aioc_tokens.specs.Tokens.{IsLongestToken}

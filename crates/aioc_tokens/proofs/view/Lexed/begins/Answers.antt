@@ -1,4 +1,4 @@
-use Rattle.std.proofs.Common.{◌≡◌, ◌+◌, ◌≤◌, get_or, drop, length, sym, ◌∙◌, ap, arith, rules}
+use Rattle.std.proofs.Common.{◌+◌, drop, sym, ◌∙◌, ap, arith}
 use Rattle.aioc_tokens.specs.declared.words.Sort.TheVariants.{End}
 use Rattle.aioc_tokens.specs.Lexemes.{sort_of}
 use Rattle.aioc_tokens.proofs.Looks.{begins_more, drop_capped}
