@@ -183,6 +183,13 @@ impl<'a> Lexed<'a> {
         bytes_of(self.bytes, &self.tokens[at])
     }
 
+    /// Whether the lexeme at this place is this name, as a word that has a meaning only in its place.
+    pub fn named(&self, at: usize, word: &[u8]) -> bool
+        ensures { IsTrue result ↔ (drop at self.now ≡ Lexeme.Name word.now ∷ drop (at + 1) self.now) }
+    {
+        self.has(at, Sort::Name) && self.name(at) == word
+    }
+
     /// The digits of the number at this place.
     pub fn digits(&self, at: usize) -> &'a [u8]
         requires { sort_of (drop at self.now) ≡ Sort.Number }
