@@ -1,0 +1,6 @@
+//! The syntax of expressions.
+#![tactic(auto)]
+
+mod constants;
+
+pub use constants::{GREATEST, GREATEST_NEGATED, constant_at, number_at};
