@@ -2,5 +2,7 @@
 #![tactic(auto)]
 
 mod constants;
+mod levels;
 
 pub use constants::{GREATEST, GREATEST_NEGATED, constant_at, number_at};
+pub use levels::ExprKind;
