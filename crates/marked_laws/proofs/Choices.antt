@@ -18,7 +18,7 @@ use Rattle.global_steps.specs.Follow.{Answer, Kept, Replaced, answer_of}
 use Rattle.marked_laws.specs.Laws.{IsSound, IsSoundRule}
 use Rattle.marked_laws.specs.Network.{Network}
 use Rattle.marked_laws.proofs.MarkSteps.{SoundAnswers}
-use Rattle.marked_laws.proofs.Networks.{none_some, some_same}
+use Rattle.marked_laws.proofs.Shapes.{none_some, some_same}
 use Rattle.marked_laws.proofs.Premise.{mentions_is, all_member, proper_update, cast_distinct, in_cast_of, stamped-is_in}
 use Rattle.marked_laws.proofs.Proper.{Proper}
 use Rattle.marked_laws.proofs.Simulate.{answers_in}

@@ -21,11 +21,13 @@ use Rattle.dioc_terms.specs.Terms.{Term, is_in, others, distinct_roles}
 use Rattle.projection.specs.Projection.{projected}
 use Rattle.dpoc_process.specs.Steps.{Deed, Puts, Takes, Given, Got, Decision, ended, after, key, tell, gather, send_one, take_flag, take_begin, take_any, while_follows, scope_follows, step}
 use Rattle.global_steps.specs.Follow.{Answer, updated}
+use Rattle.marked_laws.proofs.Tells.{tell_ended, gather_ended}
+use Rattle.marked_laws.proofs.Shapes.{none_some, some_same}
 use Rattle.marked_laws.proofs.Agreeing.{own_given}
 use Rattle.marked_laws.proofs.Constructs.{Phase, Phases, Kind, Branch, Turning, Stopping, Scoped, Releasing, Waits, Told, Inside, Sent, Gone, waits, gone, is_early, all_wait, leader, index, tag, told, whole, body, telling_key, backing_key, letter, opened, own_mail, Backs, turn_backs, end_backs, Busy, Begins, leads, before, inside, outside, follows, untold, ungone}
 use Rattle.marked_laws.proofs.Ends.{place_leader, place_follower}
 use Rattle.marked_laws.proofs.Equality.{role_itself, key_itself, key_parts}
-use Rattle.marked_laws.proofs.FoundParts.{taken_by, when_act, seq_does, tell_does, gather_does, take_any_does, tell_over, gather_over}
+use Rattle.marked_laws.proofs.FoundParts.{taken_by, when_act, seq_does, tell_does, gather_does, take_any_does}
 use Rattle.marked_laws.proofs.FoundStill.{untold_all, Found, Finds, made, picks_loop}
 use Rattle.marked_laws.proofs.Gates.{outsider, untold_head, ungone_head, untold_tells, ungone_gathers, untold_same, ungone_same}
 use Rattle.marked_laws.proofs.Mark.{Mark, Held, Spent, run, place, Fine, Closed}
@@ -34,15 +36,9 @@ use Rattle.marked_laws.proofs.Moves.{does_same, stuck_does}
 use Rattle.marked_laws.proofs.Norm.{norm, seq_norm, norm-after, norm_of_ended}
 use Rattle.marked_laws.proofs.Roles.{role_cases, updated_here}
 
-none_some : {l : Load} → None ≡ Some l → ⊥
-none_some h = cc
-
-some_same : {l m : Load} → Some l ≡ Some m → m ≡ l
-some_same h = cc
-
 -- a message is opened by its own key, and not by one of another tag
 opened_itself : (j : Key) (n l : Load) → opened (Some (j, n)) j ≡ Some l → l ≡ n
-opened_itself j n l h = some_same (sym (cond-true (key_eq j j) (Some n) None (key_itself j)) ∙ h)
+opened_itself j n l h = sym (some_same (sym (cond-true (key_eq j j) (Some n) None (key_itself j)) ∙ h))
 
 opened_apart : (j i : Key) (n l : Load) → tag_eq j.tag i.tag ≡ false → opened (Some (i, n)) j ≡ Some l → ⊥
 opened_apart j i n l apart h =
@@ -224,7 +220,7 @@ module _ (cast : List Role) (stores : Role → Store) (answers : ScopeHead → A
         let P : Process = place cast M q in
         let T : Process = tell (leader k) (untold cast k phases) (index k) (tag k) (told k) in
         ⊎_elim
-          (λ ran. works_found (inl (subst (λ r. role_eq q r ≡ true) is (role_itself q), tell_over (leader k) (untold cast k phases) (index k) (tag k) (told k) ran.0)) d R R ran.1
+          (λ ran. works_found (inl (subst (λ r. role_eq q r ≡ true) is (role_itself q), tell_ended (leader k) (untold cast k phases) (index k) (tag k) (told k) ran.0)) d R R ran.1
             (λ N alike. alike ∙ sym (seq_skip T (place cast N q) ran.0) ∙ sym (ap norm (place_leader cast k phases N q is ∙ form phases (place cast N q)))))
           (λ telling.
             let told_one = tell_does q (stores q) a (given_by mails decide a) (leader k) (untold cast k phases) (index k) (tag k) (told k) telling.2 in
@@ -274,12 +270,12 @@ module _ (cast : List Role) (stores : Role → Store) (answers : ScopeHead → A
             (λ ran. ⊎_elim
               (λ over. ⊎_elim
                 (λ gathered. tail_finds (record {
-                  told = tell_over (leader k) (untold cast k phases) (index k) (tag k) (told k) ran.0;
+                  told = tell_ended (leader k) (untold cast k phases) (index k) (tag k) (told k) ran.0;
                   done = subst (λ r. ended (place cast M r) ≡ true) is over.0;
-                  gathered = gather_over (leader k) (ungone cast k phases) (index k) t gathered.0 }) d R gathered.1)
+                  gathered = gather_ended (leader k) (ungone cast k phases) (index k) t gathered.0 }) d R gathered.1)
                 (λ gathering. gathers_found is ran.0 over.0 d gathering.1 R gathering.2 gathering.3)
                 (seq_does q (stores q) a given G tail over.1))
-              (λ inner. works_found (inl (subst (λ r. role_eq q r ≡ true) is (role_itself q), tell_over (leader k) (untold cast k phases) (index k) (tag k) (told k) ran.0))
+              (λ inner. works_found (inl (subst (λ r. role_eq q r ≡ true) is (role_itself q), tell_ended (leader k) (untold cast k phases) (index k) (tag k) (told k) ran.0))
                 d inner.1 R inner.2
                 (λ N alike. ap norm (sym inner.3) ∙ norm-after inner.1 (process.Seq G tail) ∙ ap (λ p. seq_norm p (norm (process.Seq G tail))) alike
                   ∙ sym (seq_skip T (process.Seq (place cast N q) (process.Seq G tail)) ran.0)

@@ -20,6 +20,7 @@ use Rattle.dioc_terms.specs.Terms as term
 use Rattle.dioc_terms.specs.Terms.{Term, is_in, others, head_of}
 use Rattle.projection.specs.Projection.{projected}
 use Rattle.dpoc_process.specs.Steps.{Deed, Decision, ended, key, tell, gather, send_one, offers, is_offered, step}
+use Rattle.marked_laws.proofs.Tells.{tell_done, gather_done}
 use Rattle.marked_laws.proofs.Acts.{step_offered, step_unended}
 use Rattle.marked_laws.proofs.Agreeing.{agrees_first, agrees_second, agrees_both, agrees_inside, own_given}
 use Rattle.marked_laws.proofs.CanStep.{Can, can_along, can_send, can_receive, can_assign, can_read, can_pick_branch, can_pick_turn, can_choose, can_first, can_second, can_left, can_right, can_tell, can_gather, can_hear}
@@ -87,12 +88,6 @@ sent_opened (end_backs {i = i} {r = r}) x = let j : Key = key x r i End in cond-
 
 told_opened : (k : Kind) (x : Role) → opened (letter k x Told) (telling_key k x) ≡ Some (told k x)
 told_opened k x = cond-true (key_eq (telling_key k x) (telling_key k x)) (Some (told k x)) None (key_itself (telling_key k x))
-
-tell_done : (from : Role) (qs : List Role) (i : Index) (t : Tag) (carries : Role → Load) → qs ≡ [] → ended (tell from qs i t carries) ≡ true
-tell_done from qs i t carries h = ap (λ l. ended (tell from l i t carries)) h
-
-gather_done : (to : Role) (qs : List Role) (i : Index) (t : Tag) → qs ≡ [] → ended (gather to qs i t) ≡ true
-gather_done to qs i t h = ap (λ l. ended (gather to l i t)) h
 
 module _ (cast : List Role) (stores : Role → Store) (mails : Key → Option Load) (decide : Role → ScopeHead → Decision) where
   abbrev CanHere : Role → Process → Act → Type 0

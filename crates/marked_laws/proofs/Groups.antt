@@ -18,6 +18,7 @@ use Rattle.dpoc_process.specs.Steps.{Deed, ended, tell, gather}
 use Rattle.global_steps.specs.Running as running
 use Rattle.global_steps.specs.Running.{Running, started, light, is_due}
 use Rattle.global_steps.specs.Follow.{Answer}
+use Rattle.marked_laws.proofs.Tells.{tell_ended, gather_ended}
 use Rattle.marked_laws.proofs.Constructs.{Phase, Phases, Kind, Branch, Turning, Stopping, Scoped, Releasing, Waits, Told, Inside, Sent, Gone, leader, whole, body, runs, leads, before, inside, outside, follows, untold, ungone}
 use Rattle.marked_laws.proofs.Ends.{place_leader, place_follower, held_inside, all_over, still_skip, turn_goes_on}
 use Rattle.marked_laws.proofs.Equality.{role_itself}
@@ -98,14 +99,6 @@ started_due q (Input i x r) = refl
 started_due q (If i r g I J) = refl
 started_due q (While i r g I) = refl
 started_due q (Scope i r I extra props level) = refl
-
-tell_ended : (r : Role) (qs : List Role) (i : Index) (t : Tag) (carries : Role → Load) → ended (tell r qs i t carries) ≡ true → qs ≡ []
-tell_ended r [] i t carries h = refl
-tell_ended r (q ∷ qs) i t carries h = cc
-
-gather_ended : (r : Role) (qs : List Role) (i : Index) (t : Tag) → ended (gather r qs i t) ≡ true → qs ≡ []
-gather_ended r [] i t h = refl
-gather_ended r (q ∷ qs) i t h = cc
 
 module _ (cast : List Role) where
   -- a role that a term names has something to do in it

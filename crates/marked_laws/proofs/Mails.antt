@@ -16,6 +16,7 @@ use Rattle.dioc_terms.specs.Terms as term
 use Rattle.dioc_terms.specs.Terms.{Term}
 use Rattle.dpoc_process.specs.Steps.{Deed, Puts, Takes, Sets, Inputs, Picks, Chooses, key}
 use Rattle.global_steps.specs.Follow.{Answer, updated}
+use Rattle.marked_laws.proofs.Shapes.{none_some, some_same}
 use Rattle.marked_laws.proofs.Constructs.{Phase, Phases, Kind, Branch, Turning, Stopping, Scoped, Releasing, Waits, Told, Inside, Sent, Gone, waits, all_wait, leader, index, tag, told, whole, telling_key, backing_key, Backs, turn_backs, end_backs, letter, peer, opened, own_mail, untold, ungone}
 use Rattle.marked_laws.proofs.Ends.{no_mail}
 use Rattle.marked_laws.proofs.Equality.{role_itself, key_itself, key_same}
@@ -113,12 +114,6 @@ opened_none : (message : Option (Key × Load)) (j : Key) → ((m : Key × Load) 
 opened_none None j h = refl
 opened_none (Some message) j h = cond-false (key_eq j message.0) (Some message.1) None (h message refl)
 
-none_some : {A : Type 0} {a : A} → None ≡ Some a → ⊥
-none_some e = cc
-
-some_same : {A : Type 0} {a b : A} → Some a ≡ Some b → a ≡ b
-some_same e = cc
-
 -- each message of a construct has its index
 letter_index : (k : Kind) (q : Role) (p : Phase) (message : Key × Load) → letter k q p ≡ Some message → message.0.index ≡ index k
 letter_index k q Waits message h = absurd (none_some h)
@@ -130,7 +125,7 @@ letter_index k q Sent message h = absurd (none_some h)
 letter_index k q Gone message h = absurd (none_some h)
 
 -- the construct has no message of another index
-own_absent : (k : Kind) (phases : Phases) (j : Key) → (j.index ≡ index k → ⊥) → own_mail k phases j ≡ None
+pub own_absent : (k : Kind) (phases : Phases) (j : Key) → (j.index ≡ index k → ⊥) → own_mail k phases j ≡ None
 own_absent k phases j h =
     let q : Role = peer k j in
     opened_none (letter k q (phases q)) j

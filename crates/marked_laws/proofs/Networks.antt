@@ -17,6 +17,7 @@ use Rattle.dioc_terms.specs.Rules.{apply}
 use Rattle.dpoc_process.specs.Steps.{Deed, Given, Nil, Got, Answers, entry_of, store_after, step}
 use Rattle.global_steps.specs.Follow.{answer_of, change_entry, updates_after, updated}
 use Rattle.marked_laws.specs.Network.{Network, Outcome, decision, given_at, pending_at, pending_after, visible_after, act_step, change_step, network_after, network_step}
+use Rattle.marked_laws.proofs.Shapes.{none_some, some_same, if_some}
 use Rattle.marked_laws.proofs.Equality.{entry_same}
 use Rattle.marked_laws.proofs.MarkSteps.{given_by}
 
@@ -75,16 +76,6 @@ pub record ChangeStep (b : Bundle) (N : Network) (e : Entry) (N' : Network) : Ty
   pub shows : change_entry b.rules timed.change ≡ Some e
   pub due : nat_le timed.after N.visible ≡ true
   pub gives : N' ≡ after_change b N timed
-
-pub none_some : {A : Type 0} {a : A} → None ≡ Some a → ⊥
-none_some e = cc
-
-pub some_same : {A : Type 0} {a b : A} → Some a ≡ Some b → a ≡ b
-some_same e = cc
-
-if_some : {A : Type 0} (t : Bool) (a : A) {c : A} → (if t then Some a else None) ≡ Some c → (t ≡ true) × (c ≡ a)
-if_some true a h = (refl, sym (some_same h))
-if_some false a h = absurd (none_some h)
 
 after_some : (e : Entry) (o : Option Outcome) (N' : Network) → network_after e o ≡ Some N' → (out : Outcome) × (o ≡ Some out) × (e ≡ out.entry) × (N' ≡ out.network)
 after_some e None N' h = absurd (none_some h)

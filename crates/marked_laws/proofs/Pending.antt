@@ -7,6 +7,7 @@ use Rattle.dioc_terms.specs.Processes.{Load}
 use Rattle.dpoc_process.specs.Steps.{Deed, Puts, Takes, Sets, Inputs, Picks, Chooses}
 use Rattle.marked_laws.specs.Laws.{key_among, distinct_keys}
 use Rattle.marked_laws.specs.Network.{pending_at, without, pending_after}
+use Rattle.marked_laws.proofs.Shapes.{some_nil}
 use Rattle.marked_laws.proofs.Equality.{key_same, key_itself}
 use Rattle.marked_laws.proofs.Mails.{mail_after, MailFits}
 
@@ -106,9 +107,6 @@ pending_step (Sets i r x v) mails p fits h k = h k
 pending_step (Inputs i r x v) mails p fits h k = h k
 pending_step (Picks i r b) mails p fits h k = h k
 pending_step (Chooses i r c) mails p fits h k = h k
-
-some_nil : {A : Type 0} {a : A} {as_ : List A} → a ∷ as_ ≡ [] → ⊥
-some_nil e = cc
 
 -- where no key has a message none is pending
 pub no_loads : (p : List (Key × Load)) → ((k : Key) → loads k p ≡ []) → p ≡ []

@@ -83,6 +83,18 @@ effect_store (Sets i r x v) s = refl
 effect_store (Inputs i r x v) s = refl
 effect_store _ s = refl
 
+-- the messages of a construct are auxiliary
+pub tag_aux : (k : Kind) → is_aux_tag (tag k) ≡ true
+tag_aux (Branch i r g I J b) = refl
+tag_aux (Turning i r g I) = refl
+tag_aux (Stopping i r g I) = refl
+tag_aux (Scoped i r I extra props level begin B) = refl
+tag_aux (Releasing i r I extra props level) = refl
+
+pub backs_aux : {k : Kind} {t : Tag} → Backs k t → is_aux_tag t ≡ true
+backs_aux turn_backs = refl
+backs_aux end_backs = refl
+
 -- an entry of another index is another one
 not_here : (e e' : Entry) → (entry_index e ≡ entry_index e' → ⊥) → entry_eq e e' ≡ false
 not_here e e' h = false_from_ne_true (entry_eq e e') (λ is. h (ap entry_index (entry_same e e' is)))
@@ -157,17 +169,6 @@ module _ (cast : List Role) (stores : Role → Store) (answers : ScopeHead → A
   mark_away (Held (Releasing i r I extra props level) phases M) e fine h =
       ap (under (running.Bar (λ q. is_in q (term.Scope i r I extra props level)))) (mark_away M e fine.0 (λ k. h (inr k)))
   mark_away (Spent G) e fine h = ended_plays G e fine
-
-  tag_aux : (k : Kind) → is_aux_tag (tag k) ≡ true
-  tag_aux (Branch i r g I J b) = refl
-  tag_aux (Turning i r g I) = refl
-  tag_aux (Stopping i r g I) = refl
-  tag_aux (Scoped i r I extra props level begin B) = refl
-  tag_aux (Releasing i r I extra props level) = refl
-
-  backs_aux : {k : Kind} {t : Tag} → Backs k t → is_aux_tag t ≡ true
-  backs_aux turn_backs = refl
-  backs_aux end_backs = refl
 
   -- the first part plays an entry
   first_plays : (G G' H : Running) (e : Entry) (effect : Effect) → plays cast stores answers updates G e ≡ Does effect G'

@@ -10,6 +10,7 @@ use Rattle.dioc_terms.specs.Equality.{role_eq, member}
 use Rattle.dioc_terms.specs.Expressions.{Expression}
 use Rattle.dioc_terms.specs.Terms.{Term, Skip, Com, Set, Input, Seq, Par, If, While, Scope, empty, mentions, is_in, first_appearances, cast_of, distinct_roles, stamped, at_epoch, self_messages, constructs, mark_at, marked_from, marked}
 use Rattle.connectedness.specs.Connected.{starters, groups, in_each_group, linked, connected}
+use Rattle.marked_laws.proofs.Shapes.{some_nil}
 use Rattle.marked_laws.proofs.Equality.{role_same, role_itself}
 use Rattle.marked_laws.proofs.Keeps.{stamped_new}
 use Rattle.marked_laws.proofs.Proper.{is_start, in_groups, Linked, Connected, NoSelf, Within, Apart, Distinct, Proper}
@@ -110,9 +111,6 @@ both_nil (x ∷ xs) ys h = cc
 
 pub no_self_is : (I : Term) → self_messages I ≡ [] → NoSelf I
 no_self_is (Com i o a e b x) h = ⊎_elim (λ yes. absurd (some_nil (sym (cond-true (role_eq a b) (i ∷ []) [] yes) ∙ h))) (λ no. no) (cases_Bool (role_eq a b))
-  where
-  some_nil : i ∷ [] ≡ [] → ⊥
-  some_nil e = cc
 no_self_is (Seq I J) h = let parts = both_nil (self_messages I) (self_messages J) h in (no_self_is I parts.0, no_self_is J parts.1)
 no_self_is (Par I J) h = let parts = both_nil (self_messages I) (self_messages J) h in (no_self_is I parts.0, no_self_is J parts.1)
 no_self_is (If i r g I J) h = let parts = both_nil (self_messages I) (self_messages J) h in (no_self_is I parts.0, no_self_is J parts.1)

@@ -4,6 +4,7 @@ use Rattle.std.proofs.lemmas.Bool.{and_parts, or_left, or_right, or_cases, both_
 use Rattle.dioc_terms.specs.declared.names.Role.{Role}
 use Rattle.dioc_terms.specs.Equality.{role_eq, member}
 use Rattle.dioc_terms.specs.Terms.{distinct_roles}
+use Rattle.marked_laws.proofs.Shapes.{same_head}
 use Rattle.marked_laws.proofs.Equality.{role_same, role_itself}
 use Rattle.marked_laws.proofs.Roles.{role_cases}
 
@@ -12,10 +13,6 @@ filter_kept p x xs h = cond-true (p x) (x ∷ filter p xs) (filter p xs) h
 
 filter_left : (p : Role → Bool) (x : Role) (xs : List Role) → p x ≡ false → filter p (x ∷ xs) ≡ filter p xs
 filter_left p x xs h = cond-false (p x) (x ∷ filter p xs) (filter p xs) h
-
--- the first of a list that is known
-same_head : {x y : Role} {xs ys : List Role} → x ∷ xs ≡ y ∷ ys → (x ≡ y) × (xs ≡ ys)
-same_head h = (cc, cc)
 
 pub member_here : (q : Role) (xs : List Role) → member q (q ∷ xs) ≡ true
 member_here q xs = or_left (role_eq q q) (member q xs) (role_itself q)

@@ -13,7 +13,7 @@ use Rattle.global_steps.specs.Settled.{SettledAt, Settled, SettledFrom, nobody}
 use Rattle.marked_laws.specs.Network.{Network, network_step, run_from}
 use Rattle.marked_laws.proofs.Mark.{Mark, Order}
 use Rattle.marked_laws.proofs.MarkSteps.{SoundAnswers, doer_of}
-use Rattle.marked_laws.proofs.Networks.{none_some}
+use Rattle.marked_laws.proofs.Shapes.{none_some}
 use Rattle.marked_laws.proofs.Orders.{order_step}
 use Rattle.marked_laws.proofs.Settles.{settled_step}
 use Rattle.marked_laws.proofs.Simulate.{Marks, Moved, state_of, answers_in, moves, after_both}

@@ -30,7 +30,8 @@ use Rattle.marked_laws.proofs.Keeps.{new_step}
 use Rattle.marked_laws.proofs.Mails.{mail_step, mail_fits}
 use Rattle.marked_laws.proofs.Mark.{Mark, run, mail, At, place, Fine}
 use Rattle.marked_laws.proofs.MarkSteps.{Steps, doer_of, SoundAnswers, given_by, Agrees, New}
-use Rattle.marked_laws.proofs.Networks.{RoleStep, ChangeStep, network_cases, given_same, after_deed, after_change, none_some, some_same}
+use Rattle.marked_laws.proofs.Networks.{RoleStep, ChangeStep, network_cases, given_same, after_deed, after_change}
+use Rattle.marked_laws.proofs.Shapes.{none_some, some_same}
 use Rattle.marked_laws.proofs.Norm.{norm, alike_step}
 use Rattle.marked_laws.proofs.Others.{place_other}
 use Rattle.marked_laws.proofs.Pending.{loads, queued, pending_is, pending_step}
