@@ -1,8 +1,15 @@
 //! Choreographies.
 
+ghost use Rattle.std.specs.Prelude.{◌≡◌, IfOk};
+ghost use Rattle.dioc_terms.specs.Expressions.{expression};
+ghost use Rattle.dioc_terms.specs.Terms.{term, Com, Set, Input, If, While, Scope};
+
+use crate::copies::boxed;
 use crate::expressions::Expr;
+use crate::faults::Memory;
 use crate::lists::{Bindings, Roles};
 use crate::names::{Index, Name, Role};
+use std::alloc::Global;
 
 /// A choreography: one global program of all roles.
 #[derive(Debug, Drop)]
@@ -60,4 +67,184 @@ pub enum Choreo {
         props: Bindings,
         level: u32,
     },
+}
+
+impl Choreo {
+    /// A copy, the same term.
+    #[cycle(copy_choreo)]
+    pub fn copy(&self, alloc: Global) -> Result<Choreo, Memory>
+        ensures { IfOk result (λ copy. term copy ≡ term self.now) }
+    {
+        match self {
+            Choreo::Skip => Ok(Choreo::Skip),
+            Choreo::Com {
+                index,
+                op,
+                from,
+                expr,
+                to,
+                var,
+            } => copy_of_com(alloc, *index, op, from, expr, to, var),
+            Choreo::Set {
+                index,
+                var,
+                role,
+                expr,
+            } => copy_of_set(alloc, *index, var, role, expr),
+            Choreo::Input { index, var, role } => copy_of_input(alloc, *index, var, role),
+            Choreo::Seq(first, second) => {
+                let first = first.boxed_copy(alloc)?;
+                let second = second.boxed_copy(alloc)?;
+                Ok(Choreo::Seq(first, second))
+            }
+            Choreo::Par(left, right) => {
+                let left = left.boxed_copy(alloc)?;
+                let right = right.boxed_copy(alloc)?;
+                Ok(Choreo::Par(left, right))
+            }
+            Choreo::If {
+                index,
+                leader,
+                guard,
+                yes,
+                no,
+            } => {
+                let yes = yes.boxed_copy(alloc)?;
+                let no = no.boxed_copy(alloc)?;
+                copy_of_if(alloc, *index, leader, guard, yes, no)
+            }
+            Choreo::While {
+                index,
+                leader,
+                guard,
+                body,
+            } => {
+                let body = body.boxed_copy(alloc)?;
+                copy_of_while(alloc, *index, leader, guard, body)
+            }
+            Choreo::Scope {
+                index,
+                leader,
+                body,
+                extra,
+                props,
+                level,
+            } => {
+                let body = body.boxed_copy(alloc)?;
+                copy_of_scope(alloc, *index, leader, body, extra, props, *level)
+            }
+        }
+    }
+
+    #[cycle(copy_choreo)]
+    fn boxed_copy(&self, alloc: Global) -> Result<Box<Choreo>, Memory>
+        ensures { IfOk result (λ copy. term copy.value ≡ term self.now) }
+    {
+        boxed(alloc, self.copy(alloc)?)
+    }
+}
+
+fn copy_of_com(
+    alloc: Global,
+    index: Index,
+    op: &Name,
+    from: &Role,
+    expr: &Expr,
+    to: &Role,
+    var: &Name,
+) -> Result<Choreo, Memory>
+    ensures { IfOk result (λ copy. term copy ≡ Com index op.now from.now (expression expr.now) to.now var.now) }
+{
+    Ok(Choreo::Com {
+        index,
+        op: op.copy(alloc)?,
+        from: from.copy(alloc)?,
+        expr: expr.copy(alloc)?,
+        to: to.copy(alloc)?,
+        var: var.copy(alloc)?,
+    })
+}
+
+fn copy_of_set(
+    alloc: Global,
+    index: Index,
+    var: &Name,
+    role: &Role,
+    expr: &Expr,
+) -> Result<Choreo, Memory>
+    ensures { IfOk result (λ copy. term copy ≡ Set index var.now role.now (expression expr.now)) }
+{
+    Ok(Choreo::Set {
+        index,
+        var: var.copy(alloc)?,
+        role: role.copy(alloc)?,
+        expr: expr.copy(alloc)?,
+    })
+}
+
+fn copy_of_input(alloc: Global, index: Index, var: &Name, role: &Role) -> Result<Choreo, Memory>
+    ensures { IfOk result (λ copy. term copy ≡ Input index var.now role.now) }
+{
+    Ok(Choreo::Input {
+        index,
+        var: var.copy(alloc)?,
+        role: role.copy(alloc)?,
+    })
+}
+
+fn copy_of_if(
+    alloc: Global,
+    index: Index,
+    leader: &Role,
+    guard: &Expr,
+    yes: Box<Choreo>,
+    no: Box<Choreo>,
+) -> Result<Choreo, Memory>
+    ensures { IfOk result (λ copy. term copy ≡ If index leader.now (expression guard.now) (term yes.value) (term no.value)) }
+{
+    Ok(Choreo::If {
+        index,
+        leader: leader.copy(alloc)?,
+        guard: guard.copy(alloc)?,
+        yes,
+        no,
+    })
+}
+
+fn copy_of_while(
+    alloc: Global,
+    index: Index,
+    leader: &Role,
+    guard: &Expr,
+    body: Box<Choreo>,
+) -> Result<Choreo, Memory>
+    ensures { IfOk result (λ copy. term copy ≡ While index leader.now (expression guard.now) (term body.value)) }
+{
+    Ok(Choreo::While {
+        index,
+        leader: leader.copy(alloc)?,
+        guard: guard.copy(alloc)?,
+        body,
+    })
+}
+
+fn copy_of_scope(
+    alloc: Global,
+    index: Index,
+    leader: &Role,
+    body: Box<Choreo>,
+    extra: &Roles,
+    props: &Bindings,
+    level: u32,
+) -> Result<Choreo, Memory>
+    ensures { IfOk result (λ copy. term copy ≡ Scope index leader.now (term body.value) extra.now props.now level) }
+{
+    Ok(Choreo::Scope {
+        index,
+        leader: leader.copy(alloc)?,
+        body,
+        extra: extra.copy(alloc)?,
+        props: props.copy(alloc)?,
+        level,
+    })
 }

@@ -68,3 +68,10 @@ impl TryCopy for (Name, Value) {
         Ok((name, value))
     }
 }
+
+/// The value in a box.
+pub(crate) fn boxed<T: Drop>(alloc: Global, value: T) -> Result<Box<T>, Memory>
+    ensures { IfOk result (λ made. made.value ≡ value) }
+{
+    Ok(Box::new(alloc, value)?)
+}

@@ -1,7 +1,13 @@
 //! Expressions.
 
+ghost use Rattle.std.specs.Prelude.{◌≡◌, IfOk};
+ghost use Rattle.dioc_terms.specs.Expressions.{expression};
+
+use crate::copies::boxed;
+use crate::faults::Memory;
 use crate::names::Name;
 use crate::values::Value;
+use std::alloc::Global;
 
 /// The operators that stand between two operands.
 #[derive(Clone, Copy, Debug, PartialEq, Eq)]
@@ -33,4 +39,25 @@ pub enum Expr {
     Not(Box<Expr>),
     Neg(Box<Expr>),
     Bin(Oper, Box<Expr>, Box<Expr>),
+}
+
+impl Expr {
+    /// A copy, the same expression.
+    pub fn copy(&self, alloc: Global) -> Result<Expr, Memory>
+        ensures { IfOk result (λ copy. expression copy ≡ expression self.now) }
+    {
+        match self {
+            Expr::Const(value) => Ok(Expr::Const(value.copy(alloc)?)),
+            Expr::Var(name) => Ok(Expr::Var(name.copy(alloc)?)),
+            Expr::Prop(name) => Ok(Expr::Prop(name.copy(alloc)?)),
+            Expr::Env(name) => Ok(Expr::Env(name.copy(alloc)?)),
+            Expr::Not(inner) => Ok(Expr::Not(boxed(alloc, inner.copy(alloc)?)?)),
+            Expr::Neg(inner) => Ok(Expr::Neg(boxed(alloc, inner.copy(alloc)?)?)),
+            Expr::Bin(oper, left, right) => {
+                let left = boxed(alloc, left.copy(alloc)?)?;
+                let right = boxed(alloc, right.copy(alloc)?)?;
+                Ok(Expr::Bin(*oper, left, right))
+            }
+        }
+    }
 }

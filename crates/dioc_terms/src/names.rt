@@ -148,6 +148,32 @@ impl Text {
     }
 }
 
+impl Text {
+    ghost use Rattle.dioc_terms.specs.Values.{joined, text_lt};
+    ghost use Rattle.dioc_terms.specs.SeenValues.{text_or_nil};
+
+    /// The text with another one after it, `None` where that has more than 1,024 bytes.
+    pub(crate) fn join(&self, alloc: Global, other: &Text) -> Result<Option<Text>, Memory>
+        ensures { IfOk result (λ text. text_or_nil text ≡ joined self.now other.now) }
+    {
+        let length = self.bytes.len() + other.bytes.len();
+        if length > 1024 {
+            return Ok(None);
+        }
+        let mut bytes = Vec::with_capacity(alloc, length)?;
+        bytes.extend_from_slice(self.bytes.as_slice())?;
+        bytes.extend_from_slice(other.bytes.as_slice())?;
+        Ok(Some(Text { bytes }))
+    }
+
+    /// Whether the text comes before another one, by their bytes.
+    pub fn is_before(&self, other: &Text) -> bool
+        ensures { result ≡ text_lt self.now other.now }
+    {
+        self.bytes.as_slice().cmp(other.bytes.as_slice()).is_lt()
+    }
+}
+
 impl PartialEq for Text {
     ghost use Rattle.std.specs.Str.{bytes_eq};
     ghost use Rattle.dioc_terms.specs.EqualityLemmas.{equivalence_from_Decides, name_eq-decides};

@@ -1,7 +1,10 @@
 //! The processes of roles, and the messages between them.
 
 ghost use Rattle.std.specs.Prelude.{◌≡◌, IfOk};
+ghost use Rattle.dioc_terms.specs.Expressions.{expression};
+ghost use Rattle.dioc_terms.specs.Processes.{process, letters, load, Send, Recv, Assign, Read, IfLead, IfFollow, WhileLead, WhileFollow, ScopeLead, ScopeFollow};
 
+use crate::copies::boxed;
 use crate::expressions::Expr;
 use crate::faults::Memory;
 use crate::lists::{Bindings, Keys, Roles};
@@ -236,4 +239,302 @@ pub enum Proc {
 pub struct Parts {
     pub own: Proc,
     pub tell: Messages,
+}
+
+impl ScopeHead {
+    /// A copy, the same head.
+    pub fn copy(&self, alloc: Global) -> Result<ScopeHead, Memory>
+        ensures { IfOk result (λ copy. copy ≡ self.now) }
+    {
+        Ok(ScopeHead {
+            index: self.index,
+            leader: self.leader.copy(alloc)?,
+            roles: self.roles.copy(alloc)?,
+            props: self.props.copy(alloc)?,
+            level: self.level,
+        })
+    }
+}
+
+impl Payload {
+    /// A copy, the same payload.
+    #[cycle(copy_process)]
+    pub fn copy(&self, alloc: Global) -> Result<Payload, Memory>
+        ensures { IfOk result (λ copy. load copy ≡ load self.now) }
+    {
+        match self {
+            Payload::Val(value) => Ok(Payload::Val(value.copy(alloc)?)),
+            Payload::Flag(flag) => Ok(Payload::Flag(*flag)),
+            Payload::Keep => Ok(Payload::Keep),
+            Payload::Part { epoch, proc } => Ok(Payload::Part {
+                epoch: *epoch,
+                proc: proc.copy(alloc)?,
+            }),
+            Payload::Done => Ok(Payload::Done),
+        }
+    }
+}
+
+impl Messages {
+    /// A copy, the same messages in the same order.
+    #[cycle(copy_process)]
+    pub fn copy(&self, alloc: Global) -> Result<Messages, Memory>
+        ensures { IfOk result (λ copy. letters copy ≡ letters self.now) }
+    {
+        match self {
+            Messages::Nothing => Ok(Messages::Nothing),
+            Messages::More(key, payload, rest) => {
+                let key = key.copy(alloc)?;
+                let payload = boxed(alloc, payload.copy(alloc)?)?;
+                let rest = boxed(alloc, rest.copy(alloc)?)?;
+                Ok(Messages::More(key, payload, rest))
+            }
+        }
+    }
+}
+
+impl Proc {
+    /// A copy, the same process.
+    #[cycle(copy_process)]
+    pub fn copy(&self, alloc: Global) -> Result<Proc, Memory>
+        ensures { IfOk result (λ copy. process copy ≡ process self.now) }
+    {
+        match self {
+            Proc::Skip => Ok(Proc::Skip),
+            Proc::Send {
+                index,
+                op,
+                to,
+                expr,
+            } => copy_of_send(alloc, *index, op, to, expr),
+            Proc::Recv {
+                index,
+                op,
+                from,
+                var,
+            } => copy_of_recv(alloc, *index, op, from, var),
+            Proc::Assign { index, var, expr } => copy_of_assign(alloc, *index, var, expr),
+            Proc::Read { index, var } => copy_of_read(alloc, *index, var),
+            Proc::Seq(first, second) => Ok(Proc::Seq(
+                first.boxed_copy(alloc)?,
+                second.boxed_copy(alloc)?,
+            )),
+            Proc::Par(left, right) => Ok(Proc::Par(
+                left.boxed_copy(alloc)?,
+                right.boxed_copy(alloc)?,
+            )),
+            Proc::IfLead {
+                index,
+                guard,
+                others,
+                yes,
+                no,
+            } => copy_of_if_lead(
+                alloc,
+                *index,
+                guard,
+                others,
+                yes.boxed_copy(alloc)?,
+                no.boxed_copy(alloc)?,
+            ),
+            Proc::IfFollow {
+                index,
+                leader,
+                yes,
+                no,
+            } => copy_of_if_follow(
+                alloc,
+                *index,
+                leader,
+                yes.boxed_copy(alloc)?,
+                no.boxed_copy(alloc)?,
+            ),
+            Proc::WhileLead {
+                index,
+                guard,
+                others,
+                body,
+            } => copy_of_while_lead(alloc, *index, guard, others, body.boxed_copy(alloc)?),
+            Proc::WhileFollow {
+                index,
+                leader,
+                body,
+            } => copy_of_while_follow(alloc, *index, leader, body.boxed_copy(alloc)?),
+            Proc::ScopeLead { head, others, body } => copy_of_scope_lead(
+                alloc,
+                head,
+                others,
+                body.boxed_copy(alloc)?,
+            ),
+            Proc::ScopeFollow {
+                index,
+                leader,
+                body,
+            } => copy_of_scope_follow(alloc, *index, leader, body.boxed_copy(alloc)?),
+            Proc::Tell { messages } => Ok(Proc::Tell {
+                messages: messages.copy(alloc)?,
+            }),
+            Proc::Gather { keys } => Ok(Proc::Gather {
+                keys: keys.copy(alloc)?,
+            }),
+        }
+    }
+
+    #[cycle(copy_process)]
+    fn boxed_copy(&self, alloc: Global) -> Result<Box<Proc>, Memory>
+        ensures { IfOk result (λ copy. process copy.value ≡ process self.now) }
+    {
+        boxed(alloc, self.copy(alloc)?)
+    }
+}
+
+fn copy_of_send(
+    alloc: Global,
+    index: Index,
+    op: &Name,
+    to: &Role,
+    expr: &Expr,
+) -> Result<Proc, Memory>
+    ensures { IfOk result (λ copy. process copy ≡ Send index op.now to.now (expression expr.now)) }
+{
+    Ok(Proc::Send {
+        index,
+        op: op.copy(alloc)?,
+        to: to.copy(alloc)?,
+        expr: expr.copy(alloc)?,
+    })
+}
+
+fn copy_of_recv(
+    alloc: Global,
+    index: Index,
+    op: &Name,
+    from: &Role,
+    var: &Name,
+) -> Result<Proc, Memory>
+    ensures { IfOk result (λ copy. process copy ≡ Recv index op.now from.now var.now) }
+{
+    Ok(Proc::Recv {
+        index,
+        op: op.copy(alloc)?,
+        from: from.copy(alloc)?,
+        var: var.copy(alloc)?,
+    })
+}
+
+fn copy_of_assign(alloc: Global, index: Index, var: &Name, expr: &Expr) -> Result<Proc, Memory>
+    ensures { IfOk result (λ copy. process copy ≡ Assign index var.now (expression expr.now)) }
+{
+    Ok(Proc::Assign {
+        index,
+        var: var.copy(alloc)?,
+        expr: expr.copy(alloc)?,
+    })
+}
+
+fn copy_of_read(alloc: Global, index: Index, var: &Name) -> Result<Proc, Memory>
+    ensures { IfOk result (λ copy. process copy ≡ Read index var.now) }
+{
+    Ok(Proc::Read {
+        index,
+        var: var.copy(alloc)?,
+    })
+}
+
+fn copy_of_if_lead(
+    alloc: Global,
+    index: Index,
+    guard: &Expr,
+    others: &Roles,
+    yes: Box<Proc>,
+    no: Box<Proc>,
+) -> Result<Proc, Memory>
+    ensures { IfOk result (λ copy. process copy ≡ IfLead index (expression guard.now) others.now (process yes.value) (process no.value)) }
+{
+    Ok(Proc::IfLead {
+        index,
+        guard: guard.copy(alloc)?,
+        others: others.copy(alloc)?,
+        yes,
+        no,
+    })
+}
+
+fn copy_of_if_follow(
+    alloc: Global,
+    index: Index,
+    leader: &Role,
+    yes: Box<Proc>,
+    no: Box<Proc>,
+) -> Result<Proc, Memory>
+    ensures { IfOk result (λ copy. process copy ≡ IfFollow index leader.now (process yes.value) (process no.value)) }
+{
+    Ok(Proc::IfFollow {
+        index,
+        leader: leader.copy(alloc)?,
+        yes,
+        no,
+    })
+}
+
+fn copy_of_while_lead(
+    alloc: Global,
+    index: Index,
+    guard: &Expr,
+    others: &Roles,
+    body: Box<Proc>,
+) -> Result<Proc, Memory>
+    ensures { IfOk result (λ copy. process copy ≡ WhileLead index (expression guard.now) others.now (process body.value)) }
+{
+    Ok(Proc::WhileLead {
+        index,
+        guard: guard.copy(alloc)?,
+        others: others.copy(alloc)?,
+        body,
+    })
+}
+
+fn copy_of_while_follow(
+    alloc: Global,
+    index: Index,
+    leader: &Role,
+    body: Box<Proc>,
+) -> Result<Proc, Memory>
+    ensures { IfOk result (λ copy. process copy ≡ WhileFollow index leader.now (process body.value)) }
+{
+    Ok(Proc::WhileFollow {
+        index,
+        leader: leader.copy(alloc)?,
+        body,
+    })
+}
+
+fn copy_of_scope_lead(
+    alloc: Global,
+    head: &ScopeHead,
+    others: &Roles,
+    body: Box<Proc>,
+) -> Result<Proc, Memory>
+    ensures { IfOk result (λ copy. process copy ≡ ScopeLead head.now others.now (process body.value)) }
+{
+    Ok(Proc::ScopeLead {
+        head: head.copy(alloc)?,
+        others: others.copy(alloc)?,
+        body,
+    })
+}
+
+fn copy_of_scope_follow(
+    alloc: Global,
+    index: Index,
+    leader: &Role,
+    body: Box<Proc>,
+) -> Result<Proc, Memory>
+    ensures { IfOk result (λ copy. process copy ≡ ScopeFollow index leader.now (process body.value)) }
+{
+    Ok(Proc::ScopeFollow {
+        index,
+        leader: leader.copy(alloc)?,
+        body,
+    })
 }

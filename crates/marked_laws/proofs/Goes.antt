@@ -94,9 +94,9 @@ tell_done from qs i t carries h = ap (λ l. ended (tell from l i t carries)) h
 gather_done : (to : Role) (qs : List Role) (i : Index) (t : Tag) → qs ≡ [] → ended (gather to qs i t) ≡ true
 gather_done to qs i t h = ap (λ l. ended (gather to l i t)) h
 
-module _ (cast : List Role) (stores : Role → Store) (mails : Key → Option Load) (decide : ScopeHead → Decision) where
+module _ (cast : List Role) (stores : Role → Store) (mails : Key → Option Load) (decide : Role → ScopeHead → Decision) where
   abbrev CanHere : Role → Process → Act → Type 0
-  CanHere q P a = Can mails decide q (stores q) P a
+  CanHere q P a = Can mails (decide q) q (stores q) P a
 
   -- a role of the cast can do an act
   abbrev GoesOn : Mark → Type 0
@@ -106,21 +106,21 @@ module _ (cast : List Role) (stores : Role → Store) (mails : Key → Option Lo
   Outcome M = ((q : Role) → ended (place cast M q) ≡ true) ⊎ GoesOn M
 
   along : (q : Role) (P Q : Process) (a : Act) → P ≡ Q → CanHere q P a → CanHere q Q a
-  along q P Q a h can = can_along mails decide q (stores q) P Q a h can
+  along q P Q a h can = can_along mails (decide q) q (stores q) P Q a h can
 
   -- what can act has not ended
   idle : (q : Role) (P : Process) (a : Act) → CanHere q P a → ended P ≡ true → ⊥
-  idle q P a can over = both_ways (ended P) (step_unended q (stores q) P a (given_by mails decide a) can.2) over
+  idle q P a can over = both_ways (ended P) (step_unended q (stores q) P a (given_by mails (decide q) a) can.2) over
 
   goes_seq : (M N L : Mark) → ((q : Role) → place cast L q ≡ process.Seq (place cast M q) (place cast N q)) → Outcome M → Outcome N → Outcome L
   goes_seq M N L form first second = ⊎_elim
       (λ over. ⊎_elim
         (λ over'. inl (λ q. ap ended (form q) ∙ and_from (ended (place cast M q)) (ended (place cast N q)) (over q) (over' q)))
         (λ go. inr (go.0, go.1, go.2, along go.0 (process.Seq (place cast M go.0) (place cast N go.0)) (place cast L go.0) go.1 (sym (form go.0))
-          (can_second mails decide go.0 (stores go.0) (place cast M go.0) (place cast N go.0) go.1 (over go.0) go.3)))
+          (can_second mails (decide go.0) go.0 (stores go.0) (place cast M go.0) (place cast N go.0) go.1 (over go.0) go.3)))
         second)
       (λ go. inr (go.0, go.1, go.2, along go.0 (process.Seq (place cast M go.0) (place cast N go.0)) (place cast L go.0) go.1 (sym (form go.0))
-        (can_first mails decide go.0 (stores go.0) (place cast M go.0) (place cast N go.0) go.1 go.3)))
+        (can_first mails (decide go.0) go.0 (stores go.0) (place cast M go.0) (place cast N go.0) go.1 go.3)))
       first
 
   goes_par : (M N L : Mark) → ((q : Role) → place cast L q ≡ process.Par (place cast M q) (place cast N q)) → Outcome M → Outcome N → Outcome L
@@ -128,10 +128,10 @@ module _ (cast : List Role) (stores : Role → Store) (mails : Key → Option Lo
       (λ over. ⊎_elim
         (λ over'. inl (λ q. ap ended (form q) ∙ and_from (ended (place cast M q)) (ended (place cast N q)) (over q) (over' q)))
         (λ go. inr (go.0, go.1, go.2, along go.0 (process.Par (place cast M go.0) (place cast N go.0)) (place cast L go.0) go.1 (sym (form go.0))
-          (can_right mails decide go.0 (stores go.0) (place cast M go.0) (place cast N go.0) go.1 (over go.0) go.3)))
+          (can_right mails (decide go.0) go.0 (stores go.0) (place cast M go.0) (place cast N go.0) go.1 (over go.0) go.3)))
         second)
       (λ go. inr (go.0, go.1, go.2, along go.0 (process.Par (place cast M go.0) (place cast N go.0)) (place cast L go.0) go.1 (sym (form go.0))
-        (can_left mails decide go.0 (stores go.0) (place cast M go.0) (place cast N go.0) go.1 go.3)))
+        (can_left mails (decide go.0) go.0 (stores go.0) (place cast M go.0) (place cast N go.0) go.1 go.3)))
       first
 
   -- the leader of a loop picks
@@ -139,20 +139,20 @@ module _ (cast : List Role) (stores : Role → Store) (mails : Key → Option Lo
   picks_turn i r g I =
       let P : Process = process.WhileLead i g (others cast r (term.While i r g I)) (projected cast I r) in
       along r P (projected cast (term.While i r g I) r) (act.Pick i) (sym (cond-true (role_eq r r) P _ (role_itself r)))
-        (can_pick_turn mails decide r (stores r) i g (others cast r (term.While i r g I)) (projected cast I r))
+        (can_pick_turn mails (decide r) r (stores r) i g (others cast r (term.While i r g I)) (projected cast I r))
 
   -- a term that nobody has begun: its first role can begin it
   goes_still : (I : Term) → Proper cast I → Outcome (Still I)
   goes_still term.Skip proper = inl (λ q. refl)
   goes_still (term.Com i o a e b x) proper = inr (a, act.Put (key a b i (Op o)), proper.in_cast a (or_left (role_eq a a) (role_eq a b) (role_itself a)),
       along a (process.Send i o b e) (projected cast (term.Com i o a e b x) a) (act.Put (key a b i (Op o))) (sym (cond-true (role_eq a a) (process.Send i o b e) _ (role_itself a)))
-        (can_send mails decide a (stores a) i o b e))
+        (can_send mails (decide a) a (stores a) i o b e))
   goes_still (term.Set i x r e) proper = inr (r, act.Set i, proper.in_cast r (role_itself r),
       along r (process.Assign i x e) (projected cast (term.Set i x r e) r) (act.Set i) (sym (cond-true (role_eq r r) (process.Assign i x e) process.Skip (role_itself r)))
-        (can_assign mails decide r (stores r) i x e))
+        (can_assign mails (decide r) r (stores r) i x e))
   goes_still (term.Input i x r) proper = inr (r, act.Input i, proper.in_cast r (role_itself r),
       along r (process.Read i x) (projected cast (term.Input i x r) r) (act.Input i) (sym (cond-true (role_eq r r) (process.Read i x) process.Skip (role_itself r)))
-        (can_read mails decide r (stores r) i x))
+        (can_read mails (decide r) r (stores r) i x))
   goes_still (term.Seq I J) proper = let parts = proper_seq cast I J proper in
       goes_seq (Still I) (Still J) (Still (term.Seq I J)) (λ q. refl) (goes_still I parts.0) (goes_still J parts.1)
   goes_still (term.Par I J) proper = let parts = proper_par cast I J proper in
@@ -161,52 +161,52 @@ module _ (cast : List Role) (stores : Role → Store) (mails : Key → Option Lo
       let P : Process = process.IfLead i g (others cast r (term.If i r g I J)) (projected cast I r) (projected cast J r) in
       inr (r, act.Pick i, proper.in_cast r (or_left (role_eq r r || is_in r I) (is_in r J) (or_left (role_eq r r) (is_in r I) (role_itself r))),
         along r P (projected cast (term.If i r g I J) r) (act.Pick i) (sym (cond-true (role_eq r r) P _ (role_itself r)))
-          (can_pick_branch mails decide r (stores r) i g (others cast r (term.If i r g I J)) (projected cast I r) (projected cast J r)))
+          (can_pick_branch mails (decide r) r (stores r) i g (others cast r (term.If i r g I J)) (projected cast I r) (projected cast J r)))
   goes_still (term.While i r g I) proper = inr (r, act.Pick i, proper.in_cast r (or_left (role_eq r r) (is_in r I) (role_itself r)), picks_turn i r g I)
   goes_still (term.Scope i r I extra props level) proper =
       let head : ScopeHead = head_of cast i r I extra props level in
       let P : Process = process.ScopeLead head (others cast r (term.Scope i r I extra props level)) (projected cast I r) in
       inr (r, act.Scope i, proper.in_cast r (or_left (role_eq r r || is_in r I) (member r extra) (or_left (role_eq r r) (is_in r I) (role_itself r))),
         along r P (projected cast (term.Scope i r I extra props level) r) (act.Scope i) (sym (cond-true (role_eq r r) P _ (role_itself r)))
-          (can_choose mails decide r (stores r) head (others cast r (term.Scope i r I extra props level)) (projected cast I r)))
+          (can_choose mails (decide r) r (stores r) head (others cast r (term.Scope i r I extra props level)) (projected cast I r)))
 
   -- the leader's first message of a construct
   tells_first : (k : Kind) (phases : Phases) (P : Process) (x : Role) (rest : List Role) → untold cast k phases ≡ x ∷ rest
       → CanHere (leader k) (leads cast k phases P) (act.Put (telling_key k x))
   tells_first (Branch i r g I J b) phases P x rest h =
-      can_first mails decide r (stores r) (tell r (untold cast (Branch i r g I J b) phases) i Choice (λ q. Flag b)) P (act.Put (key r x i Choice))
-        (can_tell mails decide r (stores r) r (untold cast (Branch i r g I J b) phases) i Choice (λ q. Flag b) x rest h)
+      can_first mails (decide r) r (stores r) (tell r (untold cast (Branch i r g I J b) phases) i Choice (λ q. Flag b)) P (act.Put (key r x i Choice))
+        (can_tell mails (decide r) r (stores r) r (untold cast (Branch i r g I J b) phases) i Choice (λ q. Flag b) x rest h)
   tells_first (Turning i r g I) phases P x rest h =
-      can_first mails decide r (stores r) (tell r (untold cast (Turning i r g I) phases) i Go (λ q. Flag true))
+      can_first mails (decide r) r (stores r) (tell r (untold cast (Turning i r g I) phases) i Go (λ q. Flag true))
         (process.Seq P (process.Seq (gather r (ungone cast (Turning i r g I) phases) i Turn) (projected cast (term.While i r g I) r))) (act.Put (key r x i Go))
-        (can_tell mails decide r (stores r) r (untold cast (Turning i r g I) phases) i Go (λ q. Flag true) x rest h)
-  tells_first (Stopping i r g I) phases P x rest h = can_tell mails decide r (stores r) r (untold cast (Stopping i r g I) phases) i Go (λ q. Flag false) x rest h
+        (can_tell mails (decide r) r (stores r) r (untold cast (Turning i r g I) phases) i Go (λ q. Flag true) x rest h)
+  tells_first (Stopping i r g I) phases P x rest h = can_tell mails (decide r) r (stores r) r (untold cast (Stopping i r g I) phases) i Go (λ q. Flag false) x rest h
   tells_first (Scoped i r I extra props level begin B) phases P x rest h =
       let k : Kind = Scoped i r I extra props level begin B in
-      can_first mails decide r (stores r) (tell r (untold cast k phases) i Begin begin)
+      can_first mails (decide r) r (stores r) (tell r (untold cast k phases) i Begin begin)
         (process.Seq P (process.Seq (gather r (ungone cast k phases) i End) (tell r (others cast r (term.Scope i r I extra props level)) i Out (λ q. Done)))) (act.Put (key r x i Begin))
-        (can_tell mails decide r (stores r) r (untold cast k phases) i Begin begin x rest h)
+        (can_tell mails (decide r) r (stores r) r (untold cast k phases) i Begin begin x rest h)
   tells_first (Releasing i r I extra props level) phases P x rest h =
-      can_tell mails decide r (stores r) r (untold cast (Releasing i r I extra props level) phases) i Out (λ q. Done) x rest h
+      can_tell mails (decide r) r (stores r) r (untold cast (Releasing i r I extra props level) phases) i Out (λ q. Done) x rest h
 
   -- the leader's own part, once all are told
   leader_runs : (k : Kind) (phases : Phases) (M : Mark) → Fine cast (Held k phases M) → untold cast k phases ≡ [] → (a : Act)
       → CanHere (leader k) (place cast M (leader k)) a → CanHere (leader k) (leads cast k phases (place cast M (leader k))) a
   leader_runs (Branch i r g I J b) phases M fine told_all a can =
-      can_second mails decide r (stores r) (tell r (untold cast (Branch i r g I J b) phases) i Choice (λ q. Flag b)) (place cast M r) a
+      can_second mails (decide r) r (stores r) (tell r (untold cast (Branch i r g I J b) phases) i Choice (λ q. Flag b)) (place cast M r) a
         (tell_done r (untold cast (Branch i r g I J b) phases) i Choice (λ q. Flag b) told_all) can
   leader_runs (Turning i r g I) phases M fine told_all a can =
       let rest : Process = process.Seq (gather r (ungone cast (Turning i r g I) phases) i Turn) (projected cast (term.While i r g I) r) in
-      can_second mails decide r (stores r) (tell r (untold cast (Turning i r g I) phases) i Go (λ q. Flag true)) (process.Seq (place cast M r) rest) a
-        (tell_done r (untold cast (Turning i r g I) phases) i Go (λ q. Flag true) told_all) (can_first mails decide r (stores r) (place cast M r) rest a can)
+      can_second mails (decide r) r (stores r) (tell r (untold cast (Turning i r g I) phases) i Go (λ q. Flag true)) (process.Seq (place cast M r) rest) a
+        (tell_done r (untold cast (Turning i r g I) phases) i Go (λ q. Flag true) told_all) (can_first mails (decide r) r (stores r) (place cast M r) rest a can)
   leader_runs (Stopping i r g I) phases M fine told_all a can =
       absurd (idle r (place cast M r) a can (held_inside cast (Stopping i r g I) phases M r fine
         (ap ended (place_leader cast (Stopping i r g I) phases M r refl) ∙ tell_done r (untold cast (Stopping i r g I) phases) i Go (λ q. Flag false) told_all)))
   leader_runs (Scoped i r I extra props level begin B) phases M fine told_all a can =
       let k : Kind = Scoped i r I extra props level begin B in
       let rest : Process = process.Seq (gather r (ungone cast k phases) i End) (tell r (others cast r (term.Scope i r I extra props level)) i Out (λ q. Done)) in
-      can_second mails decide r (stores r) (tell r (untold cast k phases) i Begin begin) (process.Seq (place cast M r) rest) a
-        (tell_done r (untold cast k phases) i Begin begin told_all) (can_first mails decide r (stores r) (place cast M r) rest a can)
+      can_second mails (decide r) r (stores r) (tell r (untold cast k phases) i Begin begin) (process.Seq (place cast M r) rest) a
+        (tell_done r (untold cast k phases) i Begin begin told_all) (can_first mails (decide r) r (stores r) (place cast M r) rest a can)
   leader_runs (Releasing i r I extra props level) phases M fine told_all a can =
       let k : Kind = Releasing i r I extra props level in
       absurd (idle r (place cast M r) a can (held_inside cast k phases M r fine
@@ -217,12 +217,12 @@ module _ (cast : List Role) (stores : Role → Store) (mails : Key → Option Lo
       → CanHere q (place cast M q) a → CanHere q (inside cast k q (place cast M q)) a
   inside_runs (Branch i r g I J b) phases M fine q other at a can = can
   inside_runs (Turning i r g I) phases M fine q other at a can =
-      can_first mails decide q (stores q) (place cast M q) (process.Seq (send_one (key q r i Turn) Done) (projected cast (term.While i r g I) q)) a can
+      can_first mails (decide q) q (stores q) (place cast M q) (process.Seq (send_one (key q r i Turn) Done) (projected cast (term.While i r g I) q)) a can
   inside_runs (Stopping i r g I) phases M fine q other at a can =
       absurd (idle q (place cast M q) a can (held_inside cast (Stopping i r g I) phases M q fine
         (ap ended (place_follower cast (Stopping i r g I) phases M q other ∙ ap (λ p. follows cast (Stopping i r g I) q p (place cast M q)) at))))
   inside_runs (Scoped i r I extra props level begin B) phases M fine q other at a can =
-      can_first mails decide q (stores q) (place cast M q) (process.Seq (send_one (key q r i End) Done) (process.Gather (key r q i Out ∷ []))) a can
+      can_first mails (decide q) q (stores q) (place cast M q) (process.Seq (send_one (key q r i End) Done) (process.Gather (key r q i Out ∷ []))) a can
   inside_runs (Releasing i r I extra props level) phases M fine q other at a can =
       let k : Kind = Releasing i r I extra props level in
       absurd (idle q (place cast M q) a can (held_inside cast k phases M q fine
@@ -250,7 +250,7 @@ module _ (cast : List Role) (stores : Role → Store) (mails : Key → Option Lo
     goes_told x at =
         let who = fine.1.known x (ap waits at) in
         goes_follower x who.0 who.1 Told at (act.Take (telling_key k x))
-          (can_hear mails decide x (stores x) cast k fine.1.begins who.0 who.1
+          (can_hear mails (decide x) x (stores x) cast k fine.1.begins who.0 who.1
             (own_given mails k phases M fine.1.own agrees (telling_key k x) refl ∙ from_leader k phases x (tag k)
               ∙ ap (λ p. opened (letter k x p) (telling_key k x)) at ∙ told_opened k x))
 
@@ -307,9 +307,9 @@ module _ (cast : List Role) (stores : Role → Store) (mails : Key → Option Lo
               let S : Process = send_one (backing_key k t x) Done in
               inr (goes_follower x who.0 who.1 Inside (inside_at (phases x) found.1) A
                 (along x (process.Seq (place cast M x) (process.Seq S (outside cast k x))) (inside cast k x (place cast M x)) A (sym (form_inside x (place cast M x)))
-                  (can_second mails decide x (stores x) (place cast M x) (process.Seq S (outside cast k x)) A (over x)
-                    (can_first mails decide x (stores x) S (outside cast k x) A
-                      (can_tell mails decide x (stores x) x (r ∷ []) (index k) t (λ y. Done) r [] refl))))))
+                  (can_second mails (decide x) x (stores x) (place cast M x) (process.Seq S (outside cast k x)) A (over x)
+                    (can_first mails (decide x) x (stores x) S (outside cast k x) A
+                      (can_tell mails (decide x) x (stores x) x (r ∷ []) (index k) t (λ y. Done) r [] refl))))))
             (λ none.
               let late : (q : Role) → role_eq q r ≡ false → is_in q (whole k) ≡ true → is_late (phases q) ≡ true =
                 λ q other in_it. ⊎_elim
@@ -323,10 +323,10 @@ module _ (cast : List Role) (stores : Role → Store) (mails : Key → Option Lo
                   let at : phases x ≡ Sent = sent_at (phases x) (late x head.1 head.2) head.0 in
                   inr (goes_leader A
                     (along r (process.Seq T (process.Seq P (process.Seq G tail))) (leads cast k phases P) A (sym (form P))
-                      (can_second mails decide r (stores r) T (process.Seq P (process.Seq G tail)) A (tell_done r (untold cast k phases) (index k) (tag k) (told k) told_all)
-                        (can_second mails decide r (stores r) P (process.Seq G tail) A (over r)
-                          (can_first mails decide r (stores r) G tail A
-                            (can_gather mails decide r (stores r) r (ungone cast k phases) (index k) t x first.1 Done first.2
+                      (can_second mails (decide r) r (stores r) T (process.Seq P (process.Seq G tail)) A (tell_done r (untold cast k phases) (index k) (tag k) (told k) told_all)
+                        (can_second mails (decide r) r (stores r) P (process.Seq G tail) A (over r)
+                          (can_first mails (decide r) r (stores r) G tail A
+                            (can_gather mails (decide r) r (stores r) r (ungone cast k phases) (index k) t x first.1 Done first.2
                               (own_given mails k phases M fine.1.own agrees (backing_key k t x) refl ∙ to_leader k phases x t head.1
                                 ∙ ap (λ p. opened (letter k x p) (backing_key k t x)) at ∙ sent_opened backs x))))))))
                 (λ gathered. goes_tail gathered late)
@@ -352,9 +352,9 @@ module _ (cast : List Role) (stores : Role → Store) (mails : Key → Option Lo
       let W : Process = projected cast (term.While i r g I) r in
       goes_backed k phases M fine agrees told_all quiet Turn turn_backs W (λ Q. refl) (λ q Q. refl) over
         (λ gathered late. inr (goes_leader k phases M fine agrees (act.Pick i)
-          (can_second mails decide r (stores r) T (process.Seq P (process.Seq G W)) (act.Pick i) (tell_done r (untold cast k phases) i Go (λ q. Flag true) told_all)
-            (can_second mails decide r (stores r) P (process.Seq G W) (act.Pick i) (over r)
-              (can_second mails decide r (stores r) G W (act.Pick i) (gather_done r (ungone cast k phases) i Turn gathered) (picks_turn i r g I))))))
+          (can_second mails (decide r) r (stores r) T (process.Seq P (process.Seq G W)) (act.Pick i) (tell_done r (untold cast k phases) i Go (λ q. Flag true) told_all)
+            (can_second mails (decide r) r (stores r) P (process.Seq G W) (act.Pick i) (over r)
+              (can_second mails (decide r) r (stores r) G W (act.Pick i) (gather_done r (ungone cast k phases) i Turn gathered) (picks_turn i r g I))))))
   goes_over (Stopping i r g I) phases M fine agrees told_all quiet over =
       let k : Kind = Stopping i r g I in
       inl (held_over k phases M fine agrees (tell_done r (untold cast k phases) i Go (λ q. Flag false) told_all)
@@ -373,10 +373,10 @@ module _ (cast : List Role) (stores : Role → Store) (mails : Key → Option Lo
         (λ gathered late. ⊎_elim
           (λ first. let A : Act = act.Put (key r first.0 i Out) in
             inr (goes_leader k phases M fine agrees A
-              (can_second mails decide r (stores r) T (process.Seq P (process.Seq G O)) A (tell_done r (untold cast k phases) i Begin begin told_all)
-                (can_second mails decide r (stores r) P (process.Seq G O) A (over r)
-                  (can_second mails decide r (stores r) G O A (gather_done r (ungone cast k phases) i End gathered)
-                    (can_tell mails decide r (stores r) r qs i Out (λ q. Done) first.0 first.1 first.2))))))
+              (can_second mails (decide r) r (stores r) T (process.Seq P (process.Seq G O)) A (tell_done r (untold cast k phases) i Begin begin told_all)
+                (can_second mails (decide r) r (stores r) P (process.Seq G O) A (over r)
+                  (can_second mails (decide r) r (stores r) G O A (gather_done r (ungone cast k phases) i End gathered)
+                    (can_tell mails (decide r) r (stores r) r qs i Out (λ q. Done) first.0 first.1 first.2))))))
           (λ alone. inl (held_over k phases M fine agrees
             (and_from (ended T) (ended P && (ended G && ended O)) (tell_done r (untold cast k phases) i Begin begin told_all)
               (and_from (ended P) (ended G && ended O) (over r)
@@ -410,7 +410,7 @@ module _ (cast : List Role) (stores : Role → Store) (mails : Key → Option Lo
       inr (b, act.Take j, fine.in_cast b (or_right (role_eq b a) (role_eq b b) (role_itself b)),
         along b (process.Recv i o a x) (place cast (Flying i o a e b x v) b) (act.Take j)
           (sym (cond-false (role_eq b a) process.Skip _ (role_swap a b fine.no_self) ∙ cond-true (role_eq b b) (process.Recv i o a x) process.Skip (role_itself b)))
-          (can_receive mails decide b (stores b) i o a x v (agrees j refl ∙ cond-true (key_eq j j) (Some (Val v)) None (key_itself j))))
+          (can_receive mails (decide b) b (stores b) i o a x v (agrees j refl ∙ cond-true (key_eq j j) (Some (Val v)) None (key_itself j))))
 
   goes_mark : (M : Mark) → Fine cast M → Agrees mails M → Outcome M
   goes_mark (Still I) fine agrees = goes_still I fine
@@ -426,12 +426,12 @@ module _ (cast : List Role) (stores : Role → Store) (mails : Key → Option Lo
 
 -- each role has ended, or a role of the cast offers an act that it can do
 module _ (cast : List Role) (stores : Role → Store) where
-  pub goes : (M : Mark) → Fine cast M → (mails : Key → Option Load) (decide : ScopeHead → Decision) → Agrees mails M
+  pub goes : (M : Mark) → Fine cast M → (mails : Key → Option Load) (decide : Role → ScopeHead → Decision) → Agrees mails M
       → ((q : Role) → ended (place cast M q) ≡ true)
         ⊎ ((q : Role) × (a : Act) × (d : Deed) × (P : Process) × (member q cast ≡ true) × (is_offered a (offers q (place cast M q)) ≡ true)
-          × (step q (stores q) (place cast M q) a (given_by mails decide a) ≡ Does d P))
+          × (step q (stores q) (place cast M q) a (given_by mails (decide q) a) ≡ Does d P))
   goes M fine mails decide agrees = ⊎_elim
       (λ over. inl over)
       (λ go. inr (go.0, go.1, go.3.0, go.3.1, go.2,
-        step_offered go.0 (stores go.0) (place cast M go.0) go.1 (given_by mails decide go.1) go.3.2, go.3.2))
+        step_offered go.0 (stores go.0) (place cast M go.0) go.1 (given_by mails (decide go.0) go.1) go.3.2, go.3.2))
       (goes_mark cast stores mails decide M fine agrees)

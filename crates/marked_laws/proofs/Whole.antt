@@ -1,5 +1,5 @@
 -- The laws of the network, from what holds of the steps of marks.
-use Rattle.std.proofs.Common.{◌≡◌, ◌⊎◌, ◌≤◌, ℕ, suc, List, [], ◌∷◌, map, Bool, true, false, ◌&&◌, ◌||◌, not, filter, if◌then◌else◌, Option, Some, None, IfSome, option_and_then, refl, sym, ap, ap₂, ◌∙◌, subst, inl, inr, ⊎_elim, arith}
+use Rattle.std.proofs.Common.{◌≡◌, ◌⊎◌, ◌≤◌, ℕ, suc, List, [], ◌∷◌, map, Bool, true, false, ◌&&◌, ◌||◌, not, filter, if◌then◌else◌, Option, Some, None, IsSome, refl, sym, ap, ap₂, ◌∙◌, subst, inl, inr, ⊎_elim, arith}
 use Rattle.std.specs.List.{list_all, list_any}
 use Rattle.std.proofs.lemmas.Bool.{and_parts, and_from, or_parts, cases_Bool, cond-true, cond-false, both_ways, false_from_ne_true, not_from_true, not_from_false}
 use Rattle.dioc_terms.specs.declared.names.Role.{Role}
@@ -11,16 +11,18 @@ use Rattle.dioc_terms.specs.declared.bundles.Bundle.{Bundle}
 use Rattle.dioc_terms.specs.Equality.{role_eq, key_eq, member}
 use Rattle.dioc_terms.specs.Messages.{is_aux, doer, visible}
 use Rattle.dioc_terms.specs.Processes as process
-use Rattle.dioc_terms.specs.Processes.{Load}
+use Rattle.dioc_terms.specs.Processes.{Process, Load}
+use Rattle.dioc_terms.specs.Moves.{Move, Does}
+use Rattle.dioc_terms.specs.declared.entries.Act.{Act}
 use Rattle.dioc_terms.specs.Stores.{Store}
 use Rattle.dioc_terms.specs.Terms as term
 use Rattle.dioc_terms.specs.Terms.{Term, is_in, distinct_roles, term as term_of}
 use Rattle.projection.specs.Projection.{projected}
-use Rattle.dpoc_process.specs.Steps.{Deed, ended, entry_of}
+use Rattle.dpoc_process.specs.Steps.{Deed, Decision, ended, is_offered, step}
 use Rattle.global_steps.specs.Running as running
-use Rattle.global_steps.specs.Follow.{Answer, State, play}
-use Rattle.marked_laws.specs.Laws.{IsSound, Simulation, Settlement, UniqueKeys, NothingLeft, distinct_keys, taken_keys}
-use Rattle.marked_laws.specs.Network.{Network, no_message, network_start, network_run, network_ended, run_from}
+use Rattle.global_steps.specs.Follow.{answer_of, play}
+use Rattle.marked_laws.specs.Laws.{IsSound, Simulation, Settlement, UniqueKeys, Progress, NothingLeft, distinct_keys, taken_keys}
+use Rattle.marked_laws.specs.Network.{Network, decision, given_at, pending_at, no_message, network_start, network_run, network_ended, run_from}
 use Rattle.marked_laws.proofs.Choices.{cast_unique, sound_answers}
 use Rattle.marked_laws.proofs.Constructs.{Kind, Phases, leader, whole, follows}
 use Rattle.marked_laws.proofs.Ends.{place_follower, all_over, no_mail}
@@ -28,8 +30,11 @@ use Rattle.marked_laws.proofs.Equality.{key_itself}
 use Rattle.marked_laws.proofs.Gates.{outsider, outsider_waits, before_out, leader_in}
 use Rattle.marked_laws.proofs.Keys.{few_takes}
 use Rattle.marked_laws.proofs.Mark.{Mark, Still, Flying, Over, First, Second, Both, Held, Spent, run, mail, At, place, Fine}
-use Rattle.marked_laws.proofs.Norm.{ended_alike, offers_alike}
-use Rattle.marked_laws.proofs.Pending.{loads, queued, no_loads, pending_distinct}
+use Rattle.marked_laws.proofs.Norm.{ended_alike, offers_alike, alike_step}
+use Rattle.marked_laws.proofs.Pending.{loads, queued, no_loads, pending_is, pending_distinct}
+use Rattle.marked_laws.proofs.Goes.{goes}
+use Rattle.marked_laws.proofs.MarkSteps.{given_by}
+use Rattle.marked_laws.proofs.Networks.{deed_outcome, given_same}
 use Rattle.marked_laws.proofs.Premise.{all_member, proper_text, text_epoch, in_cast_of}
 use Rattle.marked_laws.proofs.Proper.{Proper, Within}
 use Rattle.marked_laws.proofs.Settlements.{runs_settled}
@@ -96,10 +101,39 @@ unique_keys b H N sound h =
     let parts = explained b H N sound h in (
       pending_distinct N.pending (λ k. (mail parts.0 k, (parts.1).mails k)),
       λ q. ap (λ acts. distinct_keys (taken_keys acts)) (offers_alike q (N.processes q) (place b.cast parts.0 q) ((parts.1).places q))
-        ∙ few_takes b.cast (cast_unique b sound) parts.0 (parts.1).fine q,
+        ∙ few_takes b.cast parts.0 (parts.1).fine q,
     )
 
 pub nothing_left : NothingLeft
 nothing_left b H N sound h all =
     let parts = explained b H N sound h in
     no_loads N.pending (λ k. (parts.1).mails k ∙ ap queued (no_mail b.cast parts.0 (parts.1).fine (all_roles b.cast N parts.0 parts.1 all) k))
+
+outcome_some : (N : Network) (r : Role) (m : Move Deed Process) (d : Deed) (P : Process) → m ≡ Does d P → IsSome (deed_outcome N r m)
+outcome_some N r m d P h = subst (λ x. IsSome (deed_outcome N r x)) (sym h) refl
+
+pub progress : Progress
+progress b H N sound h not_ended =
+    let parts = explained b H N sound h in
+    let M : Mark = parts.0 in
+    let marks = parts.1 in
+    let mails : Key → Option Load = λ k. pending_at k N.pending in
+    let decide : Role → ScopeHead → Decision = λ r head. decision b.cast N.updates head (answer_of b.rules N.book head (N.stores r)) in
+    ⊎_elim
+      (λ over. absurd (both_ways (network_ended b N) not_ended
+        (and_from (list_all (λ q. ended (N.processes q)) b.cast) (no_message N.pending)
+          (all_pass (λ q. ended (N.processes q)) b.cast (λ q. ended_alike (N.processes q) (place b.cast M q) (marks.places q) ∙ over q))
+          (ap no_message (no_loads N.pending (λ k. marks.mails k ∙ ap queued (no_mail b.cast M marks.fine over k)))))))
+      (λ go.
+        let q : Role = go.0 in
+        let a : Act = go.1 in
+        let alike = alike_step q (N.stores q) a (given_by mails (decide q) a) (place b.cast M q) (N.processes q) (sym (marks.places q)) go.6 in
+        record { role = q; act = a; in_cast = go.4;
+          offered = ap (is_offered a) (offers_alike q (N.processes q) (place b.cast M q) (marks.places q)) ∙ go.5;
+          defined = outcome_some N q (step q (N.stores q) (N.processes q) a (given_at b N q a)) go.2 alike.0
+            (ap (step q (N.stores q) (N.processes q) a) (given_same b N q a) ∙ alike.1) })
+      (goes b.cast N.stores M marks.fine mails decide (λ j at. pending_is j N.pending (mail M j) (marks.mails j)))
+  where
+  all_pass : (f : Role → Bool) (rs : List Role) → ((q : Role) → f q ≡ true) → list_all f rs ≡ true
+  all_pass f [] h = refl
+  all_pass f (r ∷ rs) h = and_from (f r) (list_all f rs) (h r) (all_pass f rs h)

@@ -1,2 +1,6 @@
 mod ExampleRuns
 pub mod Examples
+pub mod Interaction
+pub mod NetLemmas
+pub mod RefusalLemmas
+pub mod RunLemmas

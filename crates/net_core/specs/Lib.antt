@@ -1,2 +1,4 @@
+pub mod Net
 pub mod Refusals
+pub mod Runs
 pub mod Schedule

@@ -2,7 +2,11 @@
 #![tactic(auto)]
 
 mod moves;
+mod network;
 mod refusals;
+mod runs;
 
 pub use moves::{Finish, Move, StepFault};
-pub use refusals::{Refusal, Where, Which};
+pub use network::Net;
+pub use refusals::{Refusal, Where, Which, accept};
+pub use runs::run_first;

@@ -1,6 +1,9 @@
 //! What a network may do next, and how a run finishes.
 
-use dioc_terms::{Act, Role};
+ghost use Rattle.std.specs.Prelude.{◌≡◌};
+
+use dioc_terms::{Act, Memory, Role};
+use std::alloc::AllocFailed;
 
 /// One move of a network: the script's next change, or an act of a role.
 #[derive(Debug, Drop)]
@@ -29,4 +32,24 @@ pub enum StepFault {
     NotYet,
     /// Memory ran out.
     Memory,
+}
+
+impl From<Memory> for StepFault {
+    ghost use Rattle.net_core.specs.declared.moves.StepFault.TheVariants as fault;
+
+    ghost from_gives = { λ _ e. e ≡ fault.Memory };
+
+    fn from(_: Memory) -> Self {
+        StepFault::Memory
+    }
+}
+
+impl<T: Drop> From<AllocFailed<T>> for StepFault {
+    ghost use Rattle.net_core.specs.declared.moves.StepFault.TheVariants as fault;
+
+    ghost from_gives = { λ _ e. e ≡ fault.Memory };
+
+    fn from(_: AllocFailed<T>) -> Self {
+        StepFault::Memory
+    }
 }

@@ -1,0 +1,12 @@
+-- the bytes before `done` were taken
+use Rattle.std.proofs.Common.{◌-◌, ◌≤◌, length, take}
+use Rattle.std.specs.Io.KnownBytes.{Appends}
+use Rattle.aioc_io.proofs.sink.write_all.Given as goal
+
+abbrev pub invariant-loop-done : goal.invariant-loop-done
+invariant-loop-done g l =
+    (l.done ≤ length l.bytes) × Appends (g.O.Sink.taken l.initial.out) (g.O.Sink.taken l.out) (take l.done l.bytes)
+    × (g.O.Sink.faults l.initial.out ≤ g.O.Sink.faults l.out)
+
+abbrev pub decreases-loop-done : goal.decreases-loop-done
+decreases-loop-done g l = length l.bytes - l.done

@@ -1,0 +1,22 @@
+-- What a contract sees of a source and a sink in memory.
+use Rattle.std.specs.Prelude.{ℕ, List}
+use Rattle.aioc_io.specs.declared.memory.MemSource.{MemSource}
+use Rattle.aioc_io.specs.declared.memory.MemSink.{MemSink}
+use Rattle.aioc_io.specs.declared.plan.Plan.{Plan}
+use Rattle.aioc_io.specs.Sure.{bytes_left}
+
+-- which calls of the source fail
+abbrev pub source_plan : MemSource → Plan
+source_plan source = source.plan
+
+-- the bytes that the source has left
+abbrev pub bytes_to_read : MemSource → List ℕ
+bytes_to_read source = bytes_left source.inner
+
+-- which calls of the sink fail
+abbrev pub sink_plan : MemSink → Plan
+sink_plan sink = sink.plan
+
+-- the bytes that the sink took
+abbrev pub bytes_taken : MemSink → List ℕ
+bytes_taken sink = sink.taken.items

@@ -1,0 +1,7 @@
+-- What a sink took.
+use Rattle.std.specs.Prelude.{ℕ, ◌<◌, List, length, take, Option}
+use Rattle.std.specs.Io.KnownBytes.{Appends}
+
+-- the bytes were taken up to a place before their end, and none after it
+abbrev pub TakesPart : Option (List ℕ) → Option (List ℕ) → List ℕ → Type 0
+TakesPart before after bytes = (count : ℕ) × (count < length bytes) × Appends before after (take count bytes)

@@ -1,0 +1,15 @@
+pub mod Firsts
+pub mod Blanks
+pub mod Runs
+pub mod Quotes
+pub mod Spellings
+pub mod Symbols
+pub mod Walk
+pub mod Order
+pub mod Unique
+pub mod Values
+pub mod Looks
+pub mod Written
+pub mod Every
+pub mod Readings
+pub mod Places

@@ -1,0 +1,70 @@
+-- The longest symbol of at most two bytes.
+use Rattle.std.proofs.Common.{◌≡◌, ℕ, zero, suc, ◌+◌, ◌<◌, ◌≤◌, Bool, true, false, ◌||◌, List, [], ◌∷◌, length, get_or, take, drop, Option, Some, None, is_some, refl, ap, sym, ◌∙◌, subst, arith, length-take-le}
+use Rattle.std.specs.Char.{is_ascii_alphabetic, is_ascii_digit}
+use Rattle.std.proofs.lemmas.Bool.Decides.{nat_tests}
+use Rattle.aioc_tokens.specs.declared.kinds.Kind.{Kind}
+use Rattle.aioc_tokens.specs.declared.kinds.Kind.TheVariants.{Symbol}
+use Rattle.aioc_tokens.specs.declared.words.Mark.{Mark}
+use Rattle.aioc_tokens.specs.declared.words.Mark.TheVariants.{LeftBrace, RightBrace}
+use Rattle.aioc_tokens.specs.Words.{mark_spelling, mark_of}
+use Rattle.aioc_tokens.specs.Tokens.{Spells, IsFront, IsLongestToken, BeginsComment}
+use Rattle.aioc_tokens.proofs.Firsts.{front_first, same_kind}
+use Rattle.aioc_tokens.proofs.Spellings.{mark_found, mark_of_spelled}
+
+pub mark_short : (mark : Mark) → length (mark_spelling mark) ≤ 2
+mark_short LeftBrace = omega arith
+mark_short RightBrace = omega arith
+mark_short _ = omega arith
+
+some_mark : (found : Option Mark) → is_some found ≡ true → (mark : Mark) × (found ≡ Some mark)
+some_mark None some = absurd cc
+some_mark (Some mark) some = (mark, refl)
+
+-- a front that is found in the table is a symbol, and no other is
+pub symbol_found : (text : List ℕ) (count : ℕ) → count ≤ length text → is_some (mark_of (take count text)) ≡ true → IsFront text Symbol count
+symbol_found text count within some =
+    let (mark, found) = some_mark (mark_of (take count text)) some in
+    record { within = within; spells = (mark, mark_of_spelled (take count text) mark found) }
+
+pub symbol_in_table : (text : List ℕ) (count : ℕ) → IsFront text Symbol count → is_some (mark_of (take count text)) ≡ true
+symbol_in_table text count front = ap is_some (ap mark_of front.spells.1 ∙ mark_found front.spells.0)
+
+module _ (text : List ℕ) where
+  symbol_short : (count : ℕ) → IsFront text Symbol count → count ≤ 2
+  symbol_short count front =
+      let mark = front.spells.0 in
+      let size : count ≡ length (mark_spelling mark) = sym (length-take-le count text front.within) ∙ ap length front.spells.1 in
+      omega (arith, mark_short mark)
+
+  -- two bytes that are a symbol are the longest token
+  pub two_longest : IsFront text Symbol 2 → (¬ BeginsComment text) → IsLongestToken text Symbol 2
+  two_longest front no_comment = record {
+    front = front;
+    longest = λ other more that.
+        let same = same_kind text Symbol other 2 more front that in
+        symbol_short more (subst (λ kind. IsFront text kind more) (sym same) that);
+    no_comment = no_comment;
+  }
+
+  -- one byte that is a symbol is the longest token where two bytes are none
+  pub one_longest : IsFront text Symbol 1 → (¬ IsFront text Symbol 2) → (¬ BeginsComment text) → IsLongestToken text Symbol 1
+  one_longest front no_two no_comment = record {
+    front = front;
+    longest = λ other more that.
+        let same = same_kind text Symbol other 1 more front that in
+        below more (subst (λ kind. IsFront text kind more) (sym same) that);
+    no_comment = no_comment;
+  }
+    where
+      below : (more : ℕ) → IsFront text Symbol more → more ≤ 1
+      below zero that = omega arith
+      below (suc zero) that = omega arith
+      below (suc (suc zero)) that = absurd (no_two that)
+      below (suc (suc (suc more))) that = absurd (omega (arith, symbol_short (suc (suc (suc more))) that))
+
+  -- where neither one byte nor two are a symbol there is none
+  pub no_symbol : (¬ IsFront text Symbol 1) → (¬ IsFront text Symbol 2) → (count : ℕ) → IsFront text Symbol count → ⊥
+  no_symbol no_one no_two zero front = absurd (omega (arith, (front_first text Symbol zero front).1))
+  no_symbol no_one no_two (suc zero) front = no_one front
+  no_symbol no_one no_two (suc (suc zero)) front = no_two front
+  no_symbol no_one no_two (suc (suc (suc more))) front = absurd (omega (arith, symbol_short (suc (suc (suc more))) front))

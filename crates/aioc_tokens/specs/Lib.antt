@@ -1,0 +1,7 @@
+pub mod Words
+pub mod Tokens
+pub mod Lexing
+pub mod Lexemes
+pub mod Fronts
+pub mod Spelling
+pub mod Laws

@@ -1,0 +1,203 @@
+// A text with its tokens, as the grammar sees it.
+ghost use Rattle.std.specs.Prelude.{◌≡◌, ◌≢◌, ℕ, ◌+◌, ◌^◌, ◌<◌, ◌≤◌, ◌∷◌, [], drop, length, slice_range, IfOk, IsTrue, ◌↔◌};
+ghost use Rattle.aioc_tokens.specs.declared.kinds.Kind.{Kind};
+ghost use Rattle.aioc_tokens.specs.Tokens.{Spells};
+ghost use Rattle.aioc_tokens.specs.Lexing.{Lexes, IsTokenOf, bytes_of, place_of};
+ghost use Rattle.aioc_tokens.specs.Lexemes.{lexeme, lexemes, sort_of, value_of, unescaped, Begins, HasSpelling};
+
+
+use std::alloc::{AllocError, Global};
+use std::marker::Model;
+
+use crate::kinds::{Kind, NAME_LIMIT, TEXT_LIMIT, Token};
+use crate::words::{Sort, find_mark, find_word};
+
+/// How many bytes the value of a text in quotes has.
+fn value_length(bytes: &[u8]) -> usize
+    requires { Spells Kind.Text bytes.now }
+    ensures { result ≡ length (value_of bytes.now) }
+{
+    let mut length = 0;
+    let mut paired = false;
+    for byte in &bytes[1..bytes.len() - 1] {
+        if *byte == b'\\' && !paired {
+            paired = true;
+        } else {
+            paired = false;
+            length += 1;
+        }
+    }
+    length
+}
+
+/// Whether the value of a text in quotes has at most 1,024 bytes.
+fn is_short(bytes: &[u8]) -> bool
+    requires { Spells Kind.Text bytes.now }
+    ensures { IsTrue result ↔ (length (value_of bytes.now) ≤ TEXT_LIMIT) }
+{
+    // A byte of the value takes at most two, so a longer text needn't be read.
+    bytes.len() <= 2 * TEXT_LIMIT + 2 && value_length(bytes) <= TEXT_LIMIT
+}
+
+/// The bytes of a token.
+fn bytes_of<'a>(bytes: &'a [u8], token: &Token) -> &'a [u8]
+    requires { IsTokenOf bytes.now token.now }
+    ensures value { result.now ≡ bytes_of bytes.now token.now }
+    ensures spells { Spells token.now.kind result.now }
+{
+    &bytes[token.start..token.end]
+}
+
+/// The value of a text in quotes.
+fn copied_value(alloc: Global, bytes: &[u8]) -> Result<Vec<u8>, AllocError>
+    requires { Spells Kind.Text bytes.now }
+    ensures { IfOk result (λ v. v.items ≡ value_of bytes.now) }
+{
+    let mut value = Vec::new(alloc);
+    let mut paired = false;
+    for byte in &bytes[1..bytes.len() - 1] {
+        if *byte == b'\\' && !paired {
+            paired = true;
+        } else {
+            paired = false;
+            value.push(*byte)?;
+        }
+    }
+    Ok(value)
+}
+
+fn sort_of(kind: Kind, bytes: &[u8]) -> Sort
+    requires { Spells kind bytes.now }
+    ensures { result ≡ sort_of (lexeme kind bytes.now ∷ []) }
+{
+    match kind {
+        Kind::Name => match find_word(bytes) {
+            Some(word) => Sort::Reserved(word),
+            None if bytes.len() <= NAME_LIMIT => Sort::Name,
+            None => Sort::Long,
+        },
+        Kind::Number => Sort::Number,
+        Kind::Text if is_short(bytes) => Sort::Text,
+        Kind::Text => Sort::Long,
+        Kind::Symbol => match find_mark(bytes) {
+            Some(mark) => Sort::Symbol(mark),
+            None => unreachable!(),
+        },
+    }
+}
+
+fn is_same(sort: Sort, other: Sort) -> bool
+    ensures { IsTrue result ↔ (sort ≡ other) }
+{
+    sort == other
+}
+
+/// Where the token at a place of the list begins, or the text's length where there is none: the byte that a fault of
+/// the grammar names.
+pub fn place(bytes: &[u8], tokens: &[Token], at: usize) -> usize
+    ensures { result ≡ place_of bytes.now tokens.now at }
+{
+    match tokens.get(at) {
+        Some(token) => token.start,
+        None => bytes.len(),
+    }
+}
+
+/// A text and its tokens, as the grammar sees them: a list of lexemes. To look at one takes no longer far from the
+/// front than near it.
+#[derive(Drop)]
+pub struct Lexed<'a> {
+    bytes: &'a [u8],
+    tokens: &'a [Token],
+}
+
+impl<'a> Model for Lexed<'a> {
+    ghost use Rattle.std.specs.Prelude.{List};
+    ghost use Rattle.aioc_tokens.specs.Lexing.{Lexes};
+    ghost use Rattle.aioc_tokens.specs.Lexemes.{Lexeme, lexemes};
+
+    ghost Value = { List Lexeme };
+
+    ghost view = { λ s. lexemes s.bytes.now s.tokens.now };
+
+    ghost invariant = { λ s. Lexes 0 s.bytes.now s.tokens.now };
+}
+
+impl<'a> Lexed<'a> {
+    ghost use Rattle.aioc_tokens.specs.Lexemes.{Lexeme};
+
+    /// The lexemes of a text whose tokens these are.
+    pub fn new(bytes: &'a [u8], tokens: &'a [Token]) -> Lexed<'a>
+        requires { Lexes 0 bytes.now tokens.now }
+        ensures { result ≡ lexemes bytes.now tokens.now }
+    {
+        Lexed { bytes, tokens }
+    }
+
+    /// How many lexemes there are.
+    pub fn len(&self) -> usize
+        ensures value { result ≡ length self.now }
+        ensures small { result < 2 ^ 63 }
+    {
+        self.tokens.len()
+    }
+
+    /// Whether there is no lexeme.
+    pub fn is_empty(&self) -> bool
+        ensures { IsTrue result ↔ (self.now ≡ []) }
+    {
+        self.tokens.is_empty()
+    }
+
+    /// The sort of the lexeme at this place, counted from 0.
+    pub fn sort(&self, at: usize) -> Sort
+        ensures value { result ≡ sort_of (drop at self.now) }
+        ensures within { result ≢ Sort.End → at < length self.now }
+        ensures small { length self.now < 2 ^ 63 }
+    {
+        match self.tokens.get(at) {
+            Some(token) => sort_of(token.kind, bytes_of(self.bytes, token)),
+            None => Sort::End,
+        }
+    }
+
+    /// Whether the lexemes from this place on are of these sorts, one after the other.
+    pub fn begins(&self, at: usize, sorts: &[Sort]) -> bool
+        ensures { IsTrue result ↔ Begins sorts.now (drop at self.now) }
+    {
+        for (place, sort) in sorts.iter().enumerate() {
+            // Past the greatest number there is no lexeme, as at it.
+            if !is_same(self.sort(at.saturating_add(place)), *sort) {
+                return false;
+            }
+        }
+        true
+    }
+
+    /// The bytes of the name at this place.
+    pub fn name(&self, at: usize) -> &'a [u8]
+        requires { sort_of (drop at self.now) ≡ Sort.Name }
+        ensures value { drop at self.now ≡ Lexeme.Name result.now ∷ drop (at + 1) self.now }
+        ensures valid { HasSpelling (Lexeme.Name result.now) }
+    {
+        bytes_of(self.bytes, &self.tokens[at])
+    }
+
+    /// The digits of the number at this place.
+    pub fn digits(&self, at: usize) -> &'a [u8]
+        requires { sort_of (drop at self.now) ≡ Sort.Number }
+        ensures value { drop at self.now ≡ Lexeme.Number result.now ∷ drop (at + 1) self.now }
+        ensures valid { HasSpelling (Lexeme.Number result.now) }
+    {
+        bytes_of(self.bytes, &self.tokens[at])
+    }
+
+    /// A copy of the value of the text at this place.
+    pub fn text(&self, alloc: Global, at: usize) -> Result<Vec<u8>, AllocError>
+        requires { sort_of (drop at self.now) ≡ Sort.Text }
+        ensures value { IfOk result (λ v. drop at self.now ≡ Lexeme.Text v.items ∷ drop (at + 1) self.now) }
+        ensures valid { IfOk result (λ v. HasSpelling (Lexeme.Text v.items)) }
+    {
+        copied_value(alloc, bytes_of(self.bytes, &self.tokens[at]))
+    }
+}

@@ -1,0 +1,193 @@
+//! The lines of a trace, and the text of a run.
+
+ghost use Rattle.std.specs.Prelude.{◌≡◌, ◌++◌, codes, OnOk, OnErr};
+ghost use Rattle.dioc_terms.specs.declared.entries.Entry.TheVariants as entry;
+ghost use Rattle.trace_text.specs.Appending.{KeepsFront};
+ghost use Rattle.trace_text.specs.Lines.{line, last_line, text, index_text, value_text};
+
+use crate::pieces::{
+    write_bytes, write_choice, write_index, write_key, write_note, write_number, write_truth,
+    write_value, write_variable,
+};
+use dioc_terms::{Chosen, Entry, Index, Last, Memory, Name, Role, Value};
+
+/// Appends the line of an entry, without a line end.
+///
+/// Where memory runs out, `out` is as it was.
+pub fn write_line(entry: &Entry, out: &mut Vec<u8>) -> Result<(), Memory>
+    ensures ok { OnOk result (out.new.items ≡ out.old.items ++ line entry.now) }
+    ensures memory { OnErr result (out.new.items ≡ out.old.items) }
+{
+    let start = out.len();
+    let written = write_entry(entry, out);
+    if written.is_err() {
+        out.truncate(start);
+    }
+    written
+}
+
+/// Appends the last line of a trace, without a line end.
+///
+/// Where memory runs out, `out` is as it was.
+pub fn write_last(last: &Last, out: &mut Vec<u8>) -> Result<(), Memory>
+    ensures ok { OnOk result (out.new.items ≡ out.old.items ++ last_line last.now) }
+    ensures memory { OnErr result (out.new.items ≡ out.old.items) }
+{
+    let start = out.len();
+    let written = write_end(last, out);
+    if written.is_err() {
+        out.truncate(start);
+    }
+    written
+}
+
+/// Appends the text of a run: the line of each entry and the last line, each with its line end.
+///
+/// Where memory runs out, `out` is as it was.
+pub fn write_text(entries: &[Entry], last: &Last, out: &mut Vec<u8>) -> Result<(), Memory>
+    ensures ok { OnOk result (out.new.items ≡ out.old.items ++ text entries.now last.now) }
+    ensures memory { OnErr result (out.new.items ≡ out.old.items) }
+{
+    let start = out.len();
+    let written = write_run(entries, last, out);
+    if written.is_err() {
+        out.truncate(start);
+    }
+    written
+}
+
+#[tactic(auto, using(crate::proofs::Fronts::front_of_front))]
+fn write_run(entries: &[Entry], last: &Last, out: &mut Vec<u8>) -> Result<(), Memory>
+    ensures ok { OnOk result (out.new.items ≡ out.old.items ++ text entries.now last.now) }
+    ensures memory { OnErr result (KeepsFront out.old.items out.new.items) }
+{
+    for entry in entries {
+        write_entry(entry, out)?;
+        write_bytes(b"\n", out)?;
+    }
+    write_end(last, out)?;
+    write_bytes(b"\n", out)
+}
+
+fn write_entry(entry: &Entry, out: &mut Vec<u8>) -> Result<(), Memory>
+    ensures ok { OnOk result (out.new.items ≡ out.old.items ++ line entry.now) }
+    ensures memory { OnErr result (KeepsFront out.old.items out.new.items) }
+{
+    match entry {
+        Entry::Put { key, note } => {
+            write_bytes(b"put ", out)?;
+            write_key(key, out)?;
+            write_bytes(b" = ", out)?;
+            write_note(note, out)
+        }
+        Entry::Take { key, var } => {
+            write_bytes(b"take ", out)?;
+            write_key(key, out)?;
+            write_variable(var, out)
+        }
+        Entry::Set {
+            index,
+            role,
+            var,
+            value,
+        } => {
+            write_bytes(b"set ", out)?;
+            write_setting(*index, role, var, value, out)
+        }
+        Entry::Input {
+            index,
+            role,
+            var,
+            value,
+        } => {
+            write_bytes(b"input ", out)?;
+            write_setting(*index, role, var, value, out)
+        }
+        Entry::Pick { index, role, flag } => write_pick(*index, role, *flag, out),
+        Entry::Scope {
+            index,
+            role,
+            chosen,
+        } => write_scope(*index, role, chosen, out),
+        Entry::Add { name } => {
+            write_bytes(b"add ", out)?;
+            write_bytes(name.bytes(), out)
+        }
+        Entry::Drop { name } => {
+            write_bytes(b"drop ", out)?;
+            write_bytes(name.bytes(), out)
+        }
+        Entry::Env { key, value } => write_environment(key, value, out),
+    }
+}
+
+/// What stands behind the word `set` or `input`, as `x@a #0.3 = 5`.
+fn write_setting(
+    index: Index,
+    role: &Role,
+    var: &Name,
+    value: &Value,
+    out: &mut Vec<u8>,
+) -> Result<(), Memory>
+    ensures ok { OnOk result (out.new.items ≡ out.old.items ++ (var.now ++ codes "@" ++ role.now.0
+        ++ codes " " ++ index_text index ++ codes " = " ++ value_text value.now)) }
+    ensures memory { OnErr result (KeepsFront out.old.items out.new.items) }
+{
+    write_bytes(var.bytes(), out)?;
+    write_bytes(b"@", out)?;
+    write_bytes(role.0.bytes(), out)?;
+    write_bytes(b" ", out)?;
+    write_index(index, out)?;
+    write_bytes(b" = ", out)?;
+    write_value(value, out)
+}
+
+fn write_pick(index: Index, role: &Role, flag: bool, out: &mut Vec<u8>) -> Result<(), Memory>
+    ensures ok { OnOk result (out.new.items ≡ out.old.items ++ line (entry.Pick index role.now flag)) }
+    ensures memory { OnErr result (KeepsFront out.old.items out.new.items) }
+{
+    write_bytes(b"pick ", out)?;
+    write_bytes(role.0.bytes(), out)?;
+    write_bytes(b" ", out)?;
+    write_index(index, out)?;
+    write_bytes(b" ", out)?;
+    write_truth(flag, out)
+}
+
+fn write_scope(index: Index, role: &Role, chosen: &Chosen, out: &mut Vec<u8>) -> Result<(), Memory>
+    ensures ok { OnOk result (out.new.items ≡ out.old.items ++ line (entry.Scope index role.now chosen.now)) }
+    ensures memory { OnErr result (KeepsFront out.old.items out.new.items) }
+{
+    write_bytes(b"scope ", out)?;
+    write_bytes(role.0.bytes(), out)?;
+    write_bytes(b" ", out)?;
+    write_index(index, out)?;
+    write_bytes(b" ", out)?;
+    write_choice(chosen, out)
+}
+
+fn write_environment(key: &Name, value: &Value, out: &mut Vec<u8>) -> Result<(), Memory>
+    ensures ok { OnOk result (out.new.items ≡ out.old.items ++ line (entry.Env key.now value.now)) }
+    ensures memory { OnErr result (KeepsFront out.old.items out.new.items) }
+{
+    write_bytes(b"env ", out)?;
+    write_bytes(key.bytes(), out)?;
+    write_bytes(b" = ", out)?;
+    write_value(value, out)
+}
+
+fn write_end(last: &Last, out: &mut Vec<u8>) -> Result<(), Memory>
+    ensures ok { OnOk result (out.new.items ≡ out.old.items ++ last_line last.now) }
+    ensures memory { OnErr result (KeepsFront out.old.items out.new.items) }
+{
+    match last {
+        Last::Ended(count) => {
+            write_bytes(b"ended ", out)?;
+            write_number(*count, out)
+        }
+        Last::Stopped(count) => {
+            write_bytes(b"stopped ", out)?;
+            write_number(*count, out)
+        }
+    }
+}

@@ -1,0 +1,163 @@
+//! The pieces of a line, each appended to the bytes written so far.
+//!
+//! Where memory runs out, a part of the piece may stand behind the old bytes.
+
+ghost use Rattle.std.specs.Prelude.{◌≡◌, ◌++◌, codes, decimal, OnOk, OnErr};
+ghost use Rattle.trace_text.specs.Appending.{KeepsFront};
+ghost use Rattle.trace_text.specs.Lines.{truth_text, integer_text, escaped_byte, quoted, value_text, index_text, tag_text, note_text, key_text, variable_text, choice_text};
+
+use dioc_terms::{Chosen, Index, Key, Memory, Name, Note, Tag, Value};
+use itoa::Buffer;
+
+pub fn write_bytes(bytes: &[u8], out: &mut Vec<u8>) -> Result<(), Memory>
+    ensures ok { OnOk result (out.new.items ≡ out.old.items ++ bytes.now) }
+    ensures memory { OnErr result (KeepsFront out.old.items out.new.items) }
+{
+    out.extend_from_slice(bytes)?;
+    Ok(())
+}
+
+pub fn write_number(number: u64, out: &mut Vec<u8>) -> Result<(), Memory>
+    ensures ok { OnOk result (out.new.items ≡ out.old.items ++ decimal number) }
+    ensures memory { OnErr result (KeepsFront out.old.items out.new.items) }
+{
+    let mut digits = Buffer::new();
+    write_bytes(digits.format(number).as_bytes(), out)
+}
+
+fn write_integer(number: i64, out: &mut Vec<u8>) -> Result<(), Memory>
+    ensures ok { OnOk result (out.new.items ≡ out.old.items ++ integer_text number) }
+    ensures memory { OnErr result (KeepsFront out.old.items out.new.items) }
+{
+    let mut digits = Buffer::new();
+    write_bytes(digits.format(number).as_bytes(), out)
+}
+
+pub fn write_truth(flag: bool, out: &mut Vec<u8>) -> Result<(), Memory>
+    ensures ok { OnOk result (out.new.items ≡ out.old.items ++ truth_text flag) }
+    ensures memory { OnErr result (KeepsFront out.old.items out.new.items) }
+{
+    if flag {
+        write_bytes(b"true", out)
+    } else {
+        write_bytes(b"false", out)
+    }
+}
+
+fn write_escaped(byte: u8, out: &mut Vec<u8>) -> Result<(), Memory>
+    ensures ok { OnOk result (out.new.items ≡ out.old.items ++ escaped_byte byte) }
+    ensures memory { OnErr result (KeepsFront out.old.items out.new.items) }
+{
+    if byte == b'"' || byte == b'\\' {
+        write_bytes(&[b'\\', byte], out)
+    } else {
+        write_bytes(&[byte], out)
+    }
+}
+
+#[tactic(auto, using(crate::proofs::Fronts::front_of_front))]
+pub fn write_quoted(bytes: &[u8], out: &mut Vec<u8>) -> Result<(), Memory>
+    ensures ok { OnOk result (out.new.items ≡ out.old.items ++ quoted bytes.now) }
+    ensures memory { OnErr result (KeepsFront out.old.items out.new.items) }
+{
+    write_bytes(b"\"", out)?;
+    for byte in bytes {
+        write_escaped(*byte, out)?;
+    }
+    write_bytes(b"\"", out)
+}
+
+pub fn write_value(value: &Value, out: &mut Vec<u8>) -> Result<(), Memory>
+    ensures ok { OnOk result (out.new.items ≡ out.old.items ++ value_text value.now) }
+    ensures memory { OnErr result (KeepsFront out.old.items out.new.items) }
+{
+    match value {
+        Value::Nil => write_bytes(b"nil", out),
+        Value::Bool(flag) => write_truth(*flag, out),
+        Value::Int(number) => write_integer(*number, out),
+        Value::Text(text) => write_quoted(text.bytes(), out),
+    }
+}
+
+pub fn write_index(index: Index, out: &mut Vec<u8>) -> Result<(), Memory>
+    ensures ok { OnOk result (out.new.items ≡ out.old.items ++ index_text index) }
+    ensures memory { OnErr result (KeepsFront out.old.items out.new.items) }
+{
+    write_bytes(b"#", out)?;
+    write_number(u64::from(index.epoch), out)?;
+    write_bytes(b".", out)?;
+    write_number(u64::from(index.place), out)
+}
+
+fn write_tag(tag: &Tag, out: &mut Vec<u8>) -> Result<(), Memory>
+    ensures ok { OnOk result (out.new.items ≡ out.old.items ++ tag_text tag.now) }
+    ensures memory { OnErr result (KeepsFront out.old.items out.new.items) }
+{
+    match tag {
+        Tag::Op(name) => write_bytes(name.bytes(), out),
+        Tag::Choice => write_bytes(b"!choice", out),
+        Tag::Go => write_bytes(b"!go", out),
+        Tag::Turn => write_bytes(b"!turn", out),
+        Tag::Begin => write_bytes(b"!begin", out),
+        Tag::End => write_bytes(b"!end", out),
+        Tag::Out => write_bytes(b"!out", out),
+    }
+}
+
+pub fn write_note(note: &Note, out: &mut Vec<u8>) -> Result<(), Memory>
+    ensures ok { OnOk result (out.new.items ≡ out.old.items ++ note_text note.now) }
+    ensures memory { OnErr result (KeepsFront out.old.items out.new.items) }
+{
+    match note {
+        Note::Val(value) => write_value(value, out),
+        Note::Flag(flag) => write_truth(*flag, out),
+        Note::Keep => write_bytes(b"keep", out),
+        Note::Part(epoch) => {
+            write_bytes(b"part ", out)?;
+            write_number(u64::from(*epoch), out)
+        }
+        Note::Done => write_bytes(b"done", out),
+    }
+}
+
+/// As `a -> b o#0.3`.
+pub fn write_key(key: &Key, out: &mut Vec<u8>) -> Result<(), Memory>
+    ensures ok { OnOk result (out.new.items ≡ out.old.items ++ key_text key.now) }
+    ensures memory { OnErr result (KeepsFront out.old.items out.new.items) }
+{
+    write_bytes(key.from.0.bytes(), out)?;
+    write_bytes(b" -> ", out)?;
+    write_bytes(key.to.0.bytes(), out)?;
+    write_bytes(b" ", out)?;
+    write_tag(&key.tag, out)?;
+    write_index(key.index, out)
+}
+
+/// The variable of a take, behind a space.
+pub fn write_variable(variable: &Option<Name>, out: &mut Vec<u8>) -> Result<(), Memory>
+    ensures ok { OnOk result (out.new.items ≡ out.old.items ++ variable_text variable.now) }
+    ensures memory { OnErr result (KeepsFront out.old.items out.new.items) }
+{
+    match variable {
+        None => Ok(()),
+        Some(name) => {
+            write_bytes(b" ", out)?;
+            write_bytes(name.bytes(), out)
+        }
+    }
+}
+
+pub fn write_choice(chosen: &Chosen, out: &mut Vec<u8>) -> Result<(), Memory>
+    ensures ok { OnOk result (out.new.items ≡ out.old.items ++ choice_text chosen.now) }
+    ensures memory { OnErr result (KeepsFront out.old.items out.new.items) }
+{
+    match chosen {
+        Chosen::Keep => write_bytes(b"keep", out),
+        Chosen::Rule { name, epoch } => {
+            write_bytes(b"rule ", out)?;
+            write_bytes(name.bytes(), out)?;
+            write_bytes(b" as ", out)?;
+            write_number(u64::from(*epoch), out)
+        }
+    }
+}
