@@ -4,6 +4,7 @@ pub mod CanStep
 pub mod Choices
 pub mod Constructs
 pub mod Ends
+pub mod Examples
 pub mod Equality
 pub mod Found
 pub mod FoundHeld
