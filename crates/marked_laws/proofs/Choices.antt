@@ -19,7 +19,7 @@ use Rattle.marked_laws.specs.Laws.{IsSound, IsSoundRule}
 use Rattle.marked_laws.specs.Network.{Network}
 use Rattle.marked_laws.proofs.MarkSteps.{SoundAnswers}
 use Rattle.marked_laws.proofs.Shapes.{none_some, some_same}
-use Rattle.marked_laws.proofs.Premise.{mentions_is, all_member, proper_update, cast_distinct, in_cast_of, stamped-is_in}
+use Rattle.marked_laws.proofs.Premise.{Known, all_member, proper_update}
 use Rattle.marked_laws.proofs.Proper.{Proper}
 use Rattle.marked_laws.proofs.Simulate.{answers_in}
 
@@ -100,24 +100,25 @@ module _ (rules : List Rule) where
         roles = (and_parts _ (list_all (λ q. member q head.roles) (mentions (term (rule.0).body))) level.0).1 }
 
 -- in a sound bundle
-pub cast_unique : (b : Bundle) → IsSound b → distinct_roles b.cast ≡ true
-cast_unique b sound = ap distinct_roles sound.formed.cast ∙ cast_distinct (term b.choreo)
+module _ (known : Known) where
+  pub cast_unique : (b : Bundle) → IsSound b → distinct_roles b.cast ≡ true
+  cast_unique b sound = ap distinct_roles sound.formed.cast ∙ known.casts.distinct (term b.choreo)
 
-pub sound_answers : (b : Bundle) → IsSound b → (N : Network) → SoundAnswers b.cast (answers_in b N) N.updates
-sound_answers b sound N = record {
-  proper = λ head name B h. proper_body head name B (answered b.rules N.book head (N.stores head.leader) name B h);
-  inner = λ head name B h q in_it. inner_body head name B (answered b.rules N.book head (N.stores head.leader) name B h) q in_it }
-  where
-  proper_body : (head : ScopeHead) (name : List ℕ) (B : Term) → Answered b.rules N.book head (N.stores head.leader) B
-      → Proper b.cast (stamped B (suc N.updates) (suc head.level))
-  proper_body head name B found =
-      let formed : IsFormedRule found.rule = all_at IsFormedRule b.rules found.number found.rule sound.formed.rules found.stands in
-      let fair : IsSoundRule b.cast found.rule = all_at (IsSoundRule b.cast) b.rules found.number found.rule sound.rules found.stands in
-      subst (λ C. Proper b.cast (stamped C (suc N.updates) (suc head.level))) (sym found.is_body)
-        (proper_update b.cast (term found.rule.body) (suc N.updates) (suc head.level) formed.body.marks fair.body.connected fair.body.no_self_message
-          (λ q h. all_member (λ r. member r b.cast) (mentions (term found.rule.body)) q fair.in_cast (mentions_is q (term found.rule.body) ∙ h)))
-  inner_body : (head : ScopeHead) (name : List ℕ) (B : Term) → Answered b.rules N.book head (N.stores head.leader) B → (q : Role)
-      → is_in q (stamped B (suc N.updates) (suc head.level)) ≡ true → member q head.roles ≡ true
-  inner_body head name B found q in_it =
-      all_member (λ r. member r head.roles) (mentions (term found.rule.body)) q found.roles
-        (mentions_is q (term found.rule.body) ∙ ap (is_in q) (sym found.is_body) ∙ sym (stamped-is_in q B (suc N.updates) (suc head.level)) ∙ in_it)
+  pub sound_answers : (b : Bundle) → IsSound b → (N : Network) → SoundAnswers b.cast (answers_in b N) N.updates
+  sound_answers b sound N = record {
+    proper = λ head name B h. proper_body head name B (answered b.rules N.book head (N.stores head.leader) name B h);
+    inner = λ head name B h q in_it. inner_body head name B (answered b.rules N.book head (N.stores head.leader) name B h) q in_it }
+    where
+    proper_body : (head : ScopeHead) (name : List ℕ) (B : Term) → Answered b.rules N.book head (N.stores head.leader) B
+        → Proper b.cast (stamped B (suc N.updates) (suc head.level))
+    proper_body head name B found =
+        let formed : IsFormedRule found.rule = all_at IsFormedRule b.rules found.number found.rule sound.formed.rules found.stands in
+        let fair : IsSoundRule b.cast found.rule = all_at (IsSoundRule b.cast) b.rules found.number found.rule sound.rules found.stands in
+        subst (λ C. Proper b.cast (stamped C (suc N.updates) (suc head.level))) (sym found.is_body)
+          (proper_update known b.cast (term found.rule.body) (suc N.updates) (suc head.level) formed.body.marks fair.body.connected fair.body.no_self_message
+            (λ q h. all_member (λ r. member r b.cast) (mentions (term found.rule.body)) q fair.in_cast (sym (known.mentions q (term found.rule.body)) ∙ h)))
+    inner_body : (head : ScopeHead) (name : List ℕ) (B : Term) → Answered b.rules N.book head (N.stores head.leader) B → (q : Role)
+        → is_in q (stamped B (suc N.updates) (suc head.level)) ≡ true → member q head.roles ≡ true
+    inner_body head name B found q in_it =
+        all_member (λ r. member r head.roles) (mentions (term found.rule.body)) q found.roles
+          (sym (known.mentions q (term found.rule.body)) ∙ ap (is_in q) (sym found.is_body) ∙ sym (known.bodies.named q B (suc N.updates) (suc head.level)) ∙ in_it)

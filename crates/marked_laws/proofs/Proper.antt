@@ -7,33 +7,11 @@ use Rattle.dioc_terms.specs.declared.values.Value.{Value}
 use Rattle.dioc_terms.specs.Expressions.{Expression}
 use Rattle.dioc_terms.specs.Equality.{role_eq, member}
 use Rattle.dioc_terms.specs.Terms.{Term, Skip, Com, Set, Input, Seq, Par, If, While, Scope, empty, is_in}
+use Rattle.connectedness.specs.ByCases.{begins, attends_ends}
 
--- whether the role begins the term
-abbrev pub is_start : Role → Term → Bool
-is_start q Skip = false
-is_start q (Com i o a e b x) = role_eq q a
-is_start q (Set i x r e) = role_eq q r
-is_start q (Input i x r) = role_eq q r
-is_start q (Seq I J) = if empty I then is_start q J else is_start q I
-is_start q (Par I J) = is_start q I || is_start q J
-is_start q (If i r g I J) = role_eq q r
-is_start q (While i r g I) = role_eq q r
-is_start q (Scope i r I extra props level) = role_eq q r
-
--- whether the role is in each group that ends the term
-abbrev pub in_groups : Role → Term → Bool
-in_groups q Skip = true
-in_groups q (Com i o a e b x) = role_eq q a || role_eq q b
-in_groups q (Set i x r e) = role_eq q r
-in_groups q (Input i x r) = role_eq q r
-in_groups q (Seq I J) = if empty J then in_groups q I else in_groups q J
-in_groups q (Par I J) = in_groups q I && in_groups q J
-in_groups q (If i r g I J) = (if empty I then is_in q (If i r g I J) else in_groups q I) && (if empty J then is_in q (If i r g I J) else in_groups q J)
-in_groups q (While i r g I) = is_in q (While i r g I)
-in_groups q (Scope i r I extra props level) = is_in q (Scope i r I extra props level)
-
+-- whoever begins the second is in each group that ends the first
 abbrev pub Linked : Term → Term → Type 0
-Linked I J = (q : Role) → is_start q J ≡ true → in_groups q I ≡ true
+Linked I J = (q : Role) → begins q J ≡ true → attends_ends q I ≡ true
 
 abbrev pub Connected : Term → Type 0
 Connected (Seq I J) = Linked I J × Connected I × Connected J
