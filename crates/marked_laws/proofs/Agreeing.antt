@@ -1,16 +1,10 @@
 -- Pending messages that agree with a mark agree with its parts, and with the own messages of a construct.
-use Rattle.std.proofs.Common.{◌≡◌, Option, Some, None, refl, sym, ap, ◌∙◌, subst, inl, inr}
-use Rattle.std.proofs.lemmas.Bool.{cond-false, false_from_ne_true}
-use Rattle.dioc_terms.specs.declared.names.Role.{Role}
+use Rattle.std.proofs.Common.{◌≡◌, Option, sym, ap, ◌∙◌, subst, inl, inr}
 use Rattle.dioc_terms.specs.declared.names.Index.{Index}
 use Rattle.dioc_terms.specs.declared.processes.Key.{Key}
-use Rattle.dioc_terms.specs.declared.processes.Tag.TheVariants.{Turn, End}
-use Rattle.dioc_terms.specs.Equality.{key_eq}
-use Rattle.dioc_terms.specs.Processes.{Load, Done}
+use Rattle.dioc_terms.specs.Processes.{Load}
 use Rattle.dioc_terms.specs.Terms.{Term}
-use Rattle.dpoc_process.specs.Steps.{key}
-use Rattle.marked_laws.proofs.Constructs.{Phase, Phases, Kind, Branch, Turning, Stopping, Scoped, Releasing, Waits, Told, Inside, Sent, Gone, index, whole, told, telling_key, letter, peer, opened, own_mail}
-use Rattle.marked_laws.proofs.Equality.{key_parts, index_same}
+use Rattle.marked_laws.proofs.Constructs.{Phases, Kind, index, whole, own_mail}
 use Rattle.marked_laws.proofs.Mark.{Mark, Still, First, Second, Both, Held, mail, first_of_two, At}
 use Rattle.marked_laws.proofs.Keeps.{index_in}
 use Rattle.marked_laws.proofs.Mails.{own_absent, mail_absent, first_then_none}

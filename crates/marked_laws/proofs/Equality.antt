@@ -1,5 +1,5 @@
 -- The tests of roles, indices, keys, entries and acts: each holds of a thing and itself, and of nothing else.
-use Rattle.std.proofs.Common.{◌≡◌, Bool, true, ◌&&◌, refl}
+use Rattle.std.proofs.Common.{◌≡◌, true, ◌&&◌, refl}
 use Rattle.std.proofs.lemmas.Bool.{and_parts}
 use Rattle.dioc_terms.specs.declared.names.Role.{Role}
 use Rattle.dioc_terms.specs.declared.names.Index.{Index}

@@ -74,7 +74,7 @@ module _ (me : Role) (s : Store) (a : Act) (given : Given) where
   pub gather_does : (to : Role) (qs : List Role) (i : Index) (t : Tag) {d : Deed} {R : Process}
       → step me s (gather to qs i t) a given ≡ Does d R
       → (q : Role) × (rest : List Role) × (l : Load) × (qs ≡ q ∷ rest) × (a ≡ act.Take (key q to i t)) × (given ≡ Got l)
-        × (d ≡ Takes (key q to i t) None l) × (R ≡ gather to rest i t)
+      × (d ≡ Takes (key q to i t) None l) × (R ≡ gather to rest i t)
   gather_does to [] i t h = absurd (stuck_does h)
   gather_does to (q ∷ rest) i t h =
       let done = when_act a (act.Take (key q to i t)) (take_any (key q to i t) (gathering (map (λ r. key r to i t) rest)) given) h in

@@ -1,5 +1,5 @@
 -- What the proofs ask of terms, from what is asked of a sound bundle.
-use Rattle.std.proofs.Common.{◌≡◌, ◌⊎◌, ◌≤◌, ◌<◌, ℕ, suc, ◌+◌, List, [], ◌∷◌, ◌++◌, Bool, true, false, ◌&&◌, ◌||◌, refl, sym, ap, ap₂, ◌∙◌, subst, inl, inr, ⊎_elim, arith}
+use Rattle.std.proofs.Common.{◌≡◌, ◌⊎◌, ◌≤◌, ◌<◌, ℕ, suc, ◌+◌, List, [], ◌∷◌, ◌++◌, Bool, true, false, ◌&&◌, refl, sym, ap, ap₂, ◌∙◌, subst, inl, inr, ⊎_elim, arith}
 use Rattle.std.specs.List.{list_all}
 use Rattle.std.proofs.lemmas.Bool.{and_parts, or_cases, cases_Bool, cond-true, both_ways}
 use Rattle.dioc_terms.specs.declared.names.Role.{Role}
@@ -73,8 +73,8 @@ placed (Par I J) n m level j h = among_two j.place n (constructs I) (constructs 
     (⊎_elim (λ k. inl (placed I n m level j k)) (λ k. inr (placed J (n + constructs I) m level j k)) h)
 placed (If i r g I J) n m level j h = among_more j.place n (constructs I + constructs J)
     (⊎_elim (λ k. inl (ap (λ (l : Index). l.place) k))
-      (λ k. inr (among_two j.place (suc n) (constructs I) (constructs J)
-        (⊎_elim (λ l. inl (placed I (suc n) m level j l)) (λ l. inr (placed J (suc n + constructs I) m level j l)) k))) h)
+    (λ k. inr (among_two j.place (suc n) (constructs I) (constructs J)
+    (⊎_elim (λ l. inl (placed I (suc n) m level j l)) (λ l. inr (placed J (suc n + constructs I) m level j l)) k))) h)
 placed (While i r g I) n m level j h = among_more j.place n (constructs I)
     (⊎_elim (λ k. inl (ap (λ (l : Index). l.place) k)) (λ k. inr (placed I (suc n) m level j k)) h)
 placed (Scope i r I extra props _) n m level j h = among_more j.place n (constructs I)
@@ -88,18 +88,21 @@ distinct_marked (Set i x r e) n m level = tt
 distinct_marked (Input i x r) n m level = tt
 distinct_marked (Seq I J) n m level = (
   λ j h k. among_apart j.place n (constructs I) (constructs J) (placed I n m level j h) (placed J (n + constructs I) m level j k),
-  distinct_marked I n m level, distinct_marked J (n + constructs I) m level,
+  distinct_marked I n m level,
+  distinct_marked J (n + constructs I) m level,
 )
 distinct_marked (Par I J) n m level = (
   λ j h k. among_apart j.place n (constructs I) (constructs J) (placed I n m level j h) (placed J (n + constructs I) m level j k),
-  distinct_marked I n m level, distinct_marked J (n + constructs I) m level,
+  distinct_marked I n m level,
+  distinct_marked J (n + constructs I) m level,
 )
 distinct_marked (If i r g I J) n m level = (
   λ j h k. among_apart j.place (suc n) (constructs I) (constructs J) (placed I (suc n) m level j h) (placed J (suc n + constructs I) m level j k),
   λ h. among_own n n (constructs I) refl (placed I (suc n) m level (at_epoch m (mark_at n)) h),
   λ h. among_own n n (constructs I + constructs J) refl
-    (among_two n (suc n) (constructs I) (constructs J) (inr (placed J (suc n + constructs I) m level (at_epoch m (mark_at n)) h))),
-  distinct_marked I (suc n) m level, distinct_marked J (suc n + constructs I) m level,
+      (among_two n (suc n) (constructs I) (constructs J) (inr (placed J (suc n + constructs I) m level (at_epoch m (mark_at n)) h))),
+  distinct_marked I (suc n) m level,
+  distinct_marked J (suc n + constructs I) m level,
 )
 distinct_marked (While i r g I) n m level =
     (λ h. among_own n n (constructs I) refl (placed I (suc n) m level (at_epoch m (mark_at n)) h), distinct_marked I (suc n) m level)
@@ -137,8 +140,11 @@ module _ (known : Known) where
   pub proper_text : (cast : List Role) (I : Term) → I ≡ marked I → connected I ≡ true → self_messages I ≡ []
       → ((q : Role) → is_in q I ≡ true → member q cast ≡ true) → Proper cast I
   proper_text cast I marks joined none roles = record {
-    connected = connected_is I joined; no_self = no_self_is I none;
-    distinct = subst Distinct (marked_stamped I 0 ∙ sym marks) (distinct_marked I 0 0 0); in_cast = roles }
+    connected = connected_is I joined;
+    no_self = no_self_is I none;
+    distinct = subst Distinct (marked_stamped I 0 ∙ sym marks) (distinct_marked I 0 0 0);
+    in_cast = roles;
+  }
 
   -- a rule's body is proper once it is stamped
   pub proper_update : (cast : List Role) (I : Term) (m level : ℕ) → I ≡ marked I → connected I ≡ true → self_messages I ≡ []
@@ -147,7 +153,8 @@ module _ (known : Known) where
     connected = connected_is (stamped I m level) (known.stamps.as_connected I m level ∙ joined);
     no_self = no_self_is (stamped I m level) (known.bodies.none_to_self I m level none);
     distinct = subst (λ B. Distinct (stamped B m level)) (sym marks) (distinct_marked I 0 m level);
-    in_cast = λ q h. roles q (sym (known.bodies.named q I m level) ∙ h) }
+    in_cast = λ q h. roles q (sym (known.bodies.named q I m level) ∙ h);
+  }
 
 pub text_epoch : (I : Term) → I ≡ marked I → (n : Index) → Within n I → n.epoch ≡ 0
 text_epoch I marks n h = stamped_new (marked_from 0 I) 0 0 n (subst (Within n) (marks ∙ sym (marked_stamped I 0)) h)

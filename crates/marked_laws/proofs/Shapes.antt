@@ -1,5 +1,5 @@
 -- Equal options and lists: what they hold is equal, and full ones are not empty.
-use Rattle.std.proofs.Common.{◌≡◌, List, [], ◌∷◌, Bool, true, false, if◌then◌else◌, Option, Some, None, refl, sym}
+use Rattle.std.proofs.Common.{◌≡◌, List, [], ◌∷◌, Bool, true, false, if◌then◌else◌, Some, None, refl, sym}
 
 pub none_some : {A : Type 0} {a : A} → None ≡ Some a → ⊥
 none_some e = cc
