@@ -4,6 +4,7 @@ pub mod CanStep
 pub mod Choices
 pub mod Constructs
 pub mod Ends
+pub mod Examples
 pub mod Equality
 pub mod Found
 pub mod FoundHeld
@@ -30,6 +31,8 @@ pub mod RoleLists
 pub mod Roles
 pub mod Settlements
 pub mod Settles
+pub mod Shapes
 pub mod Simulate
 pub mod Stays
+pub mod Tells
 pub mod Whole
