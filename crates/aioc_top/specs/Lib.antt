@@ -1,4 +1,6 @@
+pub mod Answers
 pub mod Faults
 pub mod Messages
+pub mod Serve
 pub mod Status
 pub mod Words
