@@ -33,3 +33,6 @@ pub use processes::{Key, Messages, Parts, Payload, Proc, ScopeHead, Tag};
 pub use stamps::stamped;
 pub use stores::Store;
 pub use values::Value;
+
+#[cfg(test)]
+mod tests;
