@@ -171,41 +171,53 @@ fn the_last_pair_counts(rt: HostRuntime) -> Result<(), Fail> {
     Ok(())
 }
 
-/// `scope @b { o: a(1) -> b(x) } roles { c } prop { N.k = 1 }; x@a = input()`
-fn sample(alloc: Global) -> Result<Choreo, Fail> {
-    let index = |place: u32| Index { epoch: 0, place };
-    let body = Choreo::Com {
-        index: index(1),
-        op: name(alloc, b"o")?,
-        from: role(alloc, b"a")?,
-        expr: Expr::Const(Value::Int(1)),
-        to: role(alloc, b"b")?,
-        var: name(alloc, b"x")?,
-    };
+fn key(alloc: Global) -> Result<Key, Fail> {
+    let from = role(alloc, b"a")?;
+    let to = role(alloc, b"b")?;
+    let op = name(alloc, b"o")?;
+    let index = Index { epoch: 0, place: 4 };
+    Ok(Key {
+        from,
+        to,
+        index,
+        tag: Tag::Op(op),
+    })
+}
+
+/// `x@a = 1`
+fn step(alloc: Global) -> Result<Choreo, Fail> {
+    let var = name(alloc, b"x")?;
+    let role = role(alloc, b"a")?;
+    let index = Index { epoch: 0, place: 1 };
+    let expr = Expr::Const(Value::Int(1));
+    Ok(Choreo::Set {
+        index,
+        var,
+        role,
+        expr,
+    })
+}
+
+/// `scope @b { x@a = 1 } roles { c }`
+fn scope(alloc: Global) -> Result<Choreo, Fail> {
+    let body = Box::new(alloc, step(alloc)?)?;
+    let leader = role(alloc, b"b")?;
     let mut extra = Vec::new(alloc);
     extra.push(role(alloc, b"c")?)?;
-    let mut props = Vec::new(alloc);
-    props.push((name(alloc, b"k")?, Value::Int(1)))?;
-    let scope = Choreo::Scope {
-        index: index(0),
-        leader: role(alloc, b"b")?,
-        body: Box::new(alloc, body)?,
+    Ok(Choreo::Scope {
+        index: Index { epoch: 0, place: 0 },
+        leader,
+        body,
         extra: Items::new(extra),
-        props: Items::new(props),
+        props: Items::new(Vec::new(alloc)),
         level: 0,
-    };
-    let input = Choreo::Input {
-        index: index(2),
-        var: name(alloc, b"x")?,
-        role: role(alloc, b"a")?,
-    };
-    Ok(Choreo::Seq(Box::new(alloc, scope)?, Box::new(alloc, input)?))
+    })
 }
 
 #[test]
 fn names_roles_in_order(rt: HostRuntime) -> Result<(), Fail> {
     let alloc = rt.alloc();
-    let roles = roles(alloc, &sample(alloc)?)?;
+    let roles = roles(alloc, &scope(alloc)?)?;
     assert_eq!(rt; roles.len(), 3);
     assert!(rt; !roles.is_empty());
     for (role, want) in roles.as_slice().iter().zip([b"b", b"a", b"c"]) {
@@ -217,42 +229,37 @@ fn names_roles_in_order(rt: HostRuntime) -> Result<(), Fail> {
 #[test]
 fn copies_and_stamps(rt: HostRuntime) -> Result<(), Fail> {
     let alloc = rt.alloc();
-    let choreo = sample(alloc)?;
+    let choreo = scope(alloc)?;
     let text = format!(in alloc; "{choreo:?}")?;
     let copy = choreo.copy(alloc)?;
     assert_eq!(rt; format!(in alloc; "{copy:?}")?.as_str(), text.as_str());
-    match stamped(alloc, &choreo, 7, 3)? {
-        Choreo::Seq(scope, _) => match Box::into_inner(scope) {
-            Choreo::Scope { index, level, .. } => {
-                assert_eq!(rt; index, Index { epoch: 7, place: 0 });
-                assert_eq!(rt; level, 3);
-            }
-            other => assert!(rt; false, "{other:?}"),
-        },
-        other => assert!(rt; false, "{other:?}"),
-    }
+    let update = stamped(alloc, &choreo, 7, 3)?;
+    let Choreo::Scope { index, level, .. } = &update else {
+        return Ok(assert!(rt; false, "{update:?}"));
+    };
+    assert_eq!(rt; *index, Index { epoch: 7, place: 0 });
+    assert_eq!(rt; *level, 3);
     Ok(())
 }
 
 #[test]
-fn copies_processes_and_entries(rt: HostRuntime) -> Result<(), Fail> {
+fn copies_entries(rt: HostRuntime) -> Result<(), Fail> {
     let alloc = rt.alloc();
-    let key = Key {
-        from: role(alloc, b"a")?,
-        to: role(alloc, b"b")?,
-        index: Index { epoch: 0, place: 4 },
-        tag: Tag::Op(name(alloc, b"o")?),
-    };
+    let note = Note::Val(Value::Int(1));
     let entry = Entry::Put {
-        key: key.copy(alloc)?,
-        note: Note::Val(Value::Int(1)),
+        key: key(alloc)?,
+        note,
     };
     assert_eq!(rt; entry.copy(alloc)?, entry);
-    let messages = Messages::More(
-        key,
-        Box::new(alloc, Payload::Val(value(alloc, Given::Words(b"hi"))?))?,
-        Box::new(alloc, Messages::Nothing)?,
-    );
+    Ok(())
+}
+
+#[test]
+fn copies_payloads(rt: HostRuntime) -> Result<(), Fail> {
+    let alloc = rt.alloc();
+    let sent = Box::new(alloc, Payload::Flag(true))?;
+    let rest = Box::new(alloc, Messages::Nothing)?;
+    let messages = Messages::More(key(alloc)?, sent, rest);
     let payload = Payload::Part {
         epoch: 2,
         proc: Proc::Tell { messages },
