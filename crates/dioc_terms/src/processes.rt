@@ -1,7 +1,8 @@
 //! The processes of roles, and the messages between them.
 
-ghost use Rattle.std.specs.Prelude.{◌≡◌, IfOk};
+ghost use Rattle.std.specs.Prelude.{◌≡◌, true, IfOk};
 ghost use Rattle.dioc_terms.specs.Expressions.{expression};
+ghost use Rattle.dioc_terms.specs.Leaves.{is_follower, is_leaf_process};
 ghost use Rattle.dioc_terms.specs.Processes.{process, letters, load, Send, Recv, Assign, Read, IfLead, IfFollow, WhileLead, WhileFollow, ScopeLead, ScopeFollow};
 
 use crate::copies::boxed;
@@ -300,91 +301,105 @@ impl Proc {
         ensures { IfOk result (λ copy. process copy ≡ process self.now) }
     {
         match self {
-            Proc::Skip => Ok(Proc::Skip),
-            Proc::Send {
-                index,
-                op,
-                to,
-                expr,
-            } => copy_of_send(alloc, *index, op, to, expr),
-            Proc::Recv {
-                index,
-                op,
-                from,
-                var,
-            } => copy_of_recv(alloc, *index, op, from, var),
-            Proc::Assign { index, var, expr } => copy_of_assign(alloc, *index, var, expr),
-            Proc::Read { index, var } => copy_of_read(alloc, *index, var),
-            Proc::Seq(first, second) => Ok(Proc::Seq(
-                first.boxed_copy(alloc)?,
-                second.boxed_copy(alloc)?,
-            )),
-            Proc::Par(left, right) => Ok(Proc::Par(
-                left.boxed_copy(alloc)?,
-                right.boxed_copy(alloc)?,
-            )),
+            Proc::Seq(left, right) => Ok(Proc::Seq(left.to_box(alloc)?, right.to_box(alloc)?)),
+            Proc::Par(left, right) => Ok(Proc::Par(left.to_box(alloc)?, right.to_box(alloc)?)),
             Proc::IfLead {
                 index,
                 guard,
                 others,
                 yes,
                 no,
-            } => copy_of_if_lead(
-                alloc,
-                *index,
-                guard,
-                others,
-                yes.boxed_copy(alloc)?,
-                no.boxed_copy(alloc)?,
-            ),
-            Proc::IfFollow {
-                index,
-                leader,
-                yes,
-                no,
-            } => copy_of_if_follow(
-                alloc,
-                *index,
-                leader,
-                yes.boxed_copy(alloc)?,
-                no.boxed_copy(alloc)?,
-            ),
+            } => {
+                let yes = yes.to_box(alloc)?;
+                let no = no.to_box(alloc)?;
+                copy_of_if_lead(alloc, *index, guard, others, yes, no)
+            }
             Proc::WhileLead {
                 index,
                 guard,
                 others,
                 body,
-            } => copy_of_while_lead(alloc, *index, guard, others, body.boxed_copy(alloc)?),
-            Proc::WhileFollow {
-                index,
-                leader,
-                body,
-            } => copy_of_while_follow(alloc, *index, leader, body.boxed_copy(alloc)?),
+            } => copy_of_while_lead(alloc, *index, guard, others, body.to_box(alloc)?),
             Proc::ScopeLead { head, others, body } => copy_of_scope_lead(
                 alloc,
                 head,
                 others,
-                body.boxed_copy(alloc)?,
+                body.to_box(alloc)?,
             ),
-            Proc::ScopeFollow {
-                index,
-                leader,
-                body,
-            } => copy_of_scope_follow(alloc, *index, leader, body.boxed_copy(alloc)?),
             Proc::Tell { messages } => Ok(Proc::Tell {
                 messages: messages.copy(alloc)?,
             }),
-            Proc::Gather { keys } => Ok(Proc::Gather {
-                keys: keys.copy(alloc)?,
-            }),
+            Proc::IfFollow { .. } | Proc::WhileFollow { .. } | Proc::ScopeFollow { .. } =>
+                copy_of_follower(alloc, self),
+            leaf => copy_of_leaf(alloc, leaf),
         }
     }
 
+    /// A copy in a box.
     #[cycle(copy_process)]
-    fn boxed_copy(&self, alloc: Global) -> Result<Box<Proc>, Memory>
+    fn to_box(&self, alloc: Global) -> Result<Box<Proc>, Memory>
         ensures { IfOk result (λ copy. process copy.value ≡ process self.now) }
     {
         boxed(alloc, self.copy(alloc)?)
+    }
+}
+
+/// A copy of a construct that another role leads.
+#[cycle(copy_process)]
+fn copy_of_follower(alloc: Global, follower: &Proc) -> Result<Proc, Memory>
+    requires { is_follower (process follower.now) ≡ true }
+    ensures { IfOk result (λ copy. process copy ≡ process follower.now) }
+{
+    match follower {
+        Proc::IfFollow {
+            index,
+            leader,
+            yes,
+            no,
+        } => {
+            let yes = yes.to_box(alloc)?;
+            let no = no.to_box(alloc)?;
+            copy_of_if_follow(alloc, *index, leader, yes, no)
+        }
+        Proc::WhileFollow {
+            index,
+            leader,
+            body,
+        } => copy_of_while_follow(alloc, *index, leader, body.to_box(alloc)?),
+        Proc::ScopeFollow {
+            index,
+            leader,
+            body,
+        } => copy_of_scope_follow(alloc, *index, leader, body.to_box(alloc)?),
+        _ => unreachable!(),
+    }
+}
+
+/// A copy of a process with neither a process nor messages inside.
+fn copy_of_leaf(alloc: Global, leaf: &Proc) -> Result<Proc, Memory>
+    requires { is_leaf_process (process leaf.now) ≡ true }
+    ensures { IfOk result (λ copy. process copy ≡ process leaf.now) }
+{
+    match leaf {
+        Proc::Skip => Ok(Proc::Skip),
+        Proc::Send {
+            index,
+            op,
+            to,
+            expr,
+        } => copy_of_send(alloc, *index, op, to, expr),
+        Proc::Recv {
+            index,
+            op,
+            from,
+            var,
+        } => copy_of_recv(alloc, *index, op, from, var),
+        Proc::Assign { index, var, expr } => copy_of_assign(alloc, *index, var, expr),
+        Proc::Read { index, var } => copy_of_read(alloc, *index, var),
+        Proc::Gather { keys } => Ok(Proc::Gather {
+            keys: keys.copy(alloc)?,
+        }),
+        _ => unreachable!(),
     }
 }
 
