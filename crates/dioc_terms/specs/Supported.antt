@@ -1,5 +1,5 @@
 -- The bundles that are read and run today: one interaction that sends a constant.
-use Rattle.std.specs.Prelude.{◌≡◌, [], Bool, true, false}
+use Rattle.std.specs.Prelude.{◌≡◌, List, [], Bool, true, false}
 use Rattle.dioc_terms.specs.declared.bundles.Bundle.{Bundle}
 use Rattle.dioc_terms.specs.Expressions.{Expression, Const}
 use Rattle.dioc_terms.specs.Terms.{Term, Com, term, cast_of}
