@@ -13,10 +13,15 @@ use std::alloc::Global;
 /// What an entry shows of a payload: of an update's part its epoch alone.
 #[derive(Debug, Drop)]
 pub enum Note {
+    /// The value of an operation.
     Val(Value),
+    /// Which branch, or whether there is another turn.
     Flag(bool),
+    /// The scope keeps its body.
     Keep,
+    /// A part of the update of this number.
     Part(u32),
+    /// Nothing but its tag.
     Done,
 }
 
@@ -65,7 +70,9 @@ impl Eq for Note {
 /// What the leader of a scope chose.
 #[derive(Debug, Drop)]
 pub enum Chosen {
+    /// To keep its body.
     Keep,
+    /// The body of the rule of that name, as the update of that number.
     Rule { name: Name, epoch: u32 },
 }
 
@@ -121,42 +128,51 @@ impl Eq for Chosen {
 /// One step of a run.
 #[derive(Debug, Drop)]
 pub enum Entry {
+    /// A role sent a message.
     Put {
         key: Key,
         note: Note,
     },
+    /// A role took a message, and kept its value in `var` where it has one.
     Take {
         key: Key,
         var: Option<Name>,
     },
+    /// A role set a variable.
     Set {
         index: Index,
         role: Role,
         var: Name,
         value: Value,
     },
+    /// A role set a variable to an input.
     Input {
         index: Index,
         role: Role,
         var: Name,
         value: Value,
     },
+    /// A role picked by a guard.
     Pick {
         index: Index,
         role: Role,
         flag: bool,
     },
+    /// The leader of a scope chose.
     Scope {
         index: Index,
         role: Role,
         chosen: Chosen,
     },
+    /// A rule was added.
     Add {
         name: Name,
     },
+    /// A rule was dropped.
     Drop {
         name: Name,
     },
+    /// A key of the environment was set.
     Env {
         key: Name,
         value: Value,
@@ -461,11 +477,17 @@ fn is_same_variable(mine: &Option<Name>, theirs: &Option<Name>) -> bool
 /// What a process can do next.
 #[derive(Debug, Drop)]
 pub enum Act {
+    /// To send the message of this key.
     Put(Key),
+    /// To take the message of this key.
     Take(Key),
+    /// To set the variable of this construct.
     Set(Index),
+    /// To read the input of this construct.
     Input(Index),
+    /// To pick by the guard of this construct.
     Pick(Index),
+    /// To choose for this scope.
     Scope(Index),
 }
 

@@ -17,12 +17,19 @@ use std::hash::Hash;
 /// What a message is for: an operation of the choreography, or one of the six auxiliary tags.
 #[derive(Debug, Drop, Hash)]
 pub enum Tag {
+    /// An operation of the choreography.
     Op(Name),
+    /// The leader tells which branch it picked.
     Choice,
+    /// The leader tells whether there is another turn.
     Go,
+    /// A role tells that its turn has ended.
     Turn,
+    /// The leader tells what a scope does.
     Begin,
+    /// A role tells that its part of a scope has ended.
     End,
+    /// The leader tells that the scope has ended.
     Out,
 }
 
@@ -84,9 +91,13 @@ impl Hash for Tag {
 /// The key of a message. A receive takes the message of exactly its key.
 #[derive(Debug, Drop, Hash)]
 pub struct Key {
+    /// The sender.
     pub from: Role,
+    /// The receiver.
     pub to: Role,
+    /// The construct that sends.
     pub index: Index,
+    /// What the message is for.
     pub tag: Tag,
 }
 
@@ -139,10 +150,15 @@ impl Hash for Key {
 /// What the leader of a scope shows the book: the scope without its body.
 #[derive(Debug, Drop)]
 pub struct ScopeHead {
+    /// The index of the scope.
     pub index: Index,
+    /// Its leader.
     pub leader: Role,
+    /// Its roles, in the order of the cast.
     pub roles: Roles,
+    /// Its properties.
     pub props: Bindings,
+    /// How many updates it stands inside.
     pub level: u32,
 }
 
@@ -150,10 +166,15 @@ pub struct ScopeHead {
 #[cycle(process)]
 #[derive(Debug, Drop)]
 pub enum Payload {
+    /// The value of an operation.
     Val(Value),
+    /// Which branch, or whether there is another turn.
     Flag(bool),
+    /// The scope keeps its body.
     Keep,
+    /// The receiver's part of the update of this number.
     Part { epoch: u32, proc: Proc },
+    /// Nothing but its tag.
     Done,
 }
 
@@ -161,7 +182,9 @@ pub enum Payload {
 #[cycle(process)]
 #[derive(Debug, Drop)]
 pub enum Messages {
+    /// No message.
     Nothing,
+    /// A message, and those after it.
     More(Key, Box<Payload>, Box<Messages>),
 }
 
@@ -169,30 +192,38 @@ pub enum Messages {
 #[cycle(process)]
 #[derive(Debug, Drop)]
 pub enum Proc {
+    /// Nothing.
     Skip,
+    /// Sends the value of `expr`.
     Send {
         index: Index,
         op: Name,
         to: Role,
         expr: Expr,
     },
+    /// Takes a value and keeps it in `var`.
     Recv {
         index: Index,
         op: Name,
         from: Role,
         var: Name,
     },
+    /// Sets `var` to the value of `expr`.
     Assign {
         index: Index,
         var: Name,
         expr: Expr,
     },
+    /// Sets `var` to the next input.
     Read {
         index: Index,
         var: Name,
     },
+    /// The first, and then the second.
     Seq(Box<Proc>, Box<Proc>),
+    /// Both, side by side.
     Par(Box<Proc>, Box<Proc>),
+    /// Picks a branch, and tells the others.
     IfLead {
         index: Index,
         guard: Expr,
@@ -200,36 +231,43 @@ pub enum Proc {
         yes: Box<Proc>,
         no: Box<Proc>,
     },
+    /// Takes the branch that the leader picked.
     IfFollow {
         index: Index,
         leader: Role,
         yes: Box<Proc>,
         no: Box<Proc>,
     },
+    /// Picks before each turn, and tells the others.
     WhileLead {
         index: Index,
         guard: Expr,
         others: Roles,
         body: Box<Proc>,
     },
+    /// Takes before each turn whether there is one.
     WhileFollow {
         index: Index,
         leader: Role,
         body: Box<Proc>,
     },
+    /// Asks the book what the scope does, and tells the others.
     ScopeLead {
         head: ScopeHead,
         others: Roles,
         body: Box<Proc>,
     },
+    /// Takes from the leader what the scope does.
     ScopeFollow {
         index: Index,
         leader: Role,
         body: Box<Proc>,
     },
+    /// Sends these messages, one after another.
     Tell {
         messages: Messages,
     },
+    /// Takes the messages of these keys, one after another.
     Gather {
         keys: Keys,
     },
@@ -238,7 +276,9 @@ pub enum Proc {
 /// The parts of an update: the leader's own, and the messages with those of the others.
 #[derive(Debug, Drop)]
 pub struct Parts {
+    /// The part of the leader.
     pub own: Proc,
+    /// The messages to the others, each with its part.
     pub tell: Messages,
 }
 
