@@ -5,6 +5,7 @@ pub mod EqualityLaws
 pub mod EqualityLemmas
 pub mod Expressions
 pub mod KeptStores
+pub mod Leaves
 pub mod Messages
 pub mod Moves
 pub mod Names

@@ -9,51 +9,73 @@ use crate::values::Value;
 /// A rule: its body replaces a scope where its condition holds.
 #[derive(Debug, Drop)]
 pub struct Rule {
+    /// Its name.
     pub name: Name,
+    /// Of the rules that fit a scope, the first of those with the greatest priority is chosen.
     pub priority: i32,
+    /// Its condition.
     pub cond: Expr,
+    /// What replaces the scope.
     pub body: Choreo,
 }
 
 /// A change of the rule book or of the environment. `Add(n)` adds rule n of the bundle.
 #[derive(Debug, Drop)]
 pub enum Change {
+    /// The rule of that number in the bundle is added.
     Add(u32),
+    /// The rule of that name is dropped.
     Drop(Name),
+    /// The key is set to the value.
     Env(Name, Value),
 }
 
 /// A change that may come once so many visible entries stand.
 #[derive(Debug, Drop)]
 pub struct Timed {
+    /// So many visible entries must stand.
     pub after: u64,
+    /// The change.
     pub change: Change,
 }
 
 /// The last line of a trace: the number of all entries, and whether the run ended or was stopped.
 #[derive(Debug, Drop)]
 pub enum Last {
+    /// The run ended after so many entries.
     Ended(u64),
+    /// It was stopped after so many entries.
     Stopped(u64),
 }
 
 /// A trace as it is written in a bundle.
 #[derive(Debug, Drop)]
 pub struct Trace {
+    /// The entries, in their order.
     pub entries: Entries,
+    /// The last line, where the trace has one.
     pub last: Option<Last>,
 }
 
 /// A whole input. `rules` are those of the `rules` sections, `opening` of them, and then the script's adds.
 #[derive(Debug, Drop)]
 pub struct Bundle {
+    /// 1 or 2. Version 1 knows neither named roles of a scope nor priorities.
     pub version: u32,
+    /// The roles of the choreography, in the order in which its text first names them.
     pub cast: Roles,
+    /// The choreography.
     pub choreo: Choreo,
+    /// All rules, by their numbers.
     pub rules: Items<Rule>,
+    /// How many of the rules are in the book from the start.
     pub opening: u32,
+    /// The environment from the start.
     pub env: Bindings,
+    /// The inputs that are handed to roles.
     pub inputs: Items<(Role, Values)>,
+    /// The changes, in their order.
     pub script: Items<Timed>,
+    /// A trace to be judged.
     pub trace: Trace,
 }

@@ -1,7 +1,8 @@
 //! Choreographies.
 
-ghost use Rattle.std.specs.Prelude.{◌≡◌, IfOk};
+ghost use Rattle.std.specs.Prelude.{◌≡◌, true, IfOk};
 ghost use Rattle.dioc_terms.specs.Expressions.{expression};
+ghost use Rattle.dioc_terms.specs.Leaves.{is_leaf_term};
 ghost use Rattle.dioc_terms.specs.Terms.{term, Com, Set, Input, If, While, Scope};
 
 use crate::copies::boxed;
@@ -76,32 +77,8 @@ impl Choreo {
         ensures { IfOk result (λ copy. term copy ≡ term self.now) }
     {
         match self {
-            Choreo::Skip => Ok(Choreo::Skip),
-            Choreo::Com {
-                index,
-                op,
-                from,
-                expr,
-                to,
-                var,
-            } => copy_of_com(alloc, *index, op, from, expr, to, var),
-            Choreo::Set {
-                index,
-                var,
-                role,
-                expr,
-            } => copy_of_set(alloc, *index, var, role, expr),
-            Choreo::Input { index, var, role } => copy_of_input(alloc, *index, var, role),
-            Choreo::Seq(first, second) => {
-                let first = first.boxed_copy(alloc)?;
-                let second = second.boxed_copy(alloc)?;
-                Ok(Choreo::Seq(first, second))
-            }
-            Choreo::Par(left, right) => {
-                let left = left.boxed_copy(alloc)?;
-                let right = right.boxed_copy(alloc)?;
-                Ok(Choreo::Par(left, right))
-            }
+            Choreo::Seq(left, right) => Ok(Choreo::Seq(left.to_box(alloc)?, right.to_box(alloc)?)),
+            Choreo::Par(left, right) => Ok(Choreo::Par(left.to_box(alloc)?, right.to_box(alloc)?)),
             Choreo::If {
                 index,
                 leader,
@@ -109,8 +86,8 @@ impl Choreo {
                 yes,
                 no,
             } => {
-                let yes = yes.boxed_copy(alloc)?;
-                let no = no.boxed_copy(alloc)?;
+                let yes = yes.to_box(alloc)?;
+                let no = no.to_box(alloc)?;
                 copy_of_if(alloc, *index, leader, guard, yes, no)
             }
             Choreo::While {
@@ -118,10 +95,7 @@ impl Choreo {
                 leader,
                 guard,
                 body,
-            } => {
-                let body = body.boxed_copy(alloc)?;
-                copy_of_while(alloc, *index, leader, guard, body)
-            }
+            } => copy_of_while(alloc, *index, leader, guard, body.to_box(alloc)?),
             Choreo::Scope {
                 index,
                 leader,
@@ -130,17 +104,45 @@ impl Choreo {
                 props,
                 level,
             } => {
-                let body = body.boxed_copy(alloc)?;
+                let body = body.to_box(alloc)?;
                 copy_of_scope(alloc, *index, leader, body, extra, props, *level)
             }
+            leaf => copy_of_leaf(alloc, leaf),
         }
     }
 
+    /// A copy in a box.
     #[cycle(copy_choreo)]
-    fn boxed_copy(&self, alloc: Global) -> Result<Box<Choreo>, Memory>
+    fn to_box(&self, alloc: Global) -> Result<Box<Choreo>, Memory>
         ensures { IfOk result (λ copy. term copy.value ≡ term self.now) }
     {
         boxed(alloc, self.copy(alloc)?)
+    }
+}
+
+/// A copy of a term with no term inside.
+fn copy_of_leaf(alloc: Global, leaf: &Choreo) -> Result<Choreo, Memory>
+    requires { is_leaf_term (term leaf.now) ≡ true }
+    ensures { IfOk result (λ copy. term copy ≡ term leaf.now) }
+{
+    match leaf {
+        Choreo::Skip => Ok(Choreo::Skip),
+        Choreo::Com {
+            index,
+            op,
+            from,
+            expr,
+            to,
+            var,
+        } => copy_of_com(alloc, *index, op, from, expr, to, var),
+        Choreo::Set {
+            index,
+            var,
+            role,
+            expr,
+        } => copy_of_set(alloc, *index, var, role, expr),
+        Choreo::Input { index, var, role } => copy_of_input(alloc, *index, var, role),
+        _ => unreachable!(),
     }
 }
 

@@ -1,6 +1,7 @@
 //! Entries of a history, and acts of a role.
 
 ghost use Rattle.std.specs.Prelude.{◌≡◌, IfOk};
+ghost use Rattle.dioc_terms.specs.declared.entries.Entry.TheVariants as entry;
 ghost use Rattle.dioc_terms.specs.Equality.{variable_eq};
 
 use crate::faults::Memory;
@@ -12,10 +13,15 @@ use std::alloc::Global;
 /// What an entry shows of a payload: of an update's part its epoch alone.
 #[derive(Debug, Drop)]
 pub enum Note {
+    /// The value of an operation.
     Val(Value),
+    /// Which branch, or whether there is another turn.
     Flag(bool),
+    /// The scope keeps its body.
     Keep,
+    /// A part of the update of this number.
     Part(u32),
+    /// Nothing but its tag.
     Done,
 }
 
@@ -64,7 +70,9 @@ impl Eq for Note {
 /// What the leader of a scope chose.
 #[derive(Debug, Drop)]
 pub enum Chosen {
+    /// To keep its body.
     Keep,
+    /// The body of the rule of that name, as the update of that number.
     Rule { name: Name, epoch: u32 },
 }
 
@@ -120,42 +128,51 @@ impl Eq for Chosen {
 /// One step of a run.
 #[derive(Debug, Drop)]
 pub enum Entry {
+    /// A role sent a message.
     Put {
         key: Key,
         note: Note,
     },
+    /// A role took a message, and kept its value in `var` where it has one.
     Take {
         key: Key,
         var: Option<Name>,
     },
+    /// A role set a variable.
     Set {
         index: Index,
         role: Role,
         var: Name,
         value: Value,
     },
+    /// A role set a variable to an input.
     Input {
         index: Index,
         role: Role,
         var: Name,
         value: Value,
     },
+    /// A role picked by a guard.
     Pick {
         index: Index,
         role: Role,
         flag: bool,
     },
+    /// The leader of a scope chose.
     Scope {
         index: Index,
         role: Role,
         chosen: Chosen,
     },
+    /// A rule was added.
     Add {
         name: Name,
     },
+    /// A rule was dropped.
     Drop {
         name: Name,
     },
+    /// A key of the environment was set.
     Env {
         key: Name,
         value: Value,
@@ -168,62 +185,116 @@ impl Entry {
         ensures { IfOk result (λ copy. copy ≡ self.now) }
     {
         match self {
-            Entry::Put { key, note } => Ok(Entry::Put {
-                key: key.copy(alloc)?,
-                note: note.copy(alloc)?,
-            }),
-            Entry::Take { key, var } => Ok(Entry::Take {
-                key: key.copy(alloc)?,
-                var: copy_of_variable(alloc, var)?,
-            }),
+            Entry::Put { key, note } => copy_of_put(alloc, key, note),
+            Entry::Take { key, var } => copy_of_take(alloc, key, var),
             Entry::Set {
                 index,
                 role,
                 var,
                 value,
-            } => Ok(Entry::Set {
-                index: *index,
-                role: role.copy(alloc)?,
-                var: var.copy(alloc)?,
-                value: value.copy(alloc)?,
-            }),
+            } => copy_of_set(alloc, *index, role, var, value),
             Entry::Input {
                 index,
                 role,
                 var,
                 value,
-            } => Ok(Entry::Input {
-                index: *index,
-                role: role.copy(alloc)?,
-                var: var.copy(alloc)?,
-                value: value.copy(alloc)?,
-            }),
-            Entry::Pick { index, role, flag } => Ok(Entry::Pick {
-                index: *index,
-                role: role.copy(alloc)?,
-                flag: *flag,
-            }),
+            } => copy_of_input(alloc, *index, role, var, value),
+            Entry::Pick { index, role, flag } => copy_of_pick(alloc, *index, role, *flag),
             Entry::Scope {
                 index,
                 role,
                 chosen,
-            } => Ok(Entry::Scope {
-                index: *index,
-                role: role.copy(alloc)?,
-                chosen: chosen.copy(alloc)?,
-            }),
+            } => copy_of_scope(alloc, *index, role, chosen),
             Entry::Add { name } => Ok(Entry::Add {
                 name: name.copy(alloc)?,
             }),
             Entry::Drop { name } => Ok(Entry::Drop {
                 name: name.copy(alloc)?,
             }),
-            Entry::Env { key, value } => Ok(Entry::Env {
-                key: key.copy(alloc)?,
-                value: value.copy(alloc)?,
-            }),
+            Entry::Env { key, value } => copy_of_env(alloc, key, value),
         }
     }
+}
+
+fn copy_of_put(alloc: Global, key: &Key, note: &Note) -> Result<Entry, Memory>
+    ensures { IfOk result (λ copy. copy ≡ entry.Put key.now note.now) }
+{
+    Ok(Entry::Put {
+        key: key.copy(alloc)?,
+        note: note.copy(alloc)?,
+    })
+}
+
+fn copy_of_take(alloc: Global, key: &Key, var: &Option<Name>) -> Result<Entry, Memory>
+    ensures { IfOk result (λ copy. copy ≡ entry.Take key.now var.now) }
+{
+    Ok(Entry::Take {
+        key: key.copy(alloc)?,
+        var: copy_of_variable(alloc, var)?,
+    })
+}
+
+fn copy_of_set(
+    alloc: Global,
+    index: Index,
+    role: &Role,
+    var: &Name,
+    value: &Value,
+) -> Result<Entry, Memory>
+    ensures { IfOk result (λ copy. copy ≡ entry.Set index role.now var.now value.now) }
+{
+    Ok(Entry::Set {
+        index,
+        role: role.copy(alloc)?,
+        var: var.copy(alloc)?,
+        value: value.copy(alloc)?,
+    })
+}
+
+fn copy_of_input(
+    alloc: Global,
+    index: Index,
+    role: &Role,
+    var: &Name,
+    value: &Value,
+) -> Result<Entry, Memory>
+    ensures { IfOk result (λ copy. copy ≡ entry.Input index role.now var.now value.now) }
+{
+    Ok(Entry::Input {
+        index,
+        role: role.copy(alloc)?,
+        var: var.copy(alloc)?,
+        value: value.copy(alloc)?,
+    })
+}
+
+fn copy_of_pick(alloc: Global, index: Index, role: &Role, flag: bool) -> Result<Entry, Memory>
+    ensures { IfOk result (λ copy. copy ≡ entry.Pick index role.now flag) }
+{
+    Ok(Entry::Pick {
+        index,
+        role: role.copy(alloc)?,
+        flag,
+    })
+}
+
+fn copy_of_scope(alloc: Global, index: Index, role: &Role, chosen: &Chosen) -> Result<Entry, Memory>
+    ensures { IfOk result (λ copy. copy ≡ entry.Scope index role.now chosen.now) }
+{
+    Ok(Entry::Scope {
+        index,
+        role: role.copy(alloc)?,
+        chosen: chosen.copy(alloc)?,
+    })
+}
+
+fn copy_of_env(alloc: Global, key: &Name, value: &Value) -> Result<Entry, Memory>
+    ensures { IfOk result (λ copy. copy ≡ entry.Env key.now value.now) }
+{
+    Ok(Entry::Env {
+        key: key.copy(alloc)?,
+        value: value.copy(alloc)?,
+    })
 }
 
 impl PartialEq for Entry {
@@ -273,7 +344,6 @@ impl Eq for Entry {
 
 /// Whether an entry is the one of that kind with these parts.
 impl Entry {
-    ghost use Rattle.dioc_terms.specs.declared.entries.Entry.TheVariants as entry;
     ghost use Rattle.dioc_terms.specs.Equality.{entry_eq};
 
     fn is_put(&self, key: &Key, note: &Note) -> bool
@@ -407,11 +477,17 @@ fn is_same_variable(mine: &Option<Name>, theirs: &Option<Name>) -> bool
 /// What a process can do next.
 #[derive(Debug, Drop)]
 pub enum Act {
+    /// To send the message of this key.
     Put(Key),
+    /// To take the message of this key.
     Take(Key),
+    /// To set the variable of this construct.
     Set(Index),
+    /// To read the input of this construct.
     Input(Index),
+    /// To pick by the guard of this construct.
     Pick(Index),
+    /// To choose for this scope.
     Scope(Index),
 }
 

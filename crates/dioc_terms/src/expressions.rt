@@ -12,19 +12,33 @@ use std::alloc::Global;
 /// The operators that stand between two operands.
 #[derive(Clone, Copy, Debug, PartialEq, Eq)]
 pub enum Oper {
+    /// `+`
     Add,
+    /// `-`
     Sub,
+    /// `*`
     Mul,
+    /// `/`, truncated toward zero
     Div,
+    /// `%`, with the sign of the dividend
     Rem,
+    /// `++`
     Join,
+    /// `==`
     Eq,
+    /// `!=`
     Ne,
+    /// `<`
     Lt,
+    /// `<=`
     Le,
+    /// `>`
     Gt,
+    /// `>=`
     Ge,
+    /// `and`
     And,
+    /// `or`
     Or,
 }
 
@@ -32,12 +46,19 @@ pub enum Oper {
 /// scope's properties (`Prop`) and the environment (`Env`).
 #[derive(Debug, Drop)]
 pub enum Expr {
+    /// A constant.
     Const(Value),
+    /// A variable of the acting role.
     Var(Name),
+    /// A property of the scope.
     Prop(Name),
+    /// A key of the environment.
     Env(Name),
+    /// `not`
     Not(Box<Expr>),
+    /// `-` before one operand.
     Neg(Box<Expr>),
+    /// An operator between its two operands.
     Bin(Oper, Box<Expr>, Box<Expr>),
 }
 

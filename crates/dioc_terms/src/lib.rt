@@ -35,3 +35,6 @@ pub use stamps::stamped;
 pub use stores::Store;
 pub use term_laws::{casts_are_roles, mentions_are_roles, stamped_bodies};
 pub use values::Value;
+
+#[cfg(test)]
+mod tests;

@@ -233,7 +233,9 @@ impl Eq for Role {
 /// and its place in that text, the number of indexed constructs that begin before it.
 #[derive(Clone, Copy, Debug, PartialEq, Eq, Hash)]
 pub struct Index {
+    /// The number of the update, 0 in the program's own text.
     pub epoch: u32,
+    /// The place in that text.
     pub place: u32,
 }
 

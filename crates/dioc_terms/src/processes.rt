@@ -1,7 +1,8 @@
 //! The processes of roles, and the messages between them.
 
-ghost use Rattle.std.specs.Prelude.{◌≡◌, IfOk};
+ghost use Rattle.std.specs.Prelude.{◌≡◌, true, IfOk};
 ghost use Rattle.dioc_terms.specs.Expressions.{expression};
+ghost use Rattle.dioc_terms.specs.Leaves.{is_follower, is_leaf_process};
 ghost use Rattle.dioc_terms.specs.Processes.{process, letters, load, Send, Recv, Assign, Read, IfLead, IfFollow, WhileLead, WhileFollow, ScopeLead, ScopeFollow};
 
 use crate::copies::boxed;
@@ -16,12 +17,19 @@ use std::hash::Hash;
 /// What a message is for: an operation of the choreography, or one of the six auxiliary tags.
 #[derive(Debug, Drop, Hash)]
 pub enum Tag {
+    /// An operation of the choreography.
     Op(Name),
+    /// The leader tells which branch it picked.
     Choice,
+    /// The leader tells whether there is another turn.
     Go,
+    /// A role tells that its turn has ended.
     Turn,
+    /// The leader tells what a scope does.
     Begin,
+    /// A role tells that its part of a scope has ended.
     End,
+    /// The leader tells that the scope has ended.
     Out,
 }
 
@@ -83,9 +91,13 @@ impl Hash for Tag {
 /// The key of a message. A receive takes the message of exactly its key.
 #[derive(Debug, Drop, Hash)]
 pub struct Key {
+    /// The sender.
     pub from: Role,
+    /// The receiver.
     pub to: Role,
+    /// The construct that sends.
     pub index: Index,
+    /// What the message is for.
     pub tag: Tag,
 }
 
@@ -138,10 +150,15 @@ impl Hash for Key {
 /// What the leader of a scope shows the book: the scope without its body.
 #[derive(Debug, Drop)]
 pub struct ScopeHead {
+    /// The index of the scope.
     pub index: Index,
+    /// Its leader.
     pub leader: Role,
+    /// Its roles, in the order of the cast.
     pub roles: Roles,
+    /// Its properties.
     pub props: Bindings,
+    /// How many updates it stands inside.
     pub level: u32,
 }
 
@@ -149,10 +166,15 @@ pub struct ScopeHead {
 #[cycle(process)]
 #[derive(Debug, Drop)]
 pub enum Payload {
+    /// The value of an operation.
     Val(Value),
+    /// Which branch, or whether there is another turn.
     Flag(bool),
+    /// The scope keeps its body.
     Keep,
+    /// The receiver's part of the update of this number.
     Part { epoch: u32, proc: Proc },
+    /// Nothing but its tag.
     Done,
 }
 
@@ -160,7 +182,9 @@ pub enum Payload {
 #[cycle(process)]
 #[derive(Debug, Drop)]
 pub enum Messages {
+    /// No message.
     Nothing,
+    /// A message, and those after it.
     More(Key, Box<Payload>, Box<Messages>),
 }
 
@@ -168,30 +192,38 @@ pub enum Messages {
 #[cycle(process)]
 #[derive(Debug, Drop)]
 pub enum Proc {
+    /// Nothing.
     Skip,
+    /// Sends the value of `expr`.
     Send {
         index: Index,
         op: Name,
         to: Role,
         expr: Expr,
     },
+    /// Takes a value and keeps it in `var`.
     Recv {
         index: Index,
         op: Name,
         from: Role,
         var: Name,
     },
+    /// Sets `var` to the value of `expr`.
     Assign {
         index: Index,
         var: Name,
         expr: Expr,
     },
+    /// Sets `var` to the next input.
     Read {
         index: Index,
         var: Name,
     },
+    /// The first, and then the second.
     Seq(Box<Proc>, Box<Proc>),
+    /// Both, side by side.
     Par(Box<Proc>, Box<Proc>),
+    /// Picks a branch, and tells the others.
     IfLead {
         index: Index,
         guard: Expr,
@@ -199,36 +231,43 @@ pub enum Proc {
         yes: Box<Proc>,
         no: Box<Proc>,
     },
+    /// Takes the branch that the leader picked.
     IfFollow {
         index: Index,
         leader: Role,
         yes: Box<Proc>,
         no: Box<Proc>,
     },
+    /// Picks before each turn, and tells the others.
     WhileLead {
         index: Index,
         guard: Expr,
         others: Roles,
         body: Box<Proc>,
     },
+    /// Takes before each turn whether there is one.
     WhileFollow {
         index: Index,
         leader: Role,
         body: Box<Proc>,
     },
+    /// Asks the book what the scope does, and tells the others.
     ScopeLead {
         head: ScopeHead,
         others: Roles,
         body: Box<Proc>,
     },
+    /// Takes from the leader what the scope does.
     ScopeFollow {
         index: Index,
         leader: Role,
         body: Box<Proc>,
     },
+    /// Sends these messages, one after another.
     Tell {
         messages: Messages,
     },
+    /// Takes the messages of these keys, one after another.
     Gather {
         keys: Keys,
     },
@@ -237,7 +276,9 @@ pub enum Proc {
 /// The parts of an update: the leader's own, and the messages with those of the others.
 #[derive(Debug, Drop)]
 pub struct Parts {
+    /// The part of the leader.
     pub own: Proc,
+    /// The messages to the others, each with its part.
     pub tell: Messages,
 }
 
@@ -300,91 +341,105 @@ impl Proc {
         ensures { IfOk result (λ copy. process copy ≡ process self.now) }
     {
         match self {
-            Proc::Skip => Ok(Proc::Skip),
-            Proc::Send {
-                index,
-                op,
-                to,
-                expr,
-            } => copy_of_send(alloc, *index, op, to, expr),
-            Proc::Recv {
-                index,
-                op,
-                from,
-                var,
-            } => copy_of_recv(alloc, *index, op, from, var),
-            Proc::Assign { index, var, expr } => copy_of_assign(alloc, *index, var, expr),
-            Proc::Read { index, var } => copy_of_read(alloc, *index, var),
-            Proc::Seq(first, second) => Ok(Proc::Seq(
-                first.boxed_copy(alloc)?,
-                second.boxed_copy(alloc)?,
-            )),
-            Proc::Par(left, right) => Ok(Proc::Par(
-                left.boxed_copy(alloc)?,
-                right.boxed_copy(alloc)?,
-            )),
+            Proc::Seq(left, right) => Ok(Proc::Seq(left.to_box(alloc)?, right.to_box(alloc)?)),
+            Proc::Par(left, right) => Ok(Proc::Par(left.to_box(alloc)?, right.to_box(alloc)?)),
             Proc::IfLead {
                 index,
                 guard,
                 others,
                 yes,
                 no,
-            } => copy_of_if_lead(
-                alloc,
-                *index,
-                guard,
-                others,
-                yes.boxed_copy(alloc)?,
-                no.boxed_copy(alloc)?,
-            ),
-            Proc::IfFollow {
-                index,
-                leader,
-                yes,
-                no,
-            } => copy_of_if_follow(
-                alloc,
-                *index,
-                leader,
-                yes.boxed_copy(alloc)?,
-                no.boxed_copy(alloc)?,
-            ),
+            } => {
+                let yes = yes.to_box(alloc)?;
+                let no = no.to_box(alloc)?;
+                copy_of_if_lead(alloc, *index, guard, others, yes, no)
+            }
             Proc::WhileLead {
                 index,
                 guard,
                 others,
                 body,
-            } => copy_of_while_lead(alloc, *index, guard, others, body.boxed_copy(alloc)?),
-            Proc::WhileFollow {
-                index,
-                leader,
-                body,
-            } => copy_of_while_follow(alloc, *index, leader, body.boxed_copy(alloc)?),
+            } => copy_of_while_lead(alloc, *index, guard, others, body.to_box(alloc)?),
             Proc::ScopeLead { head, others, body } => copy_of_scope_lead(
                 alloc,
                 head,
                 others,
-                body.boxed_copy(alloc)?,
+                body.to_box(alloc)?,
             ),
-            Proc::ScopeFollow {
-                index,
-                leader,
-                body,
-            } => copy_of_scope_follow(alloc, *index, leader, body.boxed_copy(alloc)?),
             Proc::Tell { messages } => Ok(Proc::Tell {
                 messages: messages.copy(alloc)?,
             }),
-            Proc::Gather { keys } => Ok(Proc::Gather {
-                keys: keys.copy(alloc)?,
-            }),
+            Proc::IfFollow { .. } | Proc::WhileFollow { .. } | Proc::ScopeFollow { .. } =>
+                copy_of_follower(alloc, self),
+            leaf => copy_of_leaf(alloc, leaf),
         }
     }
 
+    /// A copy in a box.
     #[cycle(copy_process)]
-    fn boxed_copy(&self, alloc: Global) -> Result<Box<Proc>, Memory>
+    fn to_box(&self, alloc: Global) -> Result<Box<Proc>, Memory>
         ensures { IfOk result (λ copy. process copy.value ≡ process self.now) }
     {
         boxed(alloc, self.copy(alloc)?)
+    }
+}
+
+/// A copy of a construct that another role leads.
+#[cycle(copy_process)]
+fn copy_of_follower(alloc: Global, follower: &Proc) -> Result<Proc, Memory>
+    requires { is_follower (process follower.now) ≡ true }
+    ensures { IfOk result (λ copy. process copy ≡ process follower.now) }
+{
+    match follower {
+        Proc::IfFollow {
+            index,
+            leader,
+            yes,
+            no,
+        } => {
+            let yes = yes.to_box(alloc)?;
+            let no = no.to_box(alloc)?;
+            copy_of_if_follow(alloc, *index, leader, yes, no)
+        }
+        Proc::WhileFollow {
+            index,
+            leader,
+            body,
+        } => copy_of_while_follow(alloc, *index, leader, body.to_box(alloc)?),
+        Proc::ScopeFollow {
+            index,
+            leader,
+            body,
+        } => copy_of_scope_follow(alloc, *index, leader, body.to_box(alloc)?),
+        _ => unreachable!(),
+    }
+}
+
+/// A copy of a process with neither a process nor messages inside.
+fn copy_of_leaf(alloc: Global, leaf: &Proc) -> Result<Proc, Memory>
+    requires { is_leaf_process (process leaf.now) ≡ true }
+    ensures { IfOk result (λ copy. process copy ≡ process leaf.now) }
+{
+    match leaf {
+        Proc::Skip => Ok(Proc::Skip),
+        Proc::Send {
+            index,
+            op,
+            to,
+            expr,
+        } => copy_of_send(alloc, *index, op, to, expr),
+        Proc::Recv {
+            index,
+            op,
+            from,
+            var,
+        } => copy_of_recv(alloc, *index, op, from, var),
+        Proc::Assign { index, var, expr } => copy_of_assign(alloc, *index, var, expr),
+        Proc::Read { index, var } => copy_of_read(alloc, *index, var),
+        Proc::Gather { keys } => Ok(Proc::Gather {
+            keys: keys.copy(alloc)?,
+        }),
+        _ => unreachable!(),
     }
 }
 

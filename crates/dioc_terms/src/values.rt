@@ -9,9 +9,13 @@ use std::alloc::Global;
 /// What a variable holds and a message carries.
 #[derive(Debug, Drop)]
 pub enum Value {
+    /// No value: what an unset variable has.
     Nil,
+    /// A truth.
     Bool(bool),
+    /// A whole number of 64 bits.
     Int(i64),
+    /// A text.
     Text(Text),
 }
 
