@@ -14,14 +14,13 @@ use Rattle.dioc_terms.specs.declared.expressions.Expr as expr
 use Rattle.dioc_terms.specs.declared.choreographies.Choreo.{Choreo}
 use Rattle.dioc_terms.specs.declared.choreographies.Choreo as choreo
 use Rattle.dioc_terms.specs.declared.processes.Tag.{Tag}
-use Rattle.dioc_terms.specs.declared.processes.Tag.TheVariants.{Op, Choice, Go, Turn, Begin, End, Out}
+use Rattle.dioc_terms.specs.declared.processes.Tag.TheVariants.{Op, Go, Turn, Begin, End, Out}
 use Rattle.dioc_terms.specs.declared.entries.Note.{Note}
 use Rattle.dioc_terms.specs.declared.entries.Note.TheVariants as note
 use Rattle.dioc_terms.specs.declared.entries.Chosen.TheVariants as chosen
 use Rattle.dioc_terms.specs.declared.entries.Entry.{Entry}
 use Rattle.dioc_terms.specs.declared.entries.Entry.TheVariants as entry
 use Rattle.dioc_terms.specs.declared.bundles.Rule.{Rule}
-use Rattle.dioc_terms.specs.declared.bundles.Change.{Change}
 use Rattle.dioc_terms.specs.declared.bundles.Change.TheVariants as change
 use Rattle.dioc_terms.specs.declared.bundles.Timed.{Timed}
 use Rattle.dioc_terms.specs.declared.bundles.Bundle.{Bundle}
@@ -59,8 +58,17 @@ choreo_at p (Scope i r I extra props level) = choreo.Scope' i r p (choreo_at p I
 
 -- a bundle of a choreography whose marks are as given, with rules, of which the first so many are opening, and a script
 abbrev pub bundle_of : Place → Term → List Rule → ℕ → List Timed → Bundle
-bundle_of p I rules opening script = record { version = 1; cast = cast_of I; choreo = choreo_at p I; rules = rules; opening = opening;
-  env = []; inputs = []; script = script; trace = record { entries = []; last = None } }
+bundle_of p I rules opening script = record {
+  version = 1;
+  cast = cast_of I;
+  choreo = choreo_at p I;
+  rules = rules;
+  opening = opening;
+  env = [];
+  inputs = [];
+  script = script;
+  trace = record { entries = []; last = None };
+}
 
 -- a bundle with the marks of its text
 abbrev pub program : Place → Term → List Rule → ℕ → List Timed → Bundle
@@ -126,8 +134,10 @@ run_to_end bundle es = option_map (λ (N : Network). network_ended bundle N) (ne
 
 -- what a variable of a role is after a run, and after the play of its visible part
 abbrev pub left_in : Bundle → List Entry → Role → List ℕ → Option Value × Option Value
-left_in bundle es r name = (option_map (λ (N : Network). variable (N.stores r) name) (network_run bundle es),
-  option_map (λ (S : State). variable (S.stores r) name) (play bundle (visible es)))
+left_in bundle es r name = (
+  option_map (λ (N : Network). variable (N.stores r) name) (network_run bundle es),
+  option_map (λ (S : State). variable (S.stores r) name) (play bundle (visible es)),
+)
 
 -- An update that drops a role: `scope @a { o: a(1) -> b(x); q: b(x) -> c(y) }`, and the rule's body is `o: a(2) -> b(x)`. The role that
 -- is dropped is told so, tells its end and waits for the release like the others.
@@ -175,7 +185,7 @@ drops-foreign p = refl
 abbrev pub turns : Term
 turns = Seq (Set unmarked n a (Const (int 0)))
     (While unmarked a (Bin oper.Lt (Var n) (Const (int 2)))
-      (Seq (Scope unmarked a (Com unmarked o a (Var n) b x) [] [] 0) (Set unmarked n a (Bin oper.Add (Var n) (Const (int 1))))))
+    (Seq (Scope unmarked a (Com unmarked o a (Var n) b x) [] [] 0) (Set unmarked n a (Bin oper.Add (Var n) (Const (int 1))))))
 
 -- one turn: what the book chooses, what the begin carries, the index of the interaction, what it sends, and what becomes of the counter
 abbrev turn_of : Entry → Note → Index → ℕ → ℕ → List Entry

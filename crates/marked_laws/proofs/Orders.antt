@@ -122,16 +122,16 @@ module _ (cast : List Role) where
   bars_acted (Held (Stopping i r g I) phases M) fine h q k = absurd (both_ways false refl k)
   bars_acted (Held (Scoped i r I extra props level begin B) phases M) fine h q k = ⊎_elim
       (λ in_it. ⊎_elim
-        (λ is. or_left _ (acted q M) (or_left (role_eq q r) (not (is_early (phases q))) (subst (λ y. role_eq y r ≡ true) (sym is) (role_itself r))))
-        (λ other. absurd (scoped_follower i r I extra props level begin B phases M q other in_it (h q)))
-        (role_cases q r))
+      (λ is. or_left _ (acted q M) (or_left (role_eq q r) (not (is_early (phases q))) (subst (λ y. role_eq y r ≡ true) (sym is) (role_itself r))))
+      (λ other. absurd (scoped_follower i r I extra props level begin B phases M q other in_it (h q)))
+      (role_cases q r))
       (λ l. or_right (role_eq q r || not (is_early (phases q))) _
-        (bars_acted M fine.0 (λ s. held_inside cast (Scoped i r I extra props level begin B) phases M s fine (h s)) q l))
+      (bars_acted M fine.0 (λ s. held_inside cast (Scoped i r I extra props level begin B) phases M s fine (h s)) q l))
       (or_cases _ _ k)
   bars_acted (Held (Releasing i r I extra props level) phases M) fine h q k = ⊎_elim
       (λ in_it. or_left _ (acted q M) in_it)
       (λ l. or_right (is_in q (term.Scope i r I extra props level)) _
-        (bars_acted M fine.0 (λ s. held_inside cast (Releasing i r I extra props level) phases M s fine (h s)) q l))
+      (bars_acted M fine.0 (λ s. held_inside cast (Releasing i r I extra props level) phases M s fine (h s)) q l))
       (or_cases _ _ k)
   bars_acted (Spent G) fine h q k = k
 
@@ -234,7 +234,7 @@ module _ (cast : List Role) where
     acted_step (frees {i = i} {r = r} {I = I} {extra = extra} {props = props} {level = level} {begin = begin} {B = B} {phases = phases} {M = M} closed f) fine q h = inl (⊎_elim
         (λ in_it. or_left _ (acted q M) (closed_passed (Scoped i r I extra props level begin B) phases M fine closed q in_it))
         (λ l. or_right (role_eq q r || not (is_early (phases q))) _
-          (bars_acted M fine.0 (closed_ended cast (Scoped i r I extra props level begin B) phases M fine closed) q l))
+        (bars_acted M fine.0 (closed_ended cast (Scoped i r I extra props level begin B) phases M fine closed) q l))
         (or_cases (is_in q (term.Scope i r I extra props level)) (in_bars q (run M)) h))
 
     -- the second invariant is kept
@@ -246,15 +246,27 @@ module _ (cast : List Role) where
     order_step (seq_opens {I = I} {J = J} s) fine order = order_step s (first_fine cast I J fine) tt
     order_step (par_opens {I = I} {J = J} s) fine order = order_step s (both_fine cast I J fine) (tt, tt)
     order_step (seq_first s) fine order = order_step s fine.0 order
-    order_step (seq_begins {M = M} {N = N} {d = d} e s) fine order = (order, order_step s fine.1 tt, λ q h. ⊎_elim
-        (λ k. absurd (both_ways false refl k))
-        (λ is. subst (λ y. ended (place cast M y) ≡ true) (sym is) e) (acted_step s fine.1 q h))
-    order_step (seq_lags {M = M} {N = N} {d = d} s) fine order = (order_step s fine.0 order.0, order.1, λ q h. ⊎_elim
-        (λ is. absurd (both_ways _ (step_busy s fine.0) (subst (λ y. ended (place cast M y) ≡ true) is (order.2 q h))))
-        (λ other. ap ended (place_other cast stores answers updates s fine.0 q other) ∙ order.2 q h) (role_cases q (doer_of d)))
-    order_step (seq_goes {M = M} {d = d} e s) fine order = (order.0, order_step s fine.1 order.1, λ q h. ⊎_elim
-        (λ k. order.2 q k)
-        (λ is. subst (λ y. ended (place cast M y) ≡ true) (sym is) e) (acted_step s fine.1 q h))
+    order_step (seq_begins {M = M} {N = N} {d = d} e s) fine order = (
+      order,
+      order_step s fine.1 tt,
+      λ q h. ⊎_elim
+          (λ k. absurd (both_ways false refl k))
+          (λ is. subst (λ y. ended (place cast M y) ≡ true) (sym is) e) (acted_step s fine.1 q h),
+    )
+    order_step (seq_lags {M = M} {N = N} {d = d} s) fine order = (
+      order_step s fine.0 order.0,
+      order.1,
+      λ q h. ⊎_elim
+          (λ is. absurd (both_ways _ (step_busy s fine.0) (subst (λ y. ended (place cast M y) ≡ true) is (order.2 q h))))
+          (λ other. ap ended (place_other cast stores answers updates s fine.0 q other) ∙ order.2 q h) (role_cases q (doer_of d)),
+    )
+    order_step (seq_goes {M = M} {d = d} e s) fine order = (
+      order.0,
+      order_step s fine.1 order.1,
+      λ q h. ⊎_elim
+          (λ k. order.2 q k)
+          (λ is. subst (λ y. ended (place cast M y) ≡ true) (sym is) e) (acted_step s fine.1 q h),
+    )
     order_step (par_left s) fine order = (order_step s fine.0 order.0, order.1)
     order_step (par_right s) fine order = (order.0, order_step s fine.1 order.1)
     order_step picks fine order = tt

@@ -66,13 +66,15 @@ unbarred due (term.Scope i r I extra props level) s = tt
 -- an ended term of whose scopes nobody is due
 released_ended : (due : Due) (G : Running) (s : Role) → running.ended G ≡ true → ((q : Role) → in_bars q G ≡ true → due q ≡ false) → Released due G s
 released_ended due (running.Seq G H) s h clear =
-    let parts = and_parts (running.ended G) (running.ended H) h in
-    (released_ended due G s parts.0 (λ q k. clear q (or_left _ (in_bars q H) k)),
-      released_ended (due_after due G) H s parts.1 (λ q k. or_from (due q) (is_due q G) (clear q (or_right (in_bars q G) _ k)) (over_due q G parts.0)))
+    let parts = and_parts (running.ended G) (running.ended H) h in (
+      released_ended due G s parts.0 (λ q k. clear q (or_left _ (in_bars q H) k)),
+      released_ended (due_after due G) H s parts.1 (λ q k. or_from (due q) (is_due q G) (clear q (or_right (in_bars q G) _ k)) (over_due q G parts.0)),
+    )
 released_ended due (running.Par G H) s h clear =
-    let parts = and_parts (running.ended G) (running.ended H) h in
-    (released_ended due G s parts.0 (λ q k. clear q (or_left _ (in_bars q H) k)),
-      released_ended due H s parts.1 (λ q k. clear q (or_right (in_bars q G) _ k)))
+    let parts = and_parts (running.ended G) (running.ended H) h in (
+      released_ended due G s parts.0 (λ q k. clear q (or_left _ (in_bars q H) k)),
+      released_ended due H s parts.1 (λ q k. clear q (or_right (in_bars q G) _ k)),
+    )
 released_ended due (running.Bar roles G) s h clear =
     ((λ in_it q k. clear q (or_left (roles q) (in_bars q G) k)), released_ended due G s h (λ q k. clear q (or_right (roles q) (in_bars q G) k)))
 released_ended due (running.Again i r g I G) s h clear = absurd (both_ways false refl h)
@@ -94,12 +96,12 @@ module _ (cast : List Role) where
       → (q : Role) → is_in q (term.Scope i r I extra props level) ≡ true → role_eq q r ≡ false → ⊥
   scoped_alone i r I extra props level begin B phases M proper s in_s h q in_q other = ⊎_elim
       (λ is. no_others (tell_ended r (others cast r (term.Scope i r I extra props level)) i Out (λ q. Done)
-        (and_parts _ _ (and_parts (ended (place cast M s)) _ (and_parts _ _ (sym (ap ended (place_leader cast (Scoped i r I extra props level begin B) phases M s is)) ∙ h)).1).1).1))
+      (and_parts _ _ (and_parts (ended (place cast M s)) _ (and_parts _ _ (sym (ap ended (place_leader cast (Scoped i r I extra props level begin B) phases M s is)) ∙ h)).1).1).1))
       (λ differs. scoped_follower cast i r I extra props level begin B phases M s differs in_s h)
       (role_cases s r)
     where
-    no_others : others cast r (term.Scope i r I extra props level) ≡ [] → ⊥
-    no_others none = both_ways _ (ap (member q) none) (is_follower cast (Scoped i r I extra props level begin B) q proper other in_q)
+      no_others : others cast r (term.Scope i r I extra props level) ≡ [] → ⊥
+      no_others none = both_ways _ (ap (member q) none) (is_follower cast (Scoped i r I extra props level begin B) q proper other in_q)
 
   module _ (stores : Role → Store) (answers : ScopeHead → Answer) (updates : ℕ) where
     -- nobody who has begun the mark is due before it
@@ -119,30 +121,34 @@ module _ (cast : List Role) where
     released due (Over I) fine order s h clear = tt
     released due (First M J) fine order s h clear =
         (released due M fine.0 order s (and_parts _ _ h).0 clear, unbarred (due_after due (run M)) J s)
-    released due (Second M N) fine order s h clear =
-        (released due M fine.0 order.0 s (and_parts _ _ h).0 (λ q k. clear q (or_left _ (acted q N) k)),
-          released (due_after due (run M)) N fine.1 order.1 s (and_parts _ _ h).1 (clear_second due M N fine.0 order.2 clear))
-    released due (Both M N) fine order s h clear =
-        (released due M fine.0 order.0 s (and_parts _ _ h).0 (λ q k. clear q (or_left _ (acted q N) k)),
-          released due N fine.1 order.1 s (and_parts _ _ h).1 (λ q k. clear q (or_right (acted q M) _ k)))
+    released due (Second M N) fine order s h clear = (
+      released due M fine.0 order.0 s (and_parts _ _ h).0 (λ q k. clear q (or_left _ (acted q N) k)),
+      released (due_after due (run M)) N fine.1 order.1 s (and_parts _ _ h).1 (clear_second due M N fine.0 order.2 clear),
+    )
+    released due (Both M N) fine order s h clear = (
+      released due M fine.0 order.0 s (and_parts _ _ h).0 (λ q k. clear q (or_left _ (acted q N) k)),
+      released due N fine.1 order.1 s (and_parts _ _ h).1 (λ q k. clear q (or_right (acted q M) _ k)),
+    )
     released due (Held (Branch i r g I J b) phases M) fine order s h clear =
         released due M fine.0 order s (held_inside cast (Branch i r g I J b) phases M s fine h)
-          (λ q k. clear q (or_right (has_passed q (Branch i r g I J b) (phases q)) _ k))
+        (λ q k. clear q (or_right (has_passed q (Branch i r g I J b) (phases q)) _ k))
     released due (Held (Turning i r g I) phases M) fine order s h clear =
         released due M fine.0 order s (held_inside cast (Turning i r g I) phases M s fine h)
-          (λ q k. clear q (or_right (has_passed q (Turning i r g I) (phases q)) _ k))
+        (λ q k. clear q (or_right (has_passed q (Turning i r g I) (phases q)) _ k))
     released due (Held (Stopping i r g I) phases M) fine order s h clear = tt
-    released due (Held (Scoped i r I extra props level begin B) phases M) fine order s h clear =
-        ((λ in_s q in_q. ⊎_elim
-            (λ is. clear q (or_left _ (acted q M) (or_left (role_eq q r) (not (is_early (phases q))) (subst (λ y. role_eq y r ≡ true) (sym is) (role_itself r)))))
-            (λ other. absurd (scoped_alone i r I extra props level begin B phases M fine.1.proper s in_s h q in_q other))
-            (role_cases q r)),
-          released due M fine.0 order s (held_inside cast (Scoped i r I extra props level begin B) phases M s fine h)
-            (λ q k. clear q (or_right (role_eq q r || not (is_early (phases q))) _ k)))
-    released due (Held (Releasing i r I extra props level) phases M) fine order s h clear =
-        ((λ in_s q in_q. clear q (or_left _ (acted q M) in_q)),
-          released due M fine.0 order s (held_inside cast (Releasing i r I extra props level) phases M s fine h)
-            (λ q k. clear q (or_right (is_in q (term.Scope i r I extra props level)) _ k)))
+    released due (Held (Scoped i r I extra props level begin B) phases M) fine order s h clear = (
+      (λ in_s q in_q. ⊎_elim
+          (λ is. clear q (or_left _ (acted q M) (or_left (role_eq q r) (not (is_early (phases q))) (subst (λ y. role_eq y r ≡ true) (sym is) (role_itself r)))))
+          (λ other. absurd (scoped_alone i r I extra props level begin B phases M fine.1.proper s in_s h q in_q other))
+          (role_cases q r)),
+      released due M fine.0 order s (held_inside cast (Scoped i r I extra props level begin B) phases M s fine h)
+          (λ q k. clear q (or_right (role_eq q r || not (is_early (phases q))) _ k)),
+    )
+    released due (Held (Releasing i r I extra props level) phases M) fine order s h clear = (
+      (λ in_s q in_q. clear q (or_left _ (acted q M) in_q)),
+      released due M fine.0 order s (held_inside cast (Releasing i r I extra props level) phases M s fine h)
+          (λ q k. clear q (or_right (is_in q (term.Scope i r I extra props level)) _ k)),
+    )
     released due (Spent G) fine order s h clear = released_ended due G s fine clear
 
     played_there : (m : Move Effect Running) (A B : Type 0) {effect : Effect} {G : Running} → m ≡ Does effect G → A → Played m A B
@@ -172,8 +178,8 @@ module _ (cast : List Role) where
         → SettledAt cast stores answers updates due (running.Again i r g I (run M)) (entry.Pick i r b) r
     again_settled i r g I phases M fine closed b due clear =
         played_here _ _ _ (ended_plays cast stores answers updates (run M) (entry.Pick i r b)
-          (all_over cast M fine.0 (closed_ended cast (Turning i r g I) phases M fine closed)))
-          (λ q in_it. clear q (or_left _ (acted q M) (closed_passed cast (Turning i r g I) phases M fine closed q in_it)))
+        (all_over cast M fine.0 (closed_ended cast (Turning i r g I) phases M fine closed)))
+        (λ q in_it. clear q (or_left _ (acted q M) (closed_passed cast (Turning i r g I) phases M fine closed q in_it)))
 
     -- a visible step is settled, at a place before which nobody is due who has begun it
     settled_from : {M N : Mark} {d : Deed} → Steps cast stores answers updates M d N → Fine cast M → Order cast M → is_aux (entry_of d) ≡ false
@@ -187,22 +193,24 @@ module _ (cast : List Role) where
     settled_from (seq_first s) fine order visible due clear =
         played_there _ _ _ (run_step cast stores answers updates s fine.0 visible) (settled_from s fine.0 order visible due clear)
     settled_from (seq_begins {M = M} {d = d} e s) fine order visible due clear =
-        played_here _ _ _ (elsewhere M fine.0 d (λ h. fine.2 (deed_index d) h (deed_at cast stores answers updates s)))
-          (released due M fine.0 order (doer_of d) e clear,
-            settled_from s fine.1 tt visible (due_after due (run M)) (λ q h. absurd (both_ways false refl h)))
+        played_here _ _ _ (elsewhere M fine.0 d (λ h. fine.2 (deed_index d) h (deed_at cast stores answers updates s))) (
+          released due M fine.0 order (doer_of d) e clear,
+          settled_from s fine.1 tt visible (due_after due (run M)) (λ q h. absurd (both_ways false refl h)),
+        )
     settled_from (seq_lags {K = K} s) fine order visible due clear =
         played_there _ _ _ (run_step cast stores answers updates s fine.0 visible)
-          (settled_from s fine.0 order.0 visible due (λ q h. clear q (or_left _ (acted q K) h)))
+        (settled_from s fine.0 order.0 visible due (λ q h. clear q (or_left _ (acted q K) h)))
     settled_from (seq_goes {M = M} {N = N} {d = d} e s) fine order visible due clear =
-        played_here _ _ _ (elsewhere M fine.0 d (λ h. fine.2 (deed_index d) h (deed_at cast stores answers updates s)))
-          (released due M fine.0 order.0 (doer_of d) e (λ q h. clear q (or_left _ (acted q N) h)),
-            settled_from s fine.1 order.1 visible (due_after due (run M)) (clear_second due M N fine.0 order.2 clear))
+        played_here _ _ _ (elsewhere M fine.0 d (λ h. fine.2 (deed_index d) h (deed_at cast stores answers updates s))) (
+          released due M fine.0 order.0 (doer_of d) e (λ q h. clear q (or_left _ (acted q N) h)),
+          settled_from s fine.1 order.1 visible (due_after due (run M)) (clear_second due M N fine.0 order.2 clear),
+        )
     settled_from (par_left {K = K} s) fine order visible due clear =
         played_there _ _ _ (run_step cast stores answers updates s fine.0 visible)
-          (settled_from s fine.0 order.0 visible due (λ q h. clear q (or_left _ (acted q K) h)))
+        (settled_from s fine.0 order.0 visible due (λ q h. clear q (or_left _ (acted q K) h)))
     settled_from (par_right {M = M} {d = d} s) fine order visible due clear =
         played_here _ _ _ (elsewhere M fine.0 d (λ h. fine.2 (deed_index d) h (deed_at cast stores answers updates s)))
-          (settled_from s fine.1 order.1 visible due (λ q h. clear q (or_right (acted q M) _ h)))
+        (settled_from s fine.1 order.1 visible due (λ q h. clear q (or_right (acted q M) _ h)))
     settled_from picks fine order visible due clear = tt
     settled_from (turns e) fine order visible due clear = tt
     settled_from (stops e) fine order visible due clear = tt
@@ -214,7 +222,7 @@ module _ (cast : List Role) where
     settled_from (hears {k = k} e) fine order visible due clear = absurd (both_ways _ visible (tag_aux k))
     settled_from (works {k = k} {phases = phases} {M = M} {d = d} b s) fine order visible due clear =
         settled_inside k due (run M) (entry_of d) (doer_of d) (run_step cast stores answers updates s fine.0 visible)
-          (settled_from s fine.0 order visible due (λ q h. clear q (or_right (has_passed q k (phases q)) _ h)))
+        (settled_from s fine.0 order visible due (λ q h. clear q (or_right (has_passed q k (phases q)) _ h)))
     settled_from (arrives b e f) fine order visible due clear = absurd (both_ways _ visible (back_aux b))
     settled_from (gathers b e f) fine order visible due clear = absurd (both_ways _ visible (back_aux b))
     settled_from (keeps e) fine order visible due clear = tt
