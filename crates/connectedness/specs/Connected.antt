@@ -56,14 +56,14 @@ first_index (Set i x r e) = Some i
 first_index (Input i x r) = Some i
 first_index (Seq I J) = first_some (first_index I) (first_index J)
   where
-  first_some : Option Index → Option Index → Option Index
-  first_some None second = second
-  first_some (Some i) second = Some i
+    first_some : Option Index → Option Index → Option Index
+    first_some None second = second
+    first_some (Some i) second = Some i
 first_index (Par I J) = first_some (first_index I) (first_index J)
   where
-  first_some : Option Index → Option Index → Option Index
-  first_some None second = second
-  first_some (Some i) second = Some i
+    first_some : Option Index → Option Index → Option Index
+    first_some None second = second
+    first_some (Some i) second = Some i
 first_index (If i r g I J) = Some i
 first_index (While i r g I) = Some i
 first_index (Scope i r I extra props level) = Some i
@@ -78,9 +78,9 @@ pub record Gap : Type 0 where
 abbrev pub gap_at : List Role → Term → Term → Option Gap
 gap_at cast I J = gap (first_index I) (first_index J) (find (λ q. member q (starters J) && not (in_each_group I q)) cast)
   where
-  gap : Option Index → Option Index → Option Role → Option Gap
-  gap (Some i) (Some j) (Some q) = Some (record { first = i; second = j; role = q })
-  gap _ _ _ = None
+    gap : Option Index → Option Index → Option Role → Option Gap
+    gap (Some i) (Some j) (Some q) = Some (record { first = i; second = j; role = q })
+    gap _ _ _ = None
 
 abbrev pub earlier : Option Gap → Option Gap → Option Gap
 earlier (Some gap) later = Some gap

@@ -48,12 +48,13 @@ pub data Answer : Type 0 where
 abbrev pub answer_of : List Rule → Book → ScopeHead → Store → Answer
 answer_of rules book head s = of_choice (choose rules book head s)
   where
-  of_rule : Option Rule → Answer
-  of_rule None = Kept
-  of_rule (Some rule) = Replaced rule.name (term_of rule.body)
-  of_choice : Option ℕ → Answer
-  of_choice None = Kept
-  of_choice (Some m) = of_rule (slice_get rules m)
+    of_rule : Option Rule → Answer
+    of_rule None = Kept
+    of_rule (Some rule) = Replaced rule.name (term_of rule.body)
+
+    of_choice : Option ℕ → Answer
+    of_choice None = Kept
+    of_choice (Some m) = of_rule (slice_get rules m)
 
 abbrev pub operation : Role → Role → Index → List ℕ → Key
 operation a b i o = record { from = a; to = b; index = i; tag = Op o }
@@ -62,9 +63,9 @@ operation a b i o = record { from = a; to = b; index = i; tag = Op o }
 abbrev pub is_doer_due : Entry → Running → Bool
 is_doer_due e G = due_in (doer e)
   where
-  due_in : Option Role → Bool
-  due_in None = false
-  due_in (Some q) = is_due q G
+    due_in : Option Role → Bool
+    due_in None = false
+    due_in (Some q) = is_due q G
 
 -- the cast, the stores, the answers of the book, and the number of updates so far
 module _ (cast : List Role) (stores : Role → Store) (answers : ScopeHead → Answer) (updates : ℕ) where
@@ -72,14 +73,14 @@ module _ (cast : List Role) (stores : Role → Store) (answers : ScopeHead → A
   abbrev pub while_plays : Index → Role → Expression → Term → Entry → Move Effect Running
   while_plays i r g I e =
       when (entry_eq e (entry.Pick i r (is_true (eval g (stores r)))))
-          (Does Leaves (if is_true (eval g (stores r)) then Again i r g I (started I) else Skip))
+      (Does Leaves (if is_true (eval g (stores r)) then Again i r g I (started I) else Skip))
 
   -- a chosen scope: of its own body, or of a rule's body as the next update, one level higher
   abbrev pub scope_plays : Index → Role → Term → (Role → Bool) → ℕ → Answer → Entry → Move Effect Running
   scope_plays i r I roles level Kept e = when (entry_eq e (entry.Scope i r chosen.Keep)) (Does Leaves (Bar roles (started I)))
   scope_plays i r I roles level (Replaced name body) e =
       when (entry_eq e (entry.Scope i r (chosen.Rule name (suc updates))))
-          (Does Leaves (Bar roles (started (stamped body (suc updates) (suc level)))))
+      (Does Leaves (Bar roles (started (stamped body (suc updates) (suc level)))))
 
   -- The running term after an entry of a role, where the entry is played: all its fields must be those that the case gives.
   abbrev pub plays : Running → Entry → Move Effect Running
@@ -128,9 +129,9 @@ change_entry rules (change.Env key v) = Some (entry.Env key v)
 abbrev pub shows : List Rule → Entry → Change → Bool
 shows rules e c = is_that (change_entry rules c)
   where
-  is_that : Option Entry → Bool
-  is_that None = false
-  is_that (Some d) = entry_eq e d
+    is_that : Option Entry → Bool
+    is_that None = false
+    is_that (Some d) = entry_eq e d
 
 abbrev pub updates_after : Entry → ℕ → ℕ
 updates_after (entry.Scope i r (chosen.Rule name n)) updates = suc updates
@@ -141,31 +142,43 @@ abbrev pub follow_role : Bundle → State → Role → Entry → Option State
 follow_role b S r e =
     next (plays b.cast S.stores (λ head. answer_of b.rules S.book head (S.stores head.leader)) S.updates S.running e)
   where
-  next : Move Effect Running → Option State
-  next Stuck = None
-  next (Does effect G) =
-      Some (record { running = G; stores = updated r (affected effect (S.stores r)) S.stores; book = S.book;
-        updates = updates_after e S.updates; changes = S.changes; entries = suc S.entries })
+    next : Move Effect Running → Option State
+    next Stuck = None
+    next (Does effect G) =
+        Some (record {
+          running = G;
+          stores = updated r (affected effect (S.stores r)) S.stores;
+          book = S.book;
+          updates = updates_after e S.updates;
+          changes = S.changes;
+          entries = suc S.entries;
+        })
 
 -- the next state after the script's next change, which may stand once its stated number of entries is there
 abbrev pub follow_change : Bundle → State → Entry → Option State
 follow_change b S e = by_script (slice_get b.script S.changes)
   where
-  by_script : Option Timed → Option State
-  by_script None = None
-  by_script (Some timed) =
-      if shows b.rules e timed.change && nat_le timed.after S.entries
-      then Some (record { running = S.running; stores = S.stores; book = apply b.rules S.book timed.change;
-        updates = S.updates; changes = suc S.changes; entries = suc S.entries })
-      else None
+    by_script : Option Timed → Option State
+    by_script None = None
+    by_script (Some timed) =
+        if shows b.rules e timed.change && nat_le timed.after S.entries
+        then Some (record {
+          running = S.running;
+          stores = S.stores;
+          book = apply b.rules S.book timed.change;
+          updates = S.updates;
+          changes = suc S.changes;
+          entries = suc S.entries;
+        })
+        else None
 
 -- the next state after an entry, where the entry is played
 abbrev pub follow : Bundle → State → Entry → Option State
 follow b S e = by_doer (doer e)
   where
-  by_doer : Option Role → Option State
-  by_doer None = follow_change b S e
-  by_doer (Some r) = follow_role b S r e
+    by_doer : Option Role → Option State
+    by_doer None = follow_change b S e
+    by_doer (Some r) = follow_role b S r e
 
 -- the inputs of a role: all that is given for it, joined in their order
 abbrev pub inputs_of : List (Role × List Value) → Role → List Value
@@ -177,8 +190,14 @@ opening_store b r = fresh_store (inputs_of b.inputs r)
 
 -- the start of a play
 abbrev pub opening : Bundle → State
-opening b = record { running = started (term_of b.choreo); stores = opening_store b; book = opening_book b.rules b.opening b.env;
-  updates = 0; changes = 0; entries = 0 }
+opening b = record {
+  running = started (term_of b.choreo);
+  stores = opening_store b;
+  book = opening_book b.rules b.opening b.env;
+  updates = 0;
+  changes = 0;
+  entries = 0;
+}
 
 -- the state after entries, where each is played after those before it
 abbrev pub play_from : Bundle → State → List Entry → Option State

@@ -56,9 +56,9 @@ module _ (cast : List Role) (stores : Role → Store) (answers : ScopeHead → A
 abbrev pub Settled : Bundle → State → Entry → Type 0
 Settled b S e = by_doer (doer e)
   where
-  by_doer : Option Role → Type 0
-  by_doer None = Unit {0}
-  by_doer (Some r) = SettledAt b.cast S.stores (λ head. answer_of b.rules S.book head (S.stores head.leader)) S.updates nobody S.running e r
+    by_doer : Option Role → Type 0
+    by_doer None = Unit {0}
+    by_doer (Some r) = SettledAt b.cast S.stores (λ head. answer_of b.rules S.book head (S.stores head.leader)) S.updates nobody S.running e r
 
 -- each entry of a trace is settled in the state before it
 abbrev pub SettledFrom : Bundle → State → List Entry → Type 0

@@ -42,9 +42,9 @@ scope_act : (q : Role) (head : ScopeHead) (qs : List Role) (P : Process) (given 
     → act_of (entry_of d) ≡ Some (act.Scope head.index)
 scope_act q head qs P (Answers decide) {d = d} {R = R} h = by_decision (decide head) h
   where
-  by_decision : (decision : Decision) → begin_scope q head.index qs P decision ≡ Does d R → act_of (entry_of d) ≡ Some (act.Scope head.index)
-  by_decision Keeps h = ap (λ e. act_of (entry_of e)) (sym (does_same h).0)
-  by_decision (Replaces name n part) h = ap (λ e. act_of (entry_of e)) (sym (does_same h).0)
+    by_decision : (decision : Decision) → begin_scope q head.index qs P decision ≡ Does d R → act_of (entry_of d) ≡ Some (act.Scope head.index)
+    by_decision Keeps h = ap (λ e. act_of (entry_of e)) (sym (does_same h).0)
+    by_decision (Replaces name n part) h = ap (λ e. act_of (entry_of e)) (sym (does_same h).0)
 scope_act q head qs P given h = absurd (stuck_does h)
 
 module _ (q : Role) (s : Store) where

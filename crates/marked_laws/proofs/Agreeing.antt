@@ -1,41 +1,15 @@
 -- Pending messages that agree with a mark agree with its parts, and with the own messages of a construct.
-use Rattle.std.proofs.Common.{◌≡◌, Option, Some, None, refl, sym, ap, ◌∙◌, subst, inl, inr}
-use Rattle.std.proofs.lemmas.Bool.{cond-false, false_from_ne_true}
-use Rattle.dioc_terms.specs.declared.names.Role.{Role}
+use Rattle.std.proofs.Common.{◌≡◌, Option, sym, ap, ◌∙◌, subst, inl, inr}
 use Rattle.dioc_terms.specs.declared.names.Index.{Index}
 use Rattle.dioc_terms.specs.declared.processes.Key.{Key}
-use Rattle.dioc_terms.specs.declared.processes.Tag.TheVariants.{Turn, End}
-use Rattle.dioc_terms.specs.Equality.{key_eq}
-use Rattle.dioc_terms.specs.Processes.{Load, Done}
+use Rattle.dioc_terms.specs.Processes.{Load}
 use Rattle.dioc_terms.specs.Terms.{Term}
-use Rattle.dpoc_process.specs.Steps.{key}
-use Rattle.marked_laws.proofs.Constructs.{Phase, Phases, Kind, Branch, Turning, Stopping, Scoped, Releasing, Waits, Told, Inside, Sent, Gone, index, whole, told, telling_key, letter, peer, opened, own_mail}
-use Rattle.marked_laws.proofs.Equality.{key_parts, index_same}
+use Rattle.marked_laws.proofs.Constructs.{Phases, Kind, index, whole, own_mail}
 use Rattle.marked_laws.proofs.Mark.{Mark, Still, First, Second, Both, Held, mail, first_of_two, At}
 use Rattle.marked_laws.proofs.Keeps.{index_in}
-use Rattle.marked_laws.proofs.Mails.{mail_absent, first_then_none}
+use Rattle.marked_laws.proofs.Mails.{own_absent, mail_absent, first_then_none}
 use Rattle.marked_laws.proofs.MarkSteps.{Agrees}
 use Rattle.marked_laws.proofs.Proper.{Within}
-
--- a message is of no other index than its key's
-pub opened_away : (message : Key × Load) (j : Key) → (j.index ≡ message.0.index → ⊥) → opened (Some message) j ≡ None
-opened_away message j away =
-    cond-false (key_eq j message.0) (Some message.1) None (false_from_ne_true (key_eq j message.0) (λ h. away (index_same j.index message.0.index (key_parts j message.0 h).index)))
-
-letter_away : (k : Kind) (q : Role) (p : Phase) (j : Key) → (j.index ≡ index k → ⊥) → opened (letter k q p) j ≡ None
-letter_away k q Waits j away = refl
-letter_away k q Told j away = opened_away (telling_key k q, told k q) j away
-letter_away k q Inside j away = refl
-letter_away (Branch i r g I J b) q Sent j away = refl
-letter_away (Turning i r g I) q Sent j away = opened_away (key q r i Turn, Done) j away
-letter_away (Stopping i r g I) q Sent j away = refl
-letter_away (Scoped i r I extra props level begin B) q Sent j away = opened_away (key q r i End, Done) j away
-letter_away (Releasing i r I extra props level) q Sent j away = refl
-letter_away k q Gone j away = refl
-
--- a construct's own messages have its index
-pub own_away : (k : Kind) (phases : Phases) (j : Key) → (j.index ≡ index k → ⊥) → own_mail k phases j ≡ None
-own_away k phases j away = letter_away k (peer k j) (phases (peer k j)) j away
 
 module _ (mails : Key → Option Load) where
   pub agrees_first : (M : Mark) (J : Term) → Agrees mails (First M J) → Agrees mails M
@@ -66,7 +40,7 @@ module _ (mails : Key → Option Load) where
     -- the messages of a construct's body, and its own
     pub agrees_inside : Agrees mails M
     agrees_inside j at =
-        agrees j (inr at) ∙ ap (λ m. first_of_two m (mail M j)) (own_away k phases j (λ h. own (subst (λ n. At n M) h at)))
+        agrees j (inr at) ∙ ap (λ m. first_of_two m (mail M j)) (own_absent k phases j (λ h. own (subst (λ n. At n M) h at)))
 
     pub own_given : (j : Key) → j.index ≡ index k → mails j ≡ own_mail k phases j
     own_given j is =

@@ -66,33 +66,45 @@ module _ (mails : Key → Option Load) (decide : ScopeHead → Decision) (q : Ro
   pub can_choose : (head : ScopeHead) (qs : List Role) (P : Process) → Can (process.ScopeLead head qs P) (act.Scope head.index)
   can_choose head qs P = by_decision (decide head)
     where
-    by_decision : (decision : Decision) → (d : Deed) × (R : Process) × (when (act_eq (act.Scope head.index) (act.Scope head.index)) (begin_scope q head.index qs P decision) ≡ Does d R)
-    by_decision Keeps = (_, _, passes (act.Scope head.index) _ _ _ refl)
-    by_decision (Replaces name n part) = (_, _, passes (act.Scope head.index) _ _ _ refl)
+      by_decision : (decision : Decision) → (d : Deed) × (R : Process) × (when (act_eq (act.Scope head.index) (act.Scope head.index)) (begin_scope q head.index qs P decision) ≡ Does d R)
+      by_decision Keeps = (_, _, passes (act.Scope head.index) _ _ _ refl)
+      by_decision (Replaces name n part) = (_, _, passes (act.Scope head.index) _ _ _ refl)
 
   -- the first part of a sequence goes on, and so does the second once the first has ended
   pub can_first : (P Q : Process) (a : Act) → Can P a → Can (process.Seq P Q) a
-  can_first P Q a can = (can.0, after can.1 Q,
+  can_first P Q a can = (
+    can.0,
+    after can.1 Q,
     cond-false (ended P) (step q s Q a (given_by mails decide a)) (under (λ p. after p Q) (step q s P a (given_by mails decide a)))
-      (step_unended q s P a (given_by mails decide a) can.2)
-    ∙ ap (under (λ p. after p Q)) can.2)
+        (step_unended q s P a (given_by mails decide a) can.2)
+        ∙ ap (under (λ p. after p Q)) can.2,
+  )
 
   pub can_second : (P Q : Process) (a : Act) → ended P ≡ true → Can Q a → Can (process.Seq P Q) a
-  can_second P Q a over can = (can.0, can.1,
-    cond-true (ended P) (step q s Q a (given_by mails decide a)) (under (λ p. after p Q) (step q s P a (given_by mails decide a))) over ∙ can.2)
+  can_second P Q a over can = (
+    can.0,
+    can.1,
+    cond-true (ended P) (step q s Q a (given_by mails decide a)) (under (λ p. after p Q) (step q s P a (given_by mails decide a))) over ∙ can.2,
+  )
 
   -- either part of a parallel goes on, the right one where the left has ended
   pub can_left : (P Q : Process) (a : Act) → Can P a → Can (process.Par P Q) a
-  can_left P Q a can = (can.0, process.Par can.1 Q,
+  can_left P Q a can = (
+    can.0,
+    process.Par can.1 Q,
     cond-true (is_offered a (offers q P)) (under (λ p. process.Par p Q) (step q s P a (given_by mails decide a))) (under (process.Par P) (step q s Q a (given_by mails decide a)))
-      (step_offered q s P a (given_by mails decide a) can.2)
-    ∙ ap (under (λ p. process.Par p Q)) can.2)
+        (step_offered q s P a (given_by mails decide a) can.2)
+        ∙ ap (under (λ p. process.Par p Q)) can.2,
+  )
 
   pub can_right : (P Q : Process) (a : Act) → ended P ≡ true → Can Q a → Can (process.Par P Q) a
-  can_right P Q a over can = (can.0, process.Par P can.1,
+  can_right P Q a over can = (
+    can.0,
+    process.Par P can.1,
     cond-false (is_offered a (offers q P)) (under (λ p. process.Par p Q) (step q s P a (given_by mails decide a))) (under (process.Par P) (step q s Q a (given_by mails decide a)))
-      (ap (is_offered a) (ended_offers q P over))
-    ∙ ap (under (process.Par P)) can.2)
+        (ap (is_offered a) (ended_offers q P over))
+        ∙ ap (under (process.Par P)) can.2,
+  )
 
   pub can_tell : (from : Role) (qs : List Role) (i : Index) (t : Tag) (carries : Role → Load) (x : Role) (rest : List Role) → qs ≡ x ∷ rest
       → Can (tell from qs i t carries) (act.Put (key from x i t))
@@ -105,7 +117,7 @@ module _ (mails : Key → Option Load) (decide : ScopeHead → Decision) (q : Ro
       let j : Key = key x to i t in
       let left : Process = gathering (map (λ y. key y to i t) rest) in
       subst (λ ys. Can (gather to ys i t) (act.Take j)) (sym h)
-        (_, _, passes (act.Take j) (take_any j left (given_by mails decide (act.Take j))) _ _ (ap (take_any j left) (given_pending mails decide j l pending)))
+      (_, _, passes (act.Take j) (take_any j left (given_by mails decide (act.Take j))) _ _ (ap (take_any j left) (given_pending mails decide j l pending)))
 
   -- a role of a construct takes what its leader has told it
   pub can_hear : (cast : List Role) (k : Kind) → Begins cast k → role_eq q (leader k) ≡ false → is_in q (whole k) ≡ true → mails (telling_key k q) ≡ Some (told k q)
@@ -115,36 +127,47 @@ module _ (mails : Key → Option Load) (decide : ScopeHead → Decision) (q : Ro
       let P : Process = projected cast I q in
       let Q : Process = projected cast J q in
       can_along (process.IfFollow i r P Q) (projected cast (term.If i r g I J) q) (act.Take j)
-        (sym (cond-false (role_eq q r) _ _ other ∙ cond-true (is_in q (term.If i r g I J)) _ process.Skip in_it))
-        (_, _, passes (act.Take j) (take_flag j P Q (given_by mails decide (act.Take j))) _ _ (ap (take_flag j P Q) (given_pending mails decide j (Flag b) pending)))
+      (sym (cond-false (role_eq q r) _ _ other ∙ cond-true (is_in q (term.If i r g I J)) _ process.Skip in_it))
+      (_, _, passes (act.Take j) (take_flag j P Q (given_by mails decide (act.Take j))) _ _ (ap (take_flag j P Q) (given_pending mails decide j (Flag b) pending)))
   can_hear cast (Turning i r g I) begins other in_it pending =
       let j : Key = key r q i Go in
       let P : Process = projected cast I q in
       let W : Process = while_follows r q i P (process.WhileFollow i r P) in
       can_along (process.WhileFollow i r P) (projected cast (term.While i r g I) q) (act.Take j)
-        (sym (cond-false (role_eq q r) _ _ other ∙ cond-true (is_in q (term.While i r g I)) _ process.Skip in_it))
-        (_, _, passes (act.Take j) (take_flag j W process.Skip (given_by mails decide (act.Take j))) _ _ (ap (take_flag j W process.Skip) (given_pending mails decide j (Flag true) pending)))
+      (sym (cond-false (role_eq q r) _ _ other ∙ cond-true (is_in q (term.While i r g I)) _ process.Skip in_it))
+      (_, _, passes (act.Take j) (take_flag j W process.Skip (given_by mails decide (act.Take j))) _ _ (ap (take_flag j W process.Skip) (given_pending mails decide j (Flag true) pending)))
   can_hear cast (Stopping i r g I) begins other in_it pending =
       let j : Key = key r q i Go in
       let P : Process = projected cast I q in
       let W : Process = while_follows r q i P (process.WhileFollow i r P) in
       can_along (process.WhileFollow i r P) (projected cast (term.While i r g I) q) (act.Take j)
-        (sym (cond-false (role_eq q r) _ _ other ∙ cond-true (is_in q (term.While i r g I)) _ process.Skip in_it))
-        (_, _, passes (act.Take j) (take_flag j W process.Skip (given_by mails decide (act.Take j))) _ _ (ap (take_flag j W process.Skip) (given_pending mails decide j (Flag false) pending)))
+      (sym (cond-false (role_eq q r) _ _ other ∙ cond-true (is_in q (term.While i r g I)) _ process.Skip in_it))
+      (_, _, passes (act.Take j) (take_flag j W process.Skip (given_by mails decide (act.Take j))) _ _ (ap (take_flag j W process.Skip) (given_pending mails decide j (Flag false) pending)))
   can_hear cast (Scoped i r I extra props level begin B) begins other in_it pending =
       let j : Key = key r q i Begin in
       let P : Process = if is_in q I then projected cast I q else process.Skip in
       can_along (process.ScopeFollow i r P) (projected cast (term.Scope i r I extra props level) q) (act.Take j)
-        (sym (cond-false (role_eq q r) _ _ other ∙ cond-true (is_in q (term.Scope i r I extra props level)) (process.ScopeFollow i r P) process.Skip in_it))
-        (⊎_elim
-          (λ kept. (_, _, passes (act.Take j) (take_begin r q i P (given_by mails decide (act.Take j))) _ _
-            (ap (take_begin r q i P) (given_pending mails decide j Keep (pending ∙ ap Some (kept.1 q))))))
-          (λ parts. (_, _, passes (act.Take j) (take_begin r q i P (given_by mails decide (act.Take j))) _ _
-            (ap (take_begin r q i P) (given_pending mails decide j (Part parts.0 (projected cast B q)) (pending ∙ ap Some (parts.1 q))))))
-          begins)
+      (sym (cond-false (role_eq q r) _ _ other ∙ cond-true (is_in q (term.Scope i r I extra props level)) (process.ScopeFollow i r P) process.Skip in_it))
+      (⊎_elim
+      (λ kept. (
+        _,
+        _,
+        passes (act.Take j) (take_begin r q i P (given_by mails decide (act.Take j))) _ _
+            (ap (take_begin r q i P) (given_pending mails decide j Keep (pending ∙ ap Some (kept.1 q)))),
+      ))
+      (λ parts. (
+        _,
+        _,
+        passes (act.Take j) (take_begin r q i P (given_by mails decide (act.Take j))) _ _
+            (ap (take_begin r q i P) (given_pending mails decide j (Part parts.0 (projected cast B q)) (pending ∙ ap Some (parts.1 q)))),
+      ))
+      begins)
   can_hear cast (Releasing i r I extra props level) begins other in_it pending =
       let j : Key = key r q i Out in
       can_along (process.Gather (j ∷ [])) (before cast (Releasing i r I extra props level) q) (act.Take j)
-        (sym (cond-true (is_in q (term.Scope i r I extra props level)) _ process.Skip in_it))
-        (_, _, passes (act.Take j) (take_any j process.Skip (given_by mails decide (act.Take j))) _ _
-          (ap (take_any j process.Skip) (given_pending mails decide j process.Done pending)))
+      (sym (cond-true (is_in q (term.Scope i r I extra props level)) _ process.Skip in_it)) (
+        _,
+        _,
+        passes (act.Take j) (take_any j process.Skip (given_by mails decide (act.Take j))) _ _
+            (ap (take_any j process.Skip) (given_pending mails decide j process.Done pending)),
+      )

@@ -1,7 +1,7 @@
 -- What the book answers in a sound bundle: bodies that are proper once they are stamped, of roles of the scope.
-use Rattle.std.proofs.Common.{◌≡◌, ◌⊎◌, ℕ, suc, List, [], ◌∷◌, Bool, true, false, ◌&&◌, filter, nat_lt, if◌then◌else◌, Option, Some, None, slice_get, unwrap_or, length, All, refl, sym, ap, ◌∙◌, subst, inl, inr, ⊎_elim}
+use Rattle.std.proofs.Common.{◌≡◌, ℕ, suc, List, [], ◌∷◌, Bool, true, false, ◌&&◌, filter, nat_lt, if◌then◌else◌, Option, Some, None, slice_get, unwrap_or, All, refl, sym, ap, ◌∙◌, subst, ⊎_elim}
 use Rattle.std.specs.List.{list_all}
-use Rattle.std.proofs.lemmas.Bool.{and_parts, and_from, cases_Bool, cond-true, cond-false, both_ways}
+use Rattle.std.proofs.lemmas.Bool.{and_parts, and_from, cases_Bool, cond-true, cond-false}
 use Rattle.std.proofs.lemmas.Option.{slice_get_within, unwrap_or-slice_get}
 use Rattle.dioc_terms.specs.declared.names.Role.{Role}
 use Rattle.dioc_terms.specs.declared.processes.ScopeHead.{ScopeHead}
@@ -12,14 +12,14 @@ use Rattle.dioc_terms.specs.Equality.{member}
 use Rattle.dioc_terms.specs.Expressions.{expression}
 use Rattle.dioc_terms.specs.Rules.{Book, fits, no_lower, first_greatest, choose}
 use Rattle.dioc_terms.specs.Stores.{Store}
-use Rattle.dioc_terms.specs.Terms.{Term, is_in, mentions, stamped, distinct_roles, cast_of, term}
+use Rattle.dioc_terms.specs.Terms.{Term, is_in, mentions, stamped, distinct_roles, term}
 use Rattle.dioc_terms.specs.Values.{holds, bound}
 use Rattle.global_steps.specs.Follow.{Answer, Kept, Replaced, answer_of}
 use Rattle.marked_laws.specs.Laws.{IsSound, IsSoundRule}
 use Rattle.marked_laws.specs.Network.{Network}
 use Rattle.marked_laws.proofs.MarkSteps.{SoundAnswers}
-use Rattle.marked_laws.proofs.Networks.{none_some, some_same}
-use Rattle.marked_laws.proofs.Premise.{mentions_is, all_member, proper_update, cast_distinct, in_cast_of, stamped-is_in}
+use Rattle.marked_laws.proofs.Shapes.{none_some, some_same}
+use Rattle.marked_laws.proofs.Premise.{Known, all_member, proper_update}
 use Rattle.marked_laws.proofs.Proper.{Proper}
 use Rattle.marked_laws.proofs.Simulate.{answers_in}
 
@@ -93,31 +93,39 @@ module _ (rules : List Rule) where
       let choice = by_choice (choose rules book head s) name B h in
       let rule = by_rule (slice_get rules choice.0) name B choice.2 in
       let fit : fits rules book head s choice.0 ≡ true =
-          greatest_passes (fits rules book head s) (filter (fits rules book head s) book.order) choice.0 (filter_passes (fits rules book head s) book.order) choice.1 in
+      greatest_passes (fits rules book head s) (filter (fits rules book head s) book.order) choice.0 (filter_passes (fits rules book head s) book.order) choice.1 in
       let of_rule : rule_fits book head s (Some rule.0) ≡ true = sym (ap (rule_fits book head s) rule.1) ∙ fit in
       let level = and_parts _ (nat_lt head.level 16) of_rule in
-      record { number = choice.0; rule = rule.0; stands = rule.1; is_body = rule.2;
-        roles = (and_parts _ (list_all (λ q. member q head.roles) (mentions (term (rule.0).body))) level.0).1 }
+      record {
+        number = choice.0;
+        rule = rule.0;
+        stands = rule.1;
+        is_body = rule.2;
+        roles = (and_parts _ (list_all (λ q. member q head.roles) (mentions (term (rule.0).body))) level.0).1;
+      }
 
 -- in a sound bundle
-pub cast_unique : (b : Bundle) → IsSound b → distinct_roles b.cast ≡ true
-cast_unique b sound = ap distinct_roles sound.formed.cast ∙ cast_distinct (term b.choreo)
+module _ (known : Known) where
+  pub cast_unique : (b : Bundle) → IsSound b → distinct_roles b.cast ≡ true
+  cast_unique b sound = ap distinct_roles sound.formed.cast ∙ known.casts.distinct (term b.choreo)
 
-pub sound_answers : (b : Bundle) → IsSound b → (N : Network) → SoundAnswers b.cast (answers_in b N) N.updates
-sound_answers b sound N = record {
-  proper = λ head name B h. proper_body head name B (answered b.rules N.book head (N.stores head.leader) name B h);
-  inner = λ head name B h q in_it. inner_body head name B (answered b.rules N.book head (N.stores head.leader) name B h) q in_it }
-  where
-  proper_body : (head : ScopeHead) (name : List ℕ) (B : Term) → Answered b.rules N.book head (N.stores head.leader) B
-      → Proper b.cast (stamped B (suc N.updates) (suc head.level))
-  proper_body head name B found =
-      let formed : IsFormedRule found.rule = all_at IsFormedRule b.rules found.number found.rule sound.formed.rules found.stands in
-      let fair : IsSoundRule b.cast found.rule = all_at (IsSoundRule b.cast) b.rules found.number found.rule sound.rules found.stands in
-      subst (λ C. Proper b.cast (stamped C (suc N.updates) (suc head.level))) (sym found.is_body)
-        (proper_update b.cast (term found.rule.body) (suc N.updates) (suc head.level) formed.body.marks fair.body.connected fair.body.no_self_message
-          (λ q h. all_member (λ r. member r b.cast) (mentions (term found.rule.body)) q fair.in_cast (mentions_is q (term found.rule.body) ∙ h)))
-  inner_body : (head : ScopeHead) (name : List ℕ) (B : Term) → Answered b.rules N.book head (N.stores head.leader) B → (q : Role)
-      → is_in q (stamped B (suc N.updates) (suc head.level)) ≡ true → member q head.roles ≡ true
-  inner_body head name B found q in_it =
-      all_member (λ r. member r head.roles) (mentions (term found.rule.body)) q found.roles
-        (mentions_is q (term found.rule.body) ∙ ap (is_in q) (sym found.is_body) ∙ sym (stamped-is_in q B (suc N.updates) (suc head.level)) ∙ in_it)
+  pub sound_answers : (b : Bundle) → IsSound b → (N : Network) → SoundAnswers b.cast (answers_in b N) N.updates
+  sound_answers b sound N = record {
+    proper = λ head name B h. proper_body head name B (answered b.rules N.book head (N.stores head.leader) name B h);
+    inner = λ head name B h q in_it. inner_body head name B (answered b.rules N.book head (N.stores head.leader) name B h) q in_it;
+  }
+    where
+      proper_body : (head : ScopeHead) (name : List ℕ) (B : Term) → Answered b.rules N.book head (N.stores head.leader) B
+          → Proper b.cast (stamped B (suc N.updates) (suc head.level))
+      proper_body head name B found =
+          let formed : IsFormedRule found.rule = all_at IsFormedRule b.rules found.number found.rule sound.formed.rules found.stands in
+          let fair : IsSoundRule b.cast found.rule = all_at (IsSoundRule b.cast) b.rules found.number found.rule sound.rules found.stands in
+          subst (λ C. Proper b.cast (stamped C (suc N.updates) (suc head.level))) (sym found.is_body)
+          (proper_update known b.cast (term found.rule.body) (suc N.updates) (suc head.level) formed.body.marks fair.body.connected fair.body.no_self_message
+          (λ q h. all_member (λ r. member r b.cast) (mentions (term found.rule.body)) q fair.in_cast (sym (known.mentions q (term found.rule.body)) ∙ h)))
+
+      inner_body : (head : ScopeHead) (name : List ℕ) (B : Term) → Answered b.rules N.book head (N.stores head.leader) B → (q : Role)
+          → is_in q (stamped B (suc N.updates) (suc head.level)) ≡ true → member q head.roles ≡ true
+      inner_body head name B found q in_it =
+          all_member (λ r. member r head.roles) (mentions (term found.rule.body)) q found.roles
+          (sym (known.mentions q (term found.rule.body)) ∙ ap (is_in q) (sym found.is_body) ∙ sym (known.bodies.named q B (suc N.updates) (suc head.level)) ∙ in_it)

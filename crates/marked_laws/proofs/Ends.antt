@@ -1,25 +1,24 @@
 -- Where a role has ended a mark, and where all have: what is left of the running term and of the mail then.
-use Rattle.std.proofs.Common.{◌≡◌, ◌⊎◌, ℕ, List, [], ◌∷◌, Bool, true, false, ◌&&◌, ◌||◌, not, Option, Some, None, refl, sym, ap, ap₂, ◌∙◌, subst, inl, inr, ⊎_elim}
-use Rattle.std.proofs.lemmas.Bool.{and_parts, and_from, and_left, and_right, or_parts, or_left, both_ways, cases_Bool, cond-true, cond-false}
+use Rattle.std.proofs.Common.{◌≡◌, ℕ, List, true, false, None, refl, sym, ap, ap₂, ◌∙◌, subst, ⊎_elim}
+use Rattle.std.proofs.lemmas.Bool.{and_parts, and_from, both_ways, cases_Bool, cond-true, cond-false}
 use Rattle.dioc_terms.specs.declared.names.Role.{Role}
 use Rattle.dioc_terms.specs.declared.names.Index.{Index}
 use Rattle.dioc_terms.specs.declared.values.Value.{Value}
 use Rattle.dioc_terms.specs.declared.processes.Key.{Key}
-use Rattle.dioc_terms.specs.declared.processes.Tag.TheVariants.{Op}
-use Rattle.dioc_terms.specs.Equality.{role_eq, key_eq, member}
+use Rattle.dioc_terms.specs.Equality.{role_eq}
 use Rattle.dioc_terms.specs.Expressions.{Expression}
 use Rattle.dioc_terms.specs.Terms as term
 use Rattle.dioc_terms.specs.Terms.{Term, is_in, others}
 use Rattle.dioc_terms.specs.Processes as process
 use Rattle.dioc_terms.specs.Processes.{Process, Load, Val}
 use Rattle.projection.specs.Projection.{projected}
-use Rattle.dpoc_process.specs.Steps.{key, ended, tell, gather}
+use Rattle.dpoc_process.specs.Steps.{ended}
 use Rattle.global_steps.specs.Running as running
 use Rattle.global_steps.specs.Running.{Running, started}
-use Rattle.marked_laws.proofs.Constructs.{Phase, Phases, Kind, Branch, Turning, Stopping, Scoped, Releasing, Waits, Told, Inside, Sent, Gone, waits, is_early, is_late, leader, whole, body, runs, whole_not_skip, letter, peer, opened, own_mail, leads, before, inside, outside, follows, untold, ungone}
+use Rattle.marked_laws.proofs.Constructs.{Phase, Phases, Kind, Branch, Turning, Stopping, Scoped, Releasing, Waits, Told, Inside, Sent, Gone, waits, is_late, leader, whole, body, whole_not_skip, letter, peer, opened, leads, inside, outside, follows}
 use Rattle.marked_laws.proofs.Equality.{role_itself}
-use Rattle.marked_laws.proofs.Gates.{outsider, before_busy, before_out, outsider_body}
-use Rattle.marked_laws.proofs.Mark.{Mark, Still, Flying, Over, First, Second, Both, Held, Spent, origin, run, mail, first_of_two, place, Sound, Fine}
+use Rattle.marked_laws.proofs.Gates.{before_busy, outsider_body}
+use Rattle.marked_laws.proofs.Mark.{Mark, Still, Flying, Over, First, Second, Both, Held, Spent, origin, run, mail, first_of_two, place, Fine}
 use Rattle.marked_laws.proofs.Roles.{role_cases, role_swap}
 
 module _ (cast : List Role) where
@@ -56,12 +55,12 @@ module _ (cast : List Role) where
       (λ in_it. absurd (both_ways _ (before_busy cast k q other in_it) h)) (λ out. outsider_body cast k phases M fine q other out) (cases_Bool (is_in q (whole k)))
   follows_inside k phases M q fine other Inside at h = inside_inside k fine.1.is_body h
     where
-    inside_inside : (k : Kind) → origin M ≡ body k → ended (inside cast k q (place cast M q)) ≡ true → ended (place cast M q) ≡ true
-    inside_inside (Branch i r g I J b) is h = h
-    inside_inside (Turning i r g I) is h = (and_parts (ended (place cast M q)) _ h).0
-    inside_inside (Stopping i r g I) is h = still_skip M q is
-    inside_inside (Scoped i r I extra props level begin B) is h = (and_parts (ended (place cast M q)) _ h).0
-    inside_inside (Releasing i r I extra props level) is h = still_skip M q is
+      inside_inside : (k : Kind) → origin M ≡ body k → ended (inside cast k q (place cast M q)) ≡ true → ended (place cast M q) ≡ true
+      inside_inside (Branch i r g I J b) is h = h
+      inside_inside (Turning i r g I) is h = (and_parts (ended (place cast M q)) _ h).0
+      inside_inside (Stopping i r g I) is h = still_skip M q is
+      inside_inside (Scoped i r I extra props level begin B) is h = (and_parts (ended (place cast M q)) _ h).0
+      inside_inside (Releasing i r I extra props level) is h = still_skip M q is
   follows_inside k phases M q fine other Sent at h = fine.1.through q (ap is_late at)
   follows_inside k phases M q fine other Gone at h = fine.1.through q (ap is_late at)
 
@@ -120,18 +119,18 @@ module _ (cast : List Role) where
   letter_none k phases M fine q Told at h =
       let who = fine.1.known q (ap waits at) in
       absurd (both_ways _ (before_busy cast k q who.0 who.1)
-        (sym (ap (λ p. ended (follows cast k q p (place cast M q))) at) ∙ sym (ap ended (place_follower k phases M q who.0)) ∙ h))
+      (sym (ap (λ p. ended (follows cast k q p (place cast M q))) at) ∙ sym (ap ended (place_follower k phases M q who.0)) ∙ h))
   letter_none k phases M fine q Inside at h = refl
   letter_none k phases M fine q Sent at h =
       let who = fine.1.known q (ap waits at) in
       sent k who.0 who.1 (sym (ap (λ p. ended (follows cast k q p (place cast M q))) at) ∙ sym (ap ended (place_follower k phases M q who.0)) ∙ h)
     where
-    sent : (k : Kind) → role_eq q (leader k) ≡ false → is_in q (whole k) ≡ true → ended (outside cast k q) ≡ true → letter k q Sent ≡ None
-    sent (Branch i r g I J b) other in_it e = refl
-    sent (Turning i r g I) other in_it e = absurd (both_ways _ (before_busy cast (Turning i r g I) q other in_it) e)
-    sent (Stopping i r g I) other in_it e = refl
-    sent (Scoped i r I extra props level begin B) other in_it e = absurd (both_ways false refl e)
-    sent (Releasing i r I extra props level) other in_it e = refl
+      sent : (k : Kind) → role_eq q (leader k) ≡ false → is_in q (whole k) ≡ true → ended (outside cast k q) ≡ true → letter k q Sent ≡ None
+      sent (Branch i r g I J b) other in_it e = refl
+      sent (Turning i r g I) other in_it e = absurd (both_ways _ (before_busy cast (Turning i r g I) q other in_it) e)
+      sent (Stopping i r g I) other in_it e = refl
+      sent (Scoped i r I extra props level begin B) other in_it e = absurd (both_ways false refl e)
+      sent (Releasing i r I extra props level) other in_it e = refl
   letter_none k phases M fine q Gone at h = refl
 
   -- where each role has ended, no message is pending
@@ -147,5 +146,5 @@ module _ (cast : List Role) where
   no_mail (Held k phases M) fine h j =
       let q : Role = peer k j in
       ap₂ first_of_two (ap (λ m. opened m j) (letter_none k phases M fine q (phases q) refl (h q)))
-        (no_mail M fine.0 (λ r. held_inside k phases M r fine (h r)) j)
+      (no_mail M fine.0 (λ r. held_inside k phases M r fine (h r)) j)
   no_mail (Spent G) fine h j = refl

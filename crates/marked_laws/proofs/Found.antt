@@ -47,12 +47,18 @@ module _ (cast : List Role) (stores : Role → Store) (answers : ScopeHead → A
   -- a sequence whose second part was begun
   finds_second : (M N : Mark) → FindsHere (place cast M q) M → FindsHere (place cast N q) N → FindsHere (process.Seq (place cast M q) (place cast N q)) (Second M N)
   finds_second M N first second d R h = ⊎_elim
-      (λ k. let found = second d R k.1 in
-        (Second M found.0, seq_goes (subst (λ r. ended (place cast M r) ≡ true) (sym found.3) k.0) found.1,
-          found.2 ∙ sym (ap (λ p. seq_norm p (norm (place cast found.0 q))) (norm_of_ended (place cast M q) k.0)), found.3))
-      (λ k. let found = first d k.1 k.2 in
-        (Second found.0 N, seq_lags found.1,
-          ap norm (sym k.3) ∙ norm-after k.1 (place cast N q) ∙ ap (λ p. seq_norm p (norm (place cast N q))) found.2, found.3))
+      (λ k. let found = second d R k.1 in (
+        Second M found.0,
+        seq_goes (subst (λ r. ended (place cast M r) ≡ true) (sym found.3) k.0) found.1,
+        found.2 ∙ sym (ap (λ p. seq_norm p (norm (place cast found.0 q))) (norm_of_ended (place cast M q) k.0)),
+        found.3,
+      ))
+      (λ k. let found = first d k.1 k.2 in (
+        Second found.0 N,
+        seq_lags found.1,
+        ap norm (sym k.3) ∙ norm-after k.1 (place cast N q) ∙ ap (λ p. seq_norm p (norm (place cast N q))) found.2,
+        found.3,
+      ))
       (seq_does q (stores q) a (given_by mails decide a) (place cast M q) (place cast N q) h)
 
   -- the receiver of a message in flight takes it
@@ -63,24 +69,26 @@ module _ (cast : List Role) (stores : Role → Store) (answers : ScopeHead → A
       let done = when_act a (act.Take j) (take_value j x (given_by mails decide a)) h in
       let took = value_does j x (given_by mails decide a) done.1 in
       let here : Some (Val v) ≡ Some (Val took.0) =
-        sym (agrees j refl ∙ cond-true (key_eq j j) (Some (Val v)) None (key_itself j)) ∙ taken_by mails decide a j (Val took.0) done.0 took.1 in
-      (Over (term.Com i o r e q x),
+      sym (agrees j refl ∙ cond-true (key_eq j j) (Some (Val v)) None (key_itself j)) ∙ taken_by mails decide a j (Val took.0) done.0 took.1 in (
+        Over (term.Com i o r e q x),
         subst (λ y. Steps cast stores answers updates (Flying i o r e q x v) y (Over (term.Com i o r e q x))) (sym (took.2 ∙ ap (λ w. Takes j (Some x) (Val w)) (sym (value_same here)))) lands,
-        ap norm took.3, ap doer_of took.2)
+        ap norm took.3,
+        ap doer_of took.2,
+      )
 
   finds : (M : Mark) → Fine cast M → Agrees mails M → FindsHere (place cast M q) M
   finds (Still I) fine agrees d R h = finds_still cast stores answers updates mails decide q a decides I agrees d R h
   finds (Flying i o r e b x v) fine agrees d R h =
       finds_either cast stores answers updates mails decide q a (role_eq q r) process.Skip (if role_eq q b then process.Recv i o r x else process.Skip) (Flying i o r e b x v)
-        (λ is. finds_skip cast stores answers updates mails decide q a (Flying i o r e b x v))
-        (λ other. finds_either cast stores answers updates mails decide q a (role_eq q b) (process.Recv i o r x) process.Skip (Flying i o r e b x v)
-          (λ is. subst (λ y. Agrees mails (Flying i o r e y x v) → FindsHere (process.Recv i o r x) (Flying i o r e y x v)) (role_same q b is) (finds_flying i o r e x v) agrees)
-          (λ out. finds_skip cast stores answers updates mails decide q a (Flying i o r e b x v)))
-        d R h
+      (λ is. finds_skip cast stores answers updates mails decide q a (Flying i o r e b x v))
+      (λ other. finds_either cast stores answers updates mails decide q a (role_eq q b) (process.Recv i o r x) process.Skip (Flying i o r e b x v)
+      (λ is. subst (λ y. Agrees mails (Flying i o r e y x v) → FindsHere (process.Recv i o r x) (Flying i o r e y x v)) (role_same q b is) (finds_flying i o r e x v) agrees)
+      (λ out. finds_skip cast stores answers updates mails decide q a (Flying i o r e b x v)))
+      d R h
   finds (Over I) fine agrees d R h = absurd (stuck_does h)
   finds (First M J) fine agrees d R h =
       finds_first cast stores answers updates mails decide q a M J (λ d R h. finds M fine.0 (agrees_first mails M J agrees) d R h)
-        (finds_still cast stores answers updates mails decide q a decides J (agrees_next mails M J fine.2 agrees)) d R h
+      (finds_still cast stores answers updates mails decide q a decides J (agrees_next mails M J fine.2 agrees)) d R h
   finds (Second M N) fine agrees d R h =
       let parts = agrees_second mails M N fine.2 agrees in
       finds_second M N (λ d R h. finds M fine.0 parts.0 d R h) (λ d R h. finds N fine.1 parts.1 d R h) d R h
@@ -89,7 +97,7 @@ module _ (cast : List Role) (stores : Role → Store) (answers : ScopeHead → A
       finds_both cast stores answers updates mails decide q a M N (λ d R h. finds M fine.0 parts.0 d R h) (λ d R h. finds N fine.1 parts.1 d R h) d R h
   finds (Held k phases M) fine agrees d R h =
       finds_held cast stores answers updates unique mails decide q a k phases M fine agrees
-        (λ d R h. finds M fine.0 (agrees_inside mails k phases M fine.1.own agrees) d R h) d R h
+      (λ d R h. finds M fine.0 (agrees_inside mails k phases M fine.1.own agrees) d R h) d R h
   finds (Spent G) fine agrees d R h = absurd (stuck_does h)
 
 -- each step of a role's place is a step of the mark, to the same place up to ended parts

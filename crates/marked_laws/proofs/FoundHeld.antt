@@ -21,11 +21,13 @@ use Rattle.dioc_terms.specs.Terms.{Term, is_in, others, distinct_roles}
 use Rattle.projection.specs.Projection.{projected}
 use Rattle.dpoc_process.specs.Steps.{Deed, Puts, Takes, Given, Got, Decision, ended, after, key, tell, gather, send_one, take_flag, take_begin, take_any, while_follows, scope_follows, step}
 use Rattle.global_steps.specs.Follow.{Answer, updated}
+use Rattle.marked_laws.proofs.Tells.{tell_ended, gather_ended}
+use Rattle.marked_laws.proofs.Shapes.{none_some, some_same}
 use Rattle.marked_laws.proofs.Agreeing.{own_given}
 use Rattle.marked_laws.proofs.Constructs.{Phase, Phases, Kind, Branch, Turning, Stopping, Scoped, Releasing, Waits, Told, Inside, Sent, Gone, waits, gone, is_early, all_wait, leader, index, tag, told, whole, body, telling_key, backing_key, letter, opened, own_mail, Backs, turn_backs, end_backs, Busy, Begins, leads, before, inside, outside, follows, untold, ungone}
 use Rattle.marked_laws.proofs.Ends.{place_leader, place_follower}
 use Rattle.marked_laws.proofs.Equality.{role_itself, key_itself, key_parts}
-use Rattle.marked_laws.proofs.FoundParts.{taken_by, when_act, seq_does, tell_does, gather_does, take_any_does, tell_over, gather_over}
+use Rattle.marked_laws.proofs.FoundParts.{taken_by, when_act, seq_does, tell_does, gather_does, take_any_does}
 use Rattle.marked_laws.proofs.FoundStill.{untold_all, Found, Finds, made, picks_loop}
 use Rattle.marked_laws.proofs.Gates.{outsider, untold_head, ungone_head, untold_tells, ungone_gathers, untold_same, ungone_same}
 use Rattle.marked_laws.proofs.Mark.{Mark, Held, Spent, run, place, Fine, Closed}
@@ -34,15 +36,9 @@ use Rattle.marked_laws.proofs.Moves.{does_same, stuck_does}
 use Rattle.marked_laws.proofs.Norm.{norm, seq_norm, norm-after, norm_of_ended}
 use Rattle.marked_laws.proofs.Roles.{role_cases, updated_here}
 
-none_some : {l : Load} → None ≡ Some l → ⊥
-none_some h = cc
-
-some_same : {l m : Load} → Some l ≡ Some m → m ≡ l
-some_same h = cc
-
 -- a message is opened by its own key, and not by one of another tag
 opened_itself : (j : Key) (n l : Load) → opened (Some (j, n)) j ≡ Some l → l ≡ n
-opened_itself j n l h = some_same (sym (cond-true (key_eq j j) (Some n) None (key_itself j)) ∙ h)
+opened_itself j n l h = sym (some_same (sym (cond-true (key_eq j j) (Some n) None (key_itself j)) ∙ h))
 
 opened_apart : (j i : Key) (n l : Load) → tag_eq j.tag i.tag ≡ false → opened (Some (i, n)) j ≡ Some l → ⊥
 opened_apart j i n l apart h =
@@ -102,7 +98,7 @@ flag_does j P Q given h = absurd (stuck_does h)
 
 begin_does : (r q : Role) (i : Index) (P : Process) (given : Given) {d : Deed} {R : Process} → take_begin r q i P given ≡ Does d R
     → ((given ≡ Got Keep) × (d ≡ Takes (key r q i Begin) None Keep) × (R ≡ scope_follows r q i P))
-      ⊎ ((n : ℕ) × (Q : Process) × (given ≡ Got (Part n Q)) × (d ≡ Takes (key r q i Begin) None (Part n Q)) × (R ≡ scope_follows r q i Q))
+    ⊎ ((n : ℕ) × (Q : Process) × (given ≡ Got (Part n Q)) × (d ≡ Takes (key r q i Begin) None (Part n Q)) × (R ≡ scope_follows r q i Q))
 begin_does r q i P (Got Keep) h = let same = does_same h in inl (refl, sym same.0, sym same.1)
 begin_does r q i P (Got (Part n Q)) h = let same = does_same h in inr (n, Q, refl, sym same.0, sym same.1)
 begin_does r q i P given h = absurd (stuck_does h)
@@ -136,45 +132,77 @@ module _ (cast : List Role) (q : Role) (s : Store) (a : Act) (given : Given) whe
       let Q : Process = projected cast J q in
       let way : before cast (Branch i r g I J b) q ≡ process.IfFollow i r P Q = cond-false (role_eq q r) _ _ other ∙ cond-true (is_in q (term.If i r g I J)) _ process.Skip in_it in
       let done = when_act a (act.Take (key r q i Choice)) (take_flag (key r q i Choice) P Q given) (sym (ap (λ x. step q s x a given) way) ∙ h) in
-      let took = flag_does (key r q i Choice) P Q given done.1 in
-      (done.0, Flag took.0, took.1, λ is. (took.2 ∙ ap (Takes (key r q i Choice) None) is,
-        ap norm (took.3 ∙ ap (λ c. if c then P else Q) (flag_same is) ∙ branch b)))
+      let took = flag_does (key r q i Choice) P Q given done.1 in (
+        done.0,
+        Flag took.0,
+        took.1,
+        λ is. (
+          took.2 ∙ ap (Takes (key r q i Choice) None) is,
+          ap norm (took.3 ∙ ap (λ c. if c then P else Q) (flag_same is) ∙ branch b),
+        ),
+      )
     where
-    branch : (b : Bool) → (if b then projected cast I q else projected cast J q) ≡ projected cast (if b then I else J) q
-    branch true = refl
-    branch false = refl
+      branch : (b : Bool) → (if b then projected cast I q else projected cast J q) ≡ projected cast (if b then I else J) q
+      branch true = refl
+      branch false = refl
   takes_told (Turning i r g I) begins other in_it d R h =
       let P : Process = projected cast I q in
       let W : Process = process.WhileFollow i r P in
       let way : projected cast (term.While i r g I) q ≡ W = cond-false (role_eq q r) _ _ other ∙ cond-true (is_in q (term.While i r g I)) W process.Skip in_it in
       let done = when_act a (act.Take (key r q i Go)) (take_flag (key r q i Go) (while_follows r q i P W) process.Skip given) (sym (ap (λ x. step q s x a given) way) ∙ h) in
-      let took = flag_does (key r q i Go) (while_follows r q i P W) process.Skip given done.1 in
-      (done.0, Flag took.0, took.1, λ is. (took.2 ∙ ap (Takes (key r q i Go) None) is,
-        ap norm (took.3 ∙ ap (λ c. if c then while_follows r q i P W else process.Skip) (flag_same is))
-        ∙ norm-after P (process.Seq (send_one (key q r i Turn) Done) W)
-        ∙ ap (λ w. norm (process.Seq P (process.Seq (send_one (key q r i Turn) Done) w))) (sym way)))
+      let took = flag_does (key r q i Go) (while_follows r q i P W) process.Skip given done.1 in (
+        done.0,
+        Flag took.0,
+        took.1,
+        λ is. (
+          took.2 ∙ ap (Takes (key r q i Go) None) is,
+          ap norm (took.3 ∙ ap (λ c. if c then while_follows r q i P W else process.Skip) (flag_same is))
+              ∙ norm-after P (process.Seq (send_one (key q r i Turn) Done) W)
+              ∙ ap (λ w. norm (process.Seq P (process.Seq (send_one (key q r i Turn) Done) w))) (sym way),
+        ),
+      )
   takes_told (Stopping i r g I) begins other in_it d R h =
       let P : Process = projected cast I q in
       let W : Process = process.WhileFollow i r P in
       let way : projected cast (term.While i r g I) q ≡ W = cond-false (role_eq q r) _ _ other ∙ cond-true (is_in q (term.While i r g I)) W process.Skip in_it in
       let done = when_act a (act.Take (key r q i Go)) (take_flag (key r q i Go) (while_follows r q i P W) process.Skip given) (sym (ap (λ x. step q s x a given) way) ∙ h) in
-      let took = flag_does (key r q i Go) (while_follows r q i P W) process.Skip given done.1 in
-      (done.0, Flag took.0, took.1, λ is. (took.2 ∙ ap (Takes (key r q i Go) None) is,
-        ap norm (took.3 ∙ ap (λ c. if c then while_follows r q i P W else process.Skip) (flag_same is))))
+      let took = flag_does (key r q i Go) (while_follows r q i P W) process.Skip given done.1 in (
+        done.0,
+        Flag took.0,
+        took.1,
+        λ is. (
+          took.2 ∙ ap (Takes (key r q i Go) None) is,
+          ap norm (took.3 ∙ ap (λ c. if c then while_follows r q i P W else process.Skip) (flag_same is)),
+        ),
+      )
   takes_told (Scoped i r I extra props level begin B) begins other in_it d R h =
       let P : Process = if is_in q I then projected cast I q else process.Skip in
       let way : projected cast (term.Scope i r I extra props level) q ≡ process.ScopeFollow i r P =
-        cond-false (role_eq q r) _ _ other ∙ cond-true (is_in q (term.Scope i r I extra props level)) (process.ScopeFollow i r P) process.Skip in_it in
+      cond-false (role_eq q r) _ _ other ∙ cond-true (is_in q (term.Scope i r I extra props level)) (process.ScopeFollow i r P) process.Skip in_it in
       let done = when_act a (act.Take (key r q i Begin)) (take_begin r q i P given) (sym (ap (λ x. step q s x a given) way) ∙ h) in
       let rest : Process = process.Seq (send_one (key q r i End) Done) (process.Gather (key r q i Out ∷ [])) in
       ⊎_elim
-        (λ kept. (done.0, Keep, kept.0, λ is. (kept.1 ∙ ap (Takes (key r q i Begin) None) is,
+      (λ kept. (
+        done.0,
+        Keep,
+        kept.0,
+        λ is. (
+          kept.1 ∙ ap (Takes (key r q i Begin) None) is,
           ap norm kept.2 ∙ norm-after P rest ∙ ap (λ p. seq_norm p (norm rest)) (own_part I)
-          ∙ ⊎_elim (λ b. ap (λ C. norm (process.Seq (projected cast C q) rest)) (sym b.0)) (λ b. absurd (keep_part (is ∙ b.1 q))) begins)))
-        (λ part. (done.0, Part part.0 part.1, part.2, λ is. (part.3 ∙ ap (Takes (key r q i Begin) None) is,
+              ∙ ⊎_elim (λ b. ap (λ C. norm (process.Seq (projected cast C q) rest)) (sym b.0)) (λ b. absurd (keep_part (is ∙ b.1 q))) begins,
+        ),
+      ))
+      (λ part. (
+        done.0,
+        Part part.0 part.1,
+        part.2,
+        λ is. (
+          part.3 ∙ ap (Takes (key r q i Begin) None) is,
           ap norm part.4 ∙ norm-after part.1 rest
-          ∙ ⊎_elim (λ b. absurd (keep_part (sym (b.1 q) ∙ sym is))) (λ b. ap (λ p. norm (process.Seq p rest)) (part_same (is ∙ b.1 q))) begins)))
-        (begin_does r q i P given done.1)
+              ∙ ⊎_elim (λ b. absurd (keep_part (sym (b.1 q) ∙ sym is))) (λ b. ap (λ p. norm (process.Seq p rest)) (part_same (is ∙ b.1 q))) begins,
+        ),
+      ))
+      (begin_does r q i P given done.1)
   takes_told (Releasing i r I extra props level) begins other in_it d R h =
       let way : before cast (Releasing i r I extra props level) q ≡ process.Gather (key r q i Out ∷ []) = cond-true (is_in q (term.Scope i r I extra props level)) _ process.Skip in_it in
       let done = when_act a (act.Take (key r q i Out)) (take_any (key r q i Out) process.Skip given) (sym (ap (λ x. step q s x a given) way) ∙ h) in
@@ -200,9 +228,12 @@ module _ (cast : List Role) (stores : Role → Store) (answers : ScopeHead → A
     -- the leader tells the next role
     tells_found : q ≡ leader k → (t : Role) (rest : List Role) → untold cast k phases ≡ t ∷ rest → (d : Deed) (R : Process)
         → d ≡ Puts (telling_key k t) (told k t) → norm R ≡ norm (leads cast k (updated t Told phases) (place cast M q)) → FoundHere (Held k phases M) d R
-    tells_found is t rest first d R deed alike =
-        (Held k (updated t Told phases) M, subst (λ x. Steps cast stores answers updates (Held k phases M) x (Held k (updated t Told phases) M)) (sym deed) (tells first),
-          alike ∙ sym (ap norm (place_leader cast k (updated t Told phases) M q is)), ap doer_of deed ∙ sym is)
+    tells_found is t rest first d R deed alike = (
+      Held k (updated t Told phases) M,
+      subst (λ x. Steps cast stores answers updates (Held k phases M) x (Held k (updated t Told phases) M)) (sym deed) (tells first),
+      alike ∙ sym (ap norm (place_leader cast k (updated t Told phases) M q is)),
+      ap doer_of deed ∙ sym is,
+    )
 
     -- a leader that has nothing to do but to tell
     leads_telling : q ≡ leader k → ((ph : Phases) (P : Process) → leads cast k ph P ≡ tell (leader k) (untold cast k ph) (index k) (tag k) (told k))
@@ -210,12 +241,12 @@ module _ (cast : List Role) (stores : Role → Store) (answers : ScopeHead → A
     leads_telling is form d R h =
         let P : Process = place cast M q in
         let told_one = tell_does q (stores q) a (given_by mails decide a) (leader k) (untold cast k phases) (index k) (tag k) (told k)
-          (sym (ap (λ x. step q (stores q) x a (given_by mails decide a)) (form phases P)) ∙ h) in
+        (sym (ap (λ x. step q (stores q) x a (given_by mails decide a)) (form phases P)) ∙ h) in
         let t : Role = told_one.0 in
         tells_found is t told_one.1 told_one.2 d R told_one.3
-          (ap norm told_one.4
-          ∙ ap (λ qs. norm (tell (leader k) qs (index k) (tag k) (told k))) (sym (untold_tells cast unique k phases t told_one.1 told_one.2 Told refl))
-          ∙ sym (ap norm (form (updated t Told phases) P)))
+        (ap norm told_one.4
+        ∙ ap (λ qs. norm (tell (leader k) qs (index k) (tag k) (told k))) (sym (untold_tells cast unique k phases t told_one.1 told_one.2 Told refl))
+        ∙ sym (ap norm (form (updated t Told phases) P)))
 
     -- a leader that tells, and then runs its part and nothing more
     leads_running : q ≡ leader k → ((ph : Phases) (P : Process) → leads cast k ph P ≡ process.Seq (tell (leader k) (untold cast k ph) (index k) (tag k) (told k)) P)
@@ -224,21 +255,21 @@ module _ (cast : List Role) (stores : Role → Store) (answers : ScopeHead → A
         let P : Process = place cast M q in
         let T : Process = tell (leader k) (untold cast k phases) (index k) (tag k) (told k) in
         ⊎_elim
-          (λ ran. works_found (inl (subst (λ r. role_eq q r ≡ true) is (role_itself q), tell_over (leader k) (untold cast k phases) (index k) (tag k) (told k) ran.0)) d R R ran.1
-            (λ N alike. alike ∙ sym (seq_skip T (place cast N q) ran.0) ∙ sym (ap norm (place_leader cast k phases N q is ∙ form phases (place cast N q)))))
-          (λ telling.
-            let told_one = tell_does q (stores q) a (given_by mails decide a) (leader k) (untold cast k phases) (index k) (tag k) (told k) telling.2 in
-            let t : Role = told_one.0 in
-            tells_found is t told_one.1 told_one.2 d R told_one.3
-              (ap norm (sym telling.3) ∙ norm-after telling.1 P
-              ∙ ap (λ x. norm (process.Seq x P)) (told_one.4 ∙ ap (λ qs. tell (leader k) qs (index k) (tag k) (told k)) (sym (untold_tells cast unique k phases t told_one.1 told_one.2 Told refl)))
-              ∙ sym (ap norm (form (updated t Told phases) P))))
-          (seq_does q (stores q) a (given_by mails decide a) T P (sym (ap (λ x. step q (stores q) x a (given_by mails decide a)) (form phases P)) ∙ h))
+        (λ ran. works_found (inl (subst (λ r. role_eq q r ≡ true) is (role_itself q), tell_ended (leader k) (untold cast k phases) (index k) (tag k) (told k) ran.0)) d R R ran.1
+        (λ N alike. alike ∙ sym (seq_skip T (place cast N q) ran.0) ∙ sym (ap norm (place_leader cast k phases N q is ∙ form phases (place cast N q)))))
+        (λ telling.
+        let told_one = tell_does q (stores q) a (given_by mails decide a) (leader k) (untold cast k phases) (index k) (tag k) (told k) telling.2 in
+        let t : Role = told_one.0 in
+        tells_found is t told_one.1 told_one.2 d R told_one.3
+        (ap norm (sym telling.3) ∙ norm-after telling.1 P
+        ∙ ap (λ x. norm (process.Seq x P)) (told_one.4 ∙ ap (λ qs. tell (leader k) qs (index k) (tag k) (told k)) (sym (untold_tells cast unique k phases t told_one.1 told_one.2 Told refl)))
+        ∙ sym (ap norm (form (updated t Told phases) P))))
+        (seq_does q (stores q) a (given_by mails decide a) T P (sym (ap (λ x. step q (stores q) x a (given_by mails decide a)) (form phases P)) ∙ h))
 
     -- a leader that tells, runs its part, gathers, and goes on with a tail
     module _ (t : Tag) (backs : Backs k t) (tail : Process)
         (form : (ph : Phases) (P : Process) → leads cast k ph P
-          ≡ process.Seq (tell (leader k) (untold cast k ph) (index k) (tag k) (told k)) (process.Seq P (process.Seq (gather (leader k) (ungone cast k ph) (index k) t) tail))) where
+        ≡ process.Seq (tell (leader k) (untold cast k ph) (index k) (tag k) (told k)) (process.Seq P (process.Seq (gather (leader k) (ungone cast k ph) (index k) t) tail))) where
       -- the leader takes the message of the next role that is through
       gathers_found : q ≡ leader k → ended (tell (leader k) (untold cast k phases) (index k) (tag k) (told k)) ≡ true → ended (place cast M q) ≡ true
           → (d : Deed) (G R : Process) → step q (stores q) (gather (leader k) (ungone cast k phases) (index k) t) a (given_by mails decide a) ≡ Does d G
@@ -249,20 +280,21 @@ module _ (cast : List Role) (stores : Role → Store) (answers : ScopeHead → A
           let rest : List Role = took.1 in
           let head = ungone_head cast k phases x rest took.3 in
           let here : own_mail k phases (backing_key k t x) ≡ Some took.2 =
-            sym (own_given mails k phases M fine.1.own agrees (backing_key k t x) refl) ∙ taken_by mails decide a (backing_key k t x) took.2 took.4 took.5 in
+          sym (own_given mails k phases M fine.1.own agrees (backing_key k t x) refl) ∙ taken_by mails decide a (backing_key k t x) took.2 took.4 took.5 in
           let sent = back_phase backs x (phases x) took.2 (sym (to_leader k phases x t head.1) ∙ here) in
           let same_untold : untold cast k (updated x Gone phases) ≡ untold cast k phases = untold_same cast k phases x Gone (sym (ap waits sent.0)) in
-          let fewer : ungone cast k (updated x Gone phases) ≡ rest = ungone_gathers cast unique k phases x rest took.3 Gone refl in
-          (Held k (updated x Gone phases) M,
+          let fewer : ungone cast k (updated x Gone phases) ≡ rest = ungone_gathers cast unique k phases x rest took.3 Gone refl in (
+            Held k (updated x Gone phases) M,
             subst (λ e. Steps cast stores answers updates (Held k phases M) e (Held k (updated x Gone phases) M)) (sym (took.6 ∙ ap (Takes (backing_key k t x) None) sent.1))
-              (gathers backs took.3 sent.0),
+                (gathers backs took.3 sent.0),
             ap norm (sym left) ∙ norm-after G tail ∙ ap (λ g. norm (process.Seq g tail)) took.7
-            ∙ sym (seq_skip (place cast M q) (process.Seq (gather (leader k) rest (index k) t) tail) ran)
-            ∙ sym (seq_skip (tell (leader k) (untold cast k phases) (index k) (tag k) (told k)) (process.Seq (place cast M q) (process.Seq (gather (leader k) rest (index k) t) tail)) told_all)
-            ∙ ap₂ (λ qs rs. norm (process.Seq (tell (leader k) qs (index k) (tag k) (told k)) (process.Seq (place cast M q) (process.Seq (gather (leader k) rs (index k) t) tail))))
-              (sym same_untold) (sym fewer)
-            ∙ sym (ap norm (place_leader cast k (updated x Gone phases) M q is ∙ form (updated x Gone phases) (place cast M q))),
-            ap doer_of took.6 ∙ sym is)
+                ∙ sym (seq_skip (place cast M q) (process.Seq (gather (leader k) rest (index k) t) tail) ran)
+                ∙ sym (seq_skip (tell (leader k) (untold cast k phases) (index k) (tag k) (told k)) (process.Seq (place cast M q) (process.Seq (gather (leader k) rest (index k) t) tail)) told_all)
+                ∙ ap₂ (λ qs rs. norm (process.Seq (tell (leader k) qs (index k) (tag k) (told k)) (process.Seq (place cast M q) (process.Seq (gather (leader k) rs (index k) t) tail))))
+                (sym same_untold) (sym fewer)
+                ∙ sym (ap norm (place_leader cast k (updated x Gone phases) M q is ∙ form (updated x Gone phases) (place cast M q))),
+            ap doer_of took.6 ∙ sym is,
+          )
 
       leads_backed : q ≡ leader k → (Closed cast k phases M → FindsHere tail (Held k phases M)) → FindsHere (leads cast k phases (place cast M q)) (Held k phases M)
       leads_backed is tail_finds d R h =
@@ -271,68 +303,70 @@ module _ (cast : List Role) (stores : Role → Store) (answers : ScopeHead → A
           let G : Process = gather (leader k) (ungone cast k phases) (index k) t in
           let given : Given = given_by mails decide a in
           ⊎_elim
-            (λ ran. ⊎_elim
-              (λ over. ⊎_elim
-                (λ gathered. tail_finds (record {
-                  told = tell_over (leader k) (untold cast k phases) (index k) (tag k) (told k) ran.0;
-                  done = subst (λ r. ended (place cast M r) ≡ true) is over.0;
-                  gathered = gather_over (leader k) (ungone cast k phases) (index k) t gathered.0 }) d R gathered.1)
-                (λ gathering. gathers_found is ran.0 over.0 d gathering.1 R gathering.2 gathering.3)
-                (seq_does q (stores q) a given G tail over.1))
-              (λ inner. works_found (inl (subst (λ r. role_eq q r ≡ true) is (role_itself q), tell_over (leader k) (untold cast k phases) (index k) (tag k) (told k) ran.0))
-                d inner.1 R inner.2
-                (λ N alike. ap norm (sym inner.3) ∙ norm-after inner.1 (process.Seq G tail) ∙ ap (λ p. seq_norm p (norm (process.Seq G tail))) alike
-                  ∙ sym (seq_skip T (process.Seq (place cast N q) (process.Seq G tail)) ran.0)
-                  ∙ sym (ap norm (place_leader cast k phases N q is ∙ form phases (place cast N q)))))
-              (seq_does q (stores q) a given P (process.Seq G tail) ran.1))
-            (λ telling.
-              let told_one = tell_does q (stores q) a given (leader k) (untold cast k phases) (index k) (tag k) (told k) telling.2 in
-              let x : Role = told_one.0 in
-              let head = untold_head cast k phases x told_one.1 told_one.2 in
-              tells_found is x told_one.1 told_one.2 d R told_one.3
-                (ap norm (sym telling.3) ∙ norm-after telling.1 (process.Seq P (process.Seq G tail))
-                ∙ ap (λ y. norm (process.Seq y (process.Seq P (process.Seq G tail)))) told_one.4
-                ∙ ap₂ (λ qs rs. norm (process.Seq (tell (leader k) qs (index k) (tag k) (told k)) (process.Seq P (process.Seq (gather (leader k) rs (index k) t) tail))))
-                  (sym (untold_tells cast unique k phases x told_one.1 told_one.2 Told refl))
-                  (sym (ungone_same cast k phases x Told (sym (waiting_not_gone (phases x) head.0))))
-                ∙ sym (ap norm (form (updated x Told phases) P))))
-            (seq_does q (stores q) a given T (process.Seq P (process.Seq G tail)) (sym (ap (λ x. step q (stores q) x a given) (form phases P)) ∙ h))
+          (λ ran. ⊎_elim
+          (λ over. ⊎_elim
+          (λ gathered. tail_finds (record {
+            told = tell_ended (leader k) (untold cast k phases) (index k) (tag k) (told k) ran.0;
+            done = subst (λ r. ended (place cast M r) ≡ true) is over.0;
+            gathered = gather_ended (leader k) (ungone cast k phases) (index k) t gathered.0;
+          }) d R gathered.1)
+          (λ gathering. gathers_found is ran.0 over.0 d gathering.1 R gathering.2 gathering.3)
+          (seq_does q (stores q) a given G tail over.1))
+          (λ inner. works_found (inl (subst (λ r. role_eq q r ≡ true) is (role_itself q), tell_ended (leader k) (untold cast k phases) (index k) (tag k) (told k) ran.0))
+          d inner.1 R inner.2
+          (λ N alike. ap norm (sym inner.3) ∙ norm-after inner.1 (process.Seq G tail) ∙ ap (λ p. seq_norm p (norm (process.Seq G tail))) alike
+          ∙ sym (seq_skip T (process.Seq (place cast N q) (process.Seq G tail)) ran.0)
+          ∙ sym (ap norm (place_leader cast k phases N q is ∙ form phases (place cast N q)))))
+          (seq_does q (stores q) a given P (process.Seq G tail) ran.1))
+          (λ telling.
+          let told_one = tell_does q (stores q) a given (leader k) (untold cast k phases) (index k) (tag k) (told k) telling.2 in
+          let x : Role = told_one.0 in
+          let head = untold_head cast k phases x told_one.1 told_one.2 in
+          tells_found is x told_one.1 told_one.2 d R told_one.3
+          (ap norm (sym telling.3) ∙ norm-after telling.1 (process.Seq P (process.Seq G tail))
+          ∙ ap (λ y. norm (process.Seq y (process.Seq P (process.Seq G tail)))) told_one.4
+          ∙ ap₂ (λ qs rs. norm (process.Seq (tell (leader k) qs (index k) (tag k) (told k)) (process.Seq P (process.Seq (gather (leader k) rs (index k) t) tail))))
+          (sym (untold_tells cast unique k phases x told_one.1 told_one.2 Told refl))
+          (sym (ungone_same cast k phases x Told (sym (waiting_not_gone (phases x) head.0))))
+          ∙ sym (ap norm (form (updated x Told phases) P))))
+          (seq_does q (stores q) a given T (process.Seq P (process.Seq G tail)) (sym (ap (λ x. step q (stores q) x a given) (form phases P)) ∙ h))
 
     -- a role that hasn't taken the leader's message takes it
     waits_found : role_eq q (leader k) ≡ false → is_early (phases q) ≡ true → FindsHere (before cast k q) (Held k phases M)
     waits_found other early d R h = ⊎_elim
         (λ in_it.
-          let took = takes_told cast q (stores q) a (given_by mails decide a) k fine.1.begins other in_it d R h in
-          let here : own_mail k phases (telling_key k q) ≡ Some took.1 =
-            sym (own_given mails k phases M fine.1.own agrees (telling_key k q) refl) ∙ taken_by mails decide a (telling_key k q) took.1 took.0 took.2 in
-          let at = told_phase k q (phases q) took.1 (sym (from_leader k phases q (tag k)) ∙ here) in
-          let goes_on = took.3 at.1 in
-          (Held k (updated q Inside phases) M,
-            subst (λ e. Steps cast stores answers updates (Held k phases M) e (Held k (updated q Inside phases) M)) (sym goes_on.0) (hears at.0),
-            goes_on.1 ∙ ap (λ I. norm (inside cast k q (projected cast I q))) (sym fine.1.is_body)
-            ∙ ap (λ P. norm (inside cast k q P)) (sym (fine.1.fresh q early other))
-            ∙ sym (ap norm (place_follower cast k (updated q Inside phases) M q other ∙ ap (λ p. follows cast k q p (place cast M q)) (updated_here q Inside phases))),
-            ap doer_of goes_on.0))
+        let took = takes_told cast q (stores q) a (given_by mails decide a) k fine.1.begins other in_it d R h in
+        let here : own_mail k phases (telling_key k q) ≡ Some took.1 =
+        sym (own_given mails k phases M fine.1.own agrees (telling_key k q) refl) ∙ taken_by mails decide a (telling_key k q) took.1 took.0 took.2 in
+        let at = told_phase k q (phases q) took.1 (sym (from_leader k phases q (tag k)) ∙ here) in
+        let goes_on = took.3 at.1 in (
+          Held k (updated q Inside phases) M,
+          subst (λ e. Steps cast stores answers updates (Held k phases M) e (Held k (updated q Inside phases) M)) (sym goes_on.0) (hears at.0),
+          goes_on.1 ∙ ap (λ I. norm (inside cast k q (projected cast I q))) (sym fine.1.is_body)
+              ∙ ap (λ P. norm (inside cast k q P)) (sym (fine.1.fresh q early other))
+              ∙ sym (ap norm (place_follower cast k (updated q Inside phases) M q other ∙ ap (λ p. follows cast k q p (place cast M q)) (updated_here q Inside phases))),
+          ap doer_of goes_on.0,
+        ))
         (λ out. absurd (outside_waits k out other h))
         (cases_Bool (is_in q (whole k)))
       where
-      outside_waits : (k : Kind) → is_in q (whole k) ≡ false → role_eq q (leader k) ≡ false → step q (stores q) (before cast k q) a (given_by mails decide a) ≡ Does d R → ⊥
-      outside_waits (Branch i r g I J b) out other h =
-          let way : before cast (Branch i r g I J b) q ≡ process.Skip = cond-false (role_eq q r) _ _ other ∙ cond-false (is_in q (term.If i r g I J)) _ process.Skip out in
-          stuck_does (sym (ap (λ x. step q (stores q) x a (given_by mails decide a)) way) ∙ h)
-      outside_waits (Turning i r g I) out other h =
-          let way : before cast (Turning i r g I) q ≡ process.Skip = cond-false (role_eq q r) _ _ other ∙ cond-false (is_in q (term.While i r g I)) _ process.Skip out in
-          stuck_does (sym (ap (λ x. step q (stores q) x a (given_by mails decide a)) way) ∙ h)
-      outside_waits (Stopping i r g I) out other h =
-          let way : before cast (Stopping i r g I) q ≡ process.Skip = cond-false (role_eq q r) _ _ other ∙ cond-false (is_in q (term.While i r g I)) _ process.Skip out in
-          stuck_does (sym (ap (λ x. step q (stores q) x a (given_by mails decide a)) way) ∙ h)
-      outside_waits (Scoped i r I extra props level begin B) out other h =
-          let way : before cast (Scoped i r I extra props level begin B) q ≡ process.Skip =
+        outside_waits : (k : Kind) → is_in q (whole k) ≡ false → role_eq q (leader k) ≡ false → step q (stores q) (before cast k q) a (given_by mails decide a) ≡ Does d R → ⊥
+        outside_waits (Branch i r g I J b) out other h =
+            let way : before cast (Branch i r g I J b) q ≡ process.Skip = cond-false (role_eq q r) _ _ other ∙ cond-false (is_in q (term.If i r g I J)) _ process.Skip out in
+            stuck_does (sym (ap (λ x. step q (stores q) x a (given_by mails decide a)) way) ∙ h)
+        outside_waits (Turning i r g I) out other h =
+            let way : before cast (Turning i r g I) q ≡ process.Skip = cond-false (role_eq q r) _ _ other ∙ cond-false (is_in q (term.While i r g I)) _ process.Skip out in
+            stuck_does (sym (ap (λ x. step q (stores q) x a (given_by mails decide a)) way) ∙ h)
+        outside_waits (Stopping i r g I) out other h =
+            let way : before cast (Stopping i r g I) q ≡ process.Skip = cond-false (role_eq q r) _ _ other ∙ cond-false (is_in q (term.While i r g I)) _ process.Skip out in
+            stuck_does (sym (ap (λ x. step q (stores q) x a (given_by mails decide a)) way) ∙ h)
+        outside_waits (Scoped i r I extra props level begin B) out other h =
+            let way : before cast (Scoped i r I extra props level begin B) q ≡ process.Skip =
             cond-false (role_eq q r) _ _ other ∙ cond-false (is_in q (term.Scope i r I extra props level)) _ process.Skip out in
-          stuck_does (sym (ap (λ x. step q (stores q) x a (given_by mails decide a)) way) ∙ h)
-      outside_waits (Releasing i r I extra props level) out other h =
-          let way : before cast (Releasing i r I extra props level) q ≡ process.Skip = cond-false (is_in q (term.Scope i r I extra props level)) _ process.Skip out in
-          stuck_does (sym (ap (λ x. step q (stores q) x a (given_by mails decide a)) way) ∙ h)
+            stuck_does (sym (ap (λ x. step q (stores q) x a (given_by mails decide a)) way) ∙ h)
+        outside_waits (Releasing i r I extra props level) out other h =
+            let way : before cast (Releasing i r I extra props level) q ≡ process.Skip = cond-false (is_in q (term.Scope i r I extra props level)) _ process.Skip out in
+            stuck_does (sym (ap (λ x. step q (stores q) x a (given_by mails decide a)) way) ∙ h)
 
     -- a role inside a turn or a scope runs its part, and then tells the leader that it is through
     inside_backed : (t : Tag) → Backs k t → ((P : Process) → inside cast k q P ≡ process.Seq P (process.Seq (send_one (backing_key k t q) Done) (outside cast k q)))
@@ -343,21 +377,22 @@ module _ (cast : List Role) (stores : Role → Store) (answers : ScopeHead → A
         let O : Process = outside cast k q in
         let given : Given = given_by mails decide a in
         ⊎_elim
-          (λ over. ⊎_elim
-            (λ not_sent. absurd (both_ways false refl not_sent.0))
-            (λ sending.
-              let done = when_act a (act.Put (backing_key k t q)) (Does (Puts (backing_key k t q) Done) process.Skip) sending.2 in
-              let same = does_same done.1 in
-              (Held k (updated q Sent phases) M,
-                subst (λ e. Steps cast stores answers updates (Held k phases M) e (Held k (updated q Sent phases) M)) same.0 (arrives backs at over.0),
-                ap norm (sym sending.3) ∙ ap (λ y. norm (after y O)) (sym same.1)
-                ∙ sym (ap norm (place_follower cast k (updated q Sent phases) M q other ∙ ap (λ p. follows cast k q p P) (updated_here q Sent phases))),
-                ap doer_of (sym same.0)))
-            (seq_does q (stores q) a given S O over.1))
-          (λ inner. works_found (inr (other, at)) d inner.1 R inner.2
-            (λ N alike. ap norm (sym inner.3) ∙ norm-after inner.1 (process.Seq S O) ∙ ap (λ p. seq_norm p (norm (process.Seq S O))) alike
-              ∙ sym (ap norm (place_follower cast k phases N q other ∙ ap (λ p. follows cast k q p (place cast N q)) at ∙ form (place cast N q)))))
-          (seq_does q (stores q) a given P (process.Seq S O) (sym (ap (λ x. step q (stores q) x a given) (form P)) ∙ h))
+        (λ over. ⊎_elim
+        (λ not_sent. absurd (both_ways false refl not_sent.0))
+        (λ sending.
+        let done = when_act a (act.Put (backing_key k t q)) (Does (Puts (backing_key k t q) Done) process.Skip) sending.2 in
+        let same = does_same done.1 in (
+          Held k (updated q Sent phases) M,
+          subst (λ e. Steps cast stores answers updates (Held k phases M) e (Held k (updated q Sent phases) M)) same.0 (arrives backs at over.0),
+          ap norm (sym sending.3) ∙ ap (λ y. norm (after y O)) (sym same.1)
+              ∙ sym (ap norm (place_follower cast k (updated q Sent phases) M q other ∙ ap (λ p. follows cast k q p P) (updated_here q Sent phases))),
+          ap doer_of (sym same.0),
+        ))
+        (seq_does q (stores q) a given S O over.1))
+        (λ inner. works_found (inr (other, at)) d inner.1 R inner.2
+        (λ N alike. ap norm (sym inner.3) ∙ norm-after inner.1 (process.Seq S O) ∙ ap (λ p. seq_norm p (norm (process.Seq S O))) alike
+        ∙ sym (ap norm (place_follower cast k phases N q other ∙ ap (λ p. follows cast k q p (place cast N q)) at ∙ form (place cast N q)))))
+        (seq_does q (stores q) a given P (process.Seq S O) (sym (ap (λ x. step q (stores q) x a given) (form P)) ∙ h))
 
   -- the leader of a loop whose turn is over picks again
   turn_tail : (i : Index) (g : Expression) (I : Term) (phases : Phases) (M : Mark) → Closed cast (Turning i q g I) phases M
@@ -374,14 +409,15 @@ module _ (cast : List Role) (stores : Role → Store) (answers : ScopeHead → A
   scope_tail i I extra props level begin B phases M closed d R h =
       let told_one = tell_does q (stores q) a (given_by mails decide a) q (others cast q (term.Scope i q I extra props level)) i Out (λ r. Done) h in
       let k : Kind = Releasing i q I extra props level in
-      let x : Role = told_one.0 in
-      (Held k (updated x Told all_wait) (Spent (run M)),
+      let x : Role = told_one.0 in (
+        Held k (updated x Told all_wait) (Spent (run M)),
         subst (λ e. Steps cast stores answers updates (Held (Scoped i q I extra props level begin B) phases M) e (Held k (updated x Told all_wait) (Spent (run M)))) (sym told_one.3)
-          (frees closed told_one.2),
+            (frees closed told_one.2),
         ap norm told_one.4
-        ∙ ap (λ qs. norm (tell q qs i Out (λ r. Done))) (sym (untold_tells cast unique k all_wait x told_one.1 (untold_all cast k ∙ told_one.2) Told refl))
-        ∙ sym (ap norm (place_leader cast k (updated x Told all_wait) (Spent (run M)) q refl)),
-        ap doer_of told_one.3)
+            ∙ ap (λ qs. norm (tell q qs i Out (λ r. Done))) (sym (untold_tells cast unique k all_wait x told_one.1 (untold_all cast k ∙ told_one.2) Told refl))
+            ∙ sym (ap norm (place_leader cast k (updated x Told all_wait) (Spent (run M)) q refl)),
+        ap doer_of told_one.3,
+      )
 
   finds_leads : (k : Kind) (phases : Phases) (M : Mark) → Fine cast (Held k phases M) → Agrees mails (Held k phases M) → FindsHere (place cast M q) M
       → q ≡ leader k → FindsHere (leads cast k phases (place cast M q)) (Held k phases M)
@@ -389,15 +425,15 @@ module _ (cast : List Role) (stores : Role → Store) (answers : ScopeHead → A
       leads_running (Branch i r g I J b) phases M fine agrees body_finds is (λ ph P. refl)
   finds_leads (Turning i r g I) phases M fine agrees body_finds is =
       leads_backed (Turning i r g I) phases M fine agrees body_finds Turn turn_backs (projected cast (term.While i r g I) r) (λ ph P. refl) is
-        (subst (λ y. Closed cast (Turning i y g I) phases M → FindsHere (projected cast (term.While i y g I) y) (Held (Turning i y g I) phases M)) is (turn_tail i g I phases M))
+      (subst (λ y. Closed cast (Turning i y g I) phases M → FindsHere (projected cast (term.While i y g I) y) (Held (Turning i y g I) phases M)) is (turn_tail i g I phases M))
   finds_leads (Stopping i r g I) phases M fine agrees body_finds is =
       leads_telling (Stopping i r g I) phases M fine agrees body_finds is (λ ph P. refl)
   finds_leads (Scoped i r I extra props level begin B) phases M fine agrees body_finds is =
       leads_backed (Scoped i r I extra props level begin B) phases M fine agrees body_finds End end_backs
-        (tell r (others cast r (term.Scope i r I extra props level)) i Out (λ x. Done)) (λ ph P. refl) is
-        (subst (λ y. Closed cast (Scoped i y I extra props level begin B) phases M
-          → FindsHere (tell y (others cast y (term.Scope i y I extra props level)) i Out (λ x. Done)) (Held (Scoped i y I extra props level begin B) phases M)) is
-          (scope_tail i I extra props level begin B phases M))
+      (tell r (others cast r (term.Scope i r I extra props level)) i Out (λ x. Done)) (λ ph P. refl) is
+      (subst (λ y. Closed cast (Scoped i y I extra props level begin B) phases M
+      → FindsHere (tell y (others cast y (term.Scope i y I extra props level)) i Out (λ x. Done)) (Held (Scoped i y I extra props level begin B) phases M)) is
+      (scope_tail i I extra props level begin B phases M))
   finds_leads (Releasing i r I extra props level) phases M fine agrees body_finds is =
       leads_telling (Releasing i r I extra props level) phases M fine agrees body_finds is (λ ph P. refl)
 
@@ -405,7 +441,7 @@ module _ (cast : List Role) (stores : Role → Store) (answers : ScopeHead → A
       → role_eq q (leader k) ≡ false → phases q ≡ Inside → FindsHere (inside cast k q (place cast M q)) (Held k phases M)
   finds_inside (Branch i r g I J b) phases M fine agrees body_finds other at d R h =
       works_found (Branch i r g I J b) phases M fine agrees body_finds (inr (other, at)) d R R h
-        (λ N alike. alike ∙ sym (ap norm (place_follower cast (Branch i r g I J b) phases N q other ∙ ap (λ p. follows cast (Branch i r g I J b) q p (place cast N q)) at)))
+      (λ N alike. alike ∙ sym (ap norm (place_follower cast (Branch i r g I J b) phases N q other ∙ ap (λ p. follows cast (Branch i r g I J b) q p (place cast N q)) at)))
   finds_inside (Turning i r g I) phases M fine agrees body_finds other at d R h =
       inside_backed (Turning i r g I) phases M fine agrees body_finds Turn turn_backs (λ P. refl) other at d R h
   finds_inside (Stopping i r g I) phases M fine agrees body_finds other at d R h = absurd (stuck_does h)
@@ -421,7 +457,7 @@ module _ (cast : List Role) (stores : Role → Store) (answers : ScopeHead → A
       let k : Kind = Turning i r g I in
       let took = takes_told cast q (stores q) a (given_by mails decide a) k tt other in_it d R h in
       let here : own_mail k phases (telling_key k q) ≡ Some took.1 =
-        sym (own_given mails k phases M fine.1.own agrees (telling_key k q) refl) ∙ taken_by mails decide a (telling_key k q) took.1 took.0 took.2 in
+      sym (own_given mails k phases M fine.1.own agrees (telling_key k q) refl) ∙ taken_by mails decide a (telling_key k q) took.1 took.0 took.2 in
       absurd (not_told (told_phase k q (phases q) took.1 (sym (from_leader k phases q Go) ∙ here)).0)
 
   no_out : (i : Index) (r : Role) (I : Term) (extra : List Role) (props : List (List ℕ × Value)) (level : ℕ) (begin : Role → Load) (B : Term) (phases : Phases) (M : Mark)
@@ -452,13 +488,13 @@ module _ (cast : List Role) (stores : Role → Store) (answers : ScopeHead → A
   finds_follows k phases M fine agrees body_finds other Sent at d R h =
       finds_outside k phases M fine agrees other (fine.1.known q (ap waits at)).1 (λ is. sent_told (sym at ∙ is)) d R h
     where
-    sent_told : Sent ≡ Told → ⊥
-    sent_told e = cc
+      sent_told : Sent ≡ Told → ⊥
+      sent_told e = cc
   finds_follows k phases M fine agrees body_finds other Gone at d R h =
       finds_outside k phases M fine agrees other (fine.1.known q (ap waits at)).1 (λ is. gone_told (sym at ∙ is)) d R h
     where
-    gone_told : Gone ≡ Told → ⊥
-    gone_told e = cc
+      gone_told : Gone ≡ Told → ⊥
+      gone_told e = cc
 
   -- each step in a begun construct, where those of its body are found
   pub finds_held : (k : Kind) (phases : Phases) (M : Mark) → Fine cast (Held k phases M) → Agrees mails (Held k phases M) → FindsHere (place cast M q) M
@@ -466,5 +502,5 @@ module _ (cast : List Role) (stores : Role → Store) (answers : ScopeHead → A
   finds_held k phases M fine agrees body_finds d R h = ⊎_elim
       (λ is. finds_leads k phases M fine agrees body_finds is d R (sym (ap (λ P. step q (stores q) P a (given_by mails decide a)) (place_leader cast k phases M q is)) ∙ h))
       (λ other. finds_follows k phases M fine agrees body_finds other (phases q) refl d R
-        (sym (ap (λ P. step q (stores q) P a (given_by mails decide a)) (place_follower cast k phases M q other)) ∙ h))
+      (sym (ap (λ P. step q (stores q) P a (given_by mails decide a)) (place_follower cast k phases M q other)) ∙ h))
       (role_cases q (leader k))

@@ -74,7 +74,7 @@ module _ (me : Role) (s : Store) (a : Act) (given : Given) where
   pub gather_does : (to : Role) (qs : List Role) (i : Index) (t : Tag) {d : Deed} {R : Process}
       → step me s (gather to qs i t) a given ≡ Does d R
       → (q : Role) × (rest : List Role) × (l : Load) × (qs ≡ q ∷ rest) × (a ≡ act.Take (key q to i t)) × (given ≡ Got l)
-        × (d ≡ Takes (key q to i t) None l) × (R ≡ gather to rest i t)
+      × (d ≡ Takes (key q to i t) None l) × (R ≡ gather to rest i t)
   gather_does to [] i t h = absurd (stuck_does h)
   gather_does to (q ∷ rest) i t h =
       let done = when_act a (act.Take (key q to i t)) (take_any (key q to i t) (gathering (map (λ r. key r to i t) rest)) given) h in
@@ -82,10 +82,3 @@ module _ (me : Role) (s : Store) (a : Act) (given : Given) where
       (q, rest, took.0, refl, done.0, took.1, took.2, took.3)
 
 -- a tell that has ended has nobody left to tell
-pub tell_over : (from : Role) (qs : List Role) (i : Index) (t : Tag) (carries : Role → Load) → ended (tell from qs i t carries) ≡ true → qs ≡ []
-tell_over from [] i t carries h = refl
-tell_over from (q ∷ rest) i t carries h = cc
-
-pub gather_over : (to : Role) (qs : List Role) (i : Index) (t : Tag) → ended (gather to qs i t) ≡ true → qs ≡ []
-gather_over to [] i t h = refl
-gather_over to (q ∷ rest) i t h = cc

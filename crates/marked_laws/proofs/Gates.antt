@@ -1,15 +1,15 @@
 -- Who is still to be told and to be waited for at a begun construct, and who has something to do before it.
-use Rattle.std.proofs.Common.{◌≡◌, ◌⊎◌, ℕ, List, [], ◌∷◌, Bool, true, false, ◌&&◌, ◌||◌, not, filter, cond, refl, sym, ap, ◌∙◌, subst, inl, inr, ⊎_elim}
+use Rattle.std.proofs.Common.{◌≡◌, List, [], ◌∷◌, Bool, true, false, ◌&&◌, ◌||◌, not, refl, sym, ap, ◌∙◌, subst, ⊎_elim}
 use Rattle.std.proofs.lemmas.Bool.{and_parts, and_from, or_parts, or_left, both_ways, cases_Bool, cond-true, cond-false, not-true, not-false, not_from_false}
 use Rattle.dioc_terms.specs.declared.names.Role.{Role}
 use Rattle.dioc_terms.specs.Equality.{role_eq, member}
-use Rattle.dioc_terms.specs.Terms.{Term, Skip, Com, Set, Input, Seq, Par, If, While, Scope, is_in, others, distinct_roles}
+use Rattle.dioc_terms.specs.Terms.{Term, Skip, Com, Set, Input, Seq, Par, If, While, Scope, is_in, distinct_roles}
 use Rattle.dioc_terms.specs.Processes as process
 use Rattle.dioc_terms.specs.Processes.{Process}
 use Rattle.projection.specs.Projection.{projected}
 use Rattle.dpoc_process.specs.Steps.{ended}
 use Rattle.global_steps.specs.Follow.{updated}
-use Rattle.marked_laws.proofs.Constructs.{Phase, Phases, Kind, Branch, Turning, Stopping, Scoped, Releasing, Waits, Told, Inside, Sent, Gone, waits, gone, is_early, is_late, leader, whole, body, before, followers, untold, ungone}
+use Rattle.marked_laws.proofs.Constructs.{Phase, Phases, Kind, Branch, Turning, Stopping, Scoped, Releasing, Waits, Told, Inside, Sent, Gone, waits, gone, is_early, is_late, leader, whole, before, followers, untold, ungone}
 use Rattle.marked_laws.proofs.Equality.{role_itself}
 use Rattle.marked_laws.proofs.Mark.{Mark, Held, origin, place, Fine, Closed}
 use Rattle.marked_laws.proofs.Proper.{Proper}
@@ -70,13 +70,13 @@ module _ (cast : List Role) where
       → (p : Phase) → waits p ≡ false → untold cast k (updated q p phases) ≡ qs
   untold_tells unique k phases q qs h p out =
       filter_tail (λ r. waits (phases r)) (λ r. waits (updated q p phases r)) (followers cast k) q qs (distinct_followers unique k) h
-        (ap waits (updated_here q p phases) ∙ out) (λ r differs. ap waits (updated_there q p phases r differs))
+      (ap waits (updated_here q p phases) ∙ out) (λ r differs. ap waits (updated_there q p phases r differs))
 
   pub ungone_gathers : distinct_roles cast ≡ true → (k : Kind) (phases : Phases) (q : Role) (qs : List Role) → ungone cast k phases ≡ q ∷ qs
       → (p : Phase) → gone p ≡ true → ungone cast k (updated q p phases) ≡ qs
   ungone_gathers unique k phases q qs h p in_it =
       filter_tail (λ r. not (gone (phases r))) (λ r. not (gone (updated q p phases r))) (followers cast k) q qs (distinct_followers unique k) h
-        (ap (λ x. not (gone x)) (updated_here q p phases) ∙ ap not in_it) (λ r differs. ap (λ x. not (gone x)) (updated_there q p phases r differs))
+      (ap (λ x. not (gone x)) (updated_here q p phases) ∙ ap not in_it) (λ r differs. ap (λ x. not (gone x)) (updated_there q p phases r differs))
 
   -- a test of phases that doesn't see the difference
   test_same : (f : Phase → Bool) (phases : Phases) (q : Role) (p : Phase) → f p ≡ f (phases q) → (r : Role) → f (updated q p phases r) ≡ f (phases r)
@@ -122,9 +122,9 @@ module _ (cast : List Role) where
   pub outsider_waits : (k : Kind) (phases : Phases) (M : Mark) → Fine cast (Held k phases M) → (q : Role) → is_in q (whole k) ≡ false → phases q ≡ Waits
   outsider_waits k phases M fine q out = by_phase (phases q) (λ h. both_ways (is_in q (whole k)) out (fine.1.known q h).1)
     where
-    by_phase : (p : Phase) → (waits p ≡ false → ⊥) → p ≡ Waits
-    by_phase Waits h = refl
-    by_phase p h = absurd (h refl)
+      by_phase : (p : Phase) → (waits p ≡ false → ⊥) → p ≡ Waits
+      by_phase Waits h = refl
+      by_phase p h = absurd (h refl)
 
   -- the leader is of its construct
   pub leader_in : (k : Kind) → is_in (leader k) (whole k) ≡ true
@@ -154,7 +154,7 @@ module _ (cast : List Role) where
   closed_ended k phases M fine closed q = ⊎_elim
       (λ is. subst (λ y. ended (place cast M y) ≡ true) (sym is) closed.done)
       (λ other. ⊎_elim
-        (λ in_it. fine.1.through q (gone_late (phases q) (ungone_none k phases q fine.1.proper closed.gathered other in_it)))
-        (λ out. outsider_body k phases M fine q other out)
-        (cases_Bool (is_in q (whole k))))
+      (λ in_it. fine.1.through q (gone_late (phases q) (ungone_none k phases q fine.1.proper closed.gathered other in_it)))
+      (λ out. outsider_body k phases M fine q other out)
+      (cases_Bool (is_in q (whole k))))
       (role_cases q (leader k))

@@ -20,6 +20,7 @@ use Rattle.dioc_terms.specs.Terms as term
 use Rattle.dioc_terms.specs.Terms.{Term, is_in, others, head_of}
 use Rattle.projection.specs.Projection.{projected}
 use Rattle.dpoc_process.specs.Steps.{Deed, Decision, ended, key, tell, gather, send_one, offers, is_offered, step}
+use Rattle.marked_laws.proofs.Tells.{tell_done, gather_done}
 use Rattle.marked_laws.proofs.Acts.{step_offered, step_unended}
 use Rattle.marked_laws.proofs.Agreeing.{agrees_first, agrees_second, agrees_both, agrees_inside, own_given}
 use Rattle.marked_laws.proofs.CanStep.{Can, can_along, can_send, can_receive, can_assign, can_read, can_pick_branch, can_pick_turn, can_choose, can_first, can_second, can_left, can_right, can_tell, can_gather, can_hear}
@@ -74,9 +75,6 @@ sent_at : (p : Phase) → is_late p ≡ true → gone p ≡ false → p ≡ Sent
 sent_at Sent h k = refl
 sent_at p h k = cc
 
-waits_told : (p : Phase) → p ≡ Told → waits p ≡ false
-waits_told p h = ap waits h
-
 inside_no_other : (p : Phase) → is_inside p ≡ false → p ≡ Inside → ⊥
 inside_no_other p h is = both_ways (is_inside p) h (ap is_inside is)
 
@@ -87,12 +85,6 @@ sent_opened (end_backs {i = i} {r = r}) x = let j : Key = key x r i End in cond-
 
 told_opened : (k : Kind) (x : Role) → opened (letter k x Told) (telling_key k x) ≡ Some (told k x)
 told_opened k x = cond-true (key_eq (telling_key k x) (telling_key k x)) (Some (told k x)) None (key_itself (telling_key k x))
-
-tell_done : (from : Role) (qs : List Role) (i : Index) (t : Tag) (carries : Role → Load) → qs ≡ [] → ended (tell from qs i t carries) ≡ true
-tell_done from qs i t carries h = ap (λ l. ended (tell from l i t carries)) h
-
-gather_done : (to : Role) (qs : List Role) (i : Index) (t : Tag) → qs ≡ [] → ended (gather to qs i t) ≡ true
-gather_done to qs i t h = ap (λ l. ended (gather to l i t)) h
 
 module _ (cast : List Role) (stores : Role → Store) (mails : Key → Option Load) (decide : Role → ScopeHead → Decision) where
   abbrev CanHere : Role → Process → Act → Type 0
@@ -115,23 +107,43 @@ module _ (cast : List Role) (stores : Role → Store) (mails : Key → Option Lo
   goes_seq : (M N L : Mark) → ((q : Role) → place cast L q ≡ process.Seq (place cast M q) (place cast N q)) → Outcome M → Outcome N → Outcome L
   goes_seq M N L form first second = ⊎_elim
       (λ over. ⊎_elim
-        (λ over'. inl (λ q. ap ended (form q) ∙ and_from (ended (place cast M q)) (ended (place cast N q)) (over q) (over' q)))
-        (λ go. inr (go.0, go.1, go.2, along go.0 (process.Seq (place cast M go.0) (place cast N go.0)) (place cast L go.0) go.1 (sym (form go.0))
-          (can_second mails (decide go.0) go.0 (stores go.0) (place cast M go.0) (place cast N go.0) go.1 (over go.0) go.3)))
-        second)
-      (λ go. inr (go.0, go.1, go.2, along go.0 (process.Seq (place cast M go.0) (place cast N go.0)) (place cast L go.0) go.1 (sym (form go.0))
-        (can_first mails (decide go.0) go.0 (stores go.0) (place cast M go.0) (place cast N go.0) go.1 go.3)))
+      (λ over'. inl (λ q. ap ended (form q) ∙ and_from (ended (place cast M q)) (ended (place cast N q)) (over q) (over' q)))
+      (λ go. inr (
+        go.0,
+        go.1,
+        go.2,
+        along go.0 (process.Seq (place cast M go.0) (place cast N go.0)) (place cast L go.0) go.1 (sym (form go.0))
+            (can_second mails (decide go.0) go.0 (stores go.0) (place cast M go.0) (place cast N go.0) go.1 (over go.0) go.3),
+      ))
+      second)
+      (λ go. inr (
+        go.0,
+        go.1,
+        go.2,
+        along go.0 (process.Seq (place cast M go.0) (place cast N go.0)) (place cast L go.0) go.1 (sym (form go.0))
+            (can_first mails (decide go.0) go.0 (stores go.0) (place cast M go.0) (place cast N go.0) go.1 go.3),
+      ))
       first
 
   goes_par : (M N L : Mark) → ((q : Role) → place cast L q ≡ process.Par (place cast M q) (place cast N q)) → Outcome M → Outcome N → Outcome L
   goes_par M N L form first second = ⊎_elim
       (λ over. ⊎_elim
-        (λ over'. inl (λ q. ap ended (form q) ∙ and_from (ended (place cast M q)) (ended (place cast N q)) (over q) (over' q)))
-        (λ go. inr (go.0, go.1, go.2, along go.0 (process.Par (place cast M go.0) (place cast N go.0)) (place cast L go.0) go.1 (sym (form go.0))
-          (can_right mails (decide go.0) go.0 (stores go.0) (place cast M go.0) (place cast N go.0) go.1 (over go.0) go.3)))
-        second)
-      (λ go. inr (go.0, go.1, go.2, along go.0 (process.Par (place cast M go.0) (place cast N go.0)) (place cast L go.0) go.1 (sym (form go.0))
-        (can_left mails (decide go.0) go.0 (stores go.0) (place cast M go.0) (place cast N go.0) go.1 go.3)))
+      (λ over'. inl (λ q. ap ended (form q) ∙ and_from (ended (place cast M q)) (ended (place cast N q)) (over q) (over' q)))
+      (λ go. inr (
+        go.0,
+        go.1,
+        go.2,
+        along go.0 (process.Par (place cast M go.0) (place cast N go.0)) (place cast L go.0) go.1 (sym (form go.0))
+            (can_right mails (decide go.0) go.0 (stores go.0) (place cast M go.0) (place cast N go.0) go.1 (over go.0) go.3),
+      ))
+      second)
+      (λ go. inr (
+        go.0,
+        go.1,
+        go.2,
+        along go.0 (process.Par (place cast M go.0) (place cast N go.0)) (place cast L go.0) go.1 (sym (form go.0))
+            (can_left mails (decide go.0) go.0 (stores go.0) (place cast M go.0) (place cast N go.0) go.1 go.3),
+      ))
       first
 
   -- the leader of a loop picks
@@ -139,53 +151,73 @@ module _ (cast : List Role) (stores : Role → Store) (mails : Key → Option Lo
   picks_turn i r g I =
       let P : Process = process.WhileLead i g (others cast r (term.While i r g I)) (projected cast I r) in
       along r P (projected cast (term.While i r g I) r) (act.Pick i) (sym (cond-true (role_eq r r) P _ (role_itself r)))
-        (can_pick_turn mails (decide r) r (stores r) i g (others cast r (term.While i r g I)) (projected cast I r))
+      (can_pick_turn mails (decide r) r (stores r) i g (others cast r (term.While i r g I)) (projected cast I r))
 
   -- a term that nobody has begun: its first role can begin it
   goes_still : (I : Term) → Proper cast I → Outcome (Still I)
   goes_still term.Skip proper = inl (λ q. refl)
-  goes_still (term.Com i o a e b x) proper = inr (a, act.Put (key a b i (Op o)), proper.in_cast a (or_left (role_eq a a) (role_eq a b) (role_itself a)),
-      along a (process.Send i o b e) (projected cast (term.Com i o a e b x) a) (act.Put (key a b i (Op o))) (sym (cond-true (role_eq a a) (process.Send i o b e) _ (role_itself a)))
-        (can_send mails (decide a) a (stores a) i o b e))
-  goes_still (term.Set i x r e) proper = inr (r, act.Set i, proper.in_cast r (role_itself r),
-      along r (process.Assign i x e) (projected cast (term.Set i x r e) r) (act.Set i) (sym (cond-true (role_eq r r) (process.Assign i x e) process.Skip (role_itself r)))
-        (can_assign mails (decide r) r (stores r) i x e))
-  goes_still (term.Input i x r) proper = inr (r, act.Input i, proper.in_cast r (role_itself r),
-      along r (process.Read i x) (projected cast (term.Input i x r) r) (act.Input i) (sym (cond-true (role_eq r r) (process.Read i x) process.Skip (role_itself r)))
-        (can_read mails (decide r) r (stores r) i x))
+  goes_still (term.Com i o a e b x) proper = inr (
+    a,
+    act.Put (key a b i (Op o)),
+    proper.in_cast a (or_left (role_eq a a) (role_eq a b) (role_itself a)),
+    along a (process.Send i o b e) (projected cast (term.Com i o a e b x) a) (act.Put (key a b i (Op o))) (sym (cond-true (role_eq a a) (process.Send i o b e) _ (role_itself a)))
+        (can_send mails (decide a) a (stores a) i o b e),
+  )
+  goes_still (term.Set i x r e) proper = inr (
+    r,
+    act.Set i,
+    proper.in_cast r (role_itself r),
+    along r (process.Assign i x e) (projected cast (term.Set i x r e) r) (act.Set i) (sym (cond-true (role_eq r r) (process.Assign i x e) process.Skip (role_itself r)))
+        (can_assign mails (decide r) r (stores r) i x e),
+  )
+  goes_still (term.Input i x r) proper = inr (
+    r,
+    act.Input i,
+    proper.in_cast r (role_itself r),
+    along r (process.Read i x) (projected cast (term.Input i x r) r) (act.Input i) (sym (cond-true (role_eq r r) (process.Read i x) process.Skip (role_itself r)))
+        (can_read mails (decide r) r (stores r) i x),
+  )
   goes_still (term.Seq I J) proper = let parts = proper_seq cast I J proper in
       goes_seq (Still I) (Still J) (Still (term.Seq I J)) (λ q. refl) (goes_still I parts.0) (goes_still J parts.1)
   goes_still (term.Par I J) proper = let parts = proper_par cast I J proper in
       goes_par (Still I) (Still J) (Still (term.Par I J)) (λ q. refl) (goes_still I parts.0) (goes_still J parts.1)
   goes_still (term.If i r g I J) proper =
       let P : Process = process.IfLead i g (others cast r (term.If i r g I J)) (projected cast I r) (projected cast J r) in
-      inr (r, act.Pick i, proper.in_cast r (or_left (role_eq r r || is_in r I) (is_in r J) (or_left (role_eq r r) (is_in r I) (role_itself r))),
+      inr (
+        r,
+        act.Pick i,
+        proper.in_cast r (or_left (role_eq r r || is_in r I) (is_in r J) (or_left (role_eq r r) (is_in r I) (role_itself r))),
         along r P (projected cast (term.If i r g I J) r) (act.Pick i) (sym (cond-true (role_eq r r) P _ (role_itself r)))
-          (can_pick_branch mails (decide r) r (stores r) i g (others cast r (term.If i r g I J)) (projected cast I r) (projected cast J r)))
+            (can_pick_branch mails (decide r) r (stores r) i g (others cast r (term.If i r g I J)) (projected cast I r) (projected cast J r)),
+      )
   goes_still (term.While i r g I) proper = inr (r, act.Pick i, proper.in_cast r (or_left (role_eq r r) (is_in r I) (role_itself r)), picks_turn i r g I)
   goes_still (term.Scope i r I extra props level) proper =
       let head : ScopeHead = head_of cast i r I extra props level in
       let P : Process = process.ScopeLead head (others cast r (term.Scope i r I extra props level)) (projected cast I r) in
-      inr (r, act.Scope i, proper.in_cast r (or_left (role_eq r r || is_in r I) (member r extra) (or_left (role_eq r r) (is_in r I) (role_itself r))),
+      inr (
+        r,
+        act.Scope i,
+        proper.in_cast r (or_left (role_eq r r || is_in r I) (member r extra) (or_left (role_eq r r) (is_in r I) (role_itself r))),
         along r P (projected cast (term.Scope i r I extra props level) r) (act.Scope i) (sym (cond-true (role_eq r r) P _ (role_itself r)))
-          (can_choose mails (decide r) r (stores r) head (others cast r (term.Scope i r I extra props level)) (projected cast I r)))
+            (can_choose mails (decide r) r (stores r) head (others cast r (term.Scope i r I extra props level)) (projected cast I r)),
+      )
 
   -- the leader's first message of a construct
   tells_first : (k : Kind) (phases : Phases) (P : Process) (x : Role) (rest : List Role) → untold cast k phases ≡ x ∷ rest
       → CanHere (leader k) (leads cast k phases P) (act.Put (telling_key k x))
   tells_first (Branch i r g I J b) phases P x rest h =
       can_first mails (decide r) r (stores r) (tell r (untold cast (Branch i r g I J b) phases) i Choice (λ q. Flag b)) P (act.Put (key r x i Choice))
-        (can_tell mails (decide r) r (stores r) r (untold cast (Branch i r g I J b) phases) i Choice (λ q. Flag b) x rest h)
+      (can_tell mails (decide r) r (stores r) r (untold cast (Branch i r g I J b) phases) i Choice (λ q. Flag b) x rest h)
   tells_first (Turning i r g I) phases P x rest h =
       can_first mails (decide r) r (stores r) (tell r (untold cast (Turning i r g I) phases) i Go (λ q. Flag true))
-        (process.Seq P (process.Seq (gather r (ungone cast (Turning i r g I) phases) i Turn) (projected cast (term.While i r g I) r))) (act.Put (key r x i Go))
-        (can_tell mails (decide r) r (stores r) r (untold cast (Turning i r g I) phases) i Go (λ q. Flag true) x rest h)
+      (process.Seq P (process.Seq (gather r (ungone cast (Turning i r g I) phases) i Turn) (projected cast (term.While i r g I) r))) (act.Put (key r x i Go))
+      (can_tell mails (decide r) r (stores r) r (untold cast (Turning i r g I) phases) i Go (λ q. Flag true) x rest h)
   tells_first (Stopping i r g I) phases P x rest h = can_tell mails (decide r) r (stores r) r (untold cast (Stopping i r g I) phases) i Go (λ q. Flag false) x rest h
   tells_first (Scoped i r I extra props level begin B) phases P x rest h =
       let k : Kind = Scoped i r I extra props level begin B in
       can_first mails (decide r) r (stores r) (tell r (untold cast k phases) i Begin begin)
-        (process.Seq P (process.Seq (gather r (ungone cast k phases) i End) (tell r (others cast r (term.Scope i r I extra props level)) i Out (λ q. Done)))) (act.Put (key r x i Begin))
-        (can_tell mails (decide r) r (stores r) r (untold cast k phases) i Begin begin x rest h)
+      (process.Seq P (process.Seq (gather r (ungone cast k phases) i End) (tell r (others cast r (term.Scope i r I extra props level)) i Out (λ q. Done)))) (act.Put (key r x i Begin))
+      (can_tell mails (decide r) r (stores r) r (untold cast k phases) i Begin begin x rest h)
   tells_first (Releasing i r I extra props level) phases P x rest h =
       can_tell mails (decide r) r (stores r) r (untold cast (Releasing i r I extra props level) phases) i Out (λ q. Done) x rest h
 
@@ -194,23 +226,23 @@ module _ (cast : List Role) (stores : Role → Store) (mails : Key → Option Lo
       → CanHere (leader k) (place cast M (leader k)) a → CanHere (leader k) (leads cast k phases (place cast M (leader k))) a
   leader_runs (Branch i r g I J b) phases M fine told_all a can =
       can_second mails (decide r) r (stores r) (tell r (untold cast (Branch i r g I J b) phases) i Choice (λ q. Flag b)) (place cast M r) a
-        (tell_done r (untold cast (Branch i r g I J b) phases) i Choice (λ q. Flag b) told_all) can
+      (tell_done r (untold cast (Branch i r g I J b) phases) i Choice (λ q. Flag b) told_all) can
   leader_runs (Turning i r g I) phases M fine told_all a can =
       let rest : Process = process.Seq (gather r (ungone cast (Turning i r g I) phases) i Turn) (projected cast (term.While i r g I) r) in
       can_second mails (decide r) r (stores r) (tell r (untold cast (Turning i r g I) phases) i Go (λ q. Flag true)) (process.Seq (place cast M r) rest) a
-        (tell_done r (untold cast (Turning i r g I) phases) i Go (λ q. Flag true) told_all) (can_first mails (decide r) r (stores r) (place cast M r) rest a can)
+      (tell_done r (untold cast (Turning i r g I) phases) i Go (λ q. Flag true) told_all) (can_first mails (decide r) r (stores r) (place cast M r) rest a can)
   leader_runs (Stopping i r g I) phases M fine told_all a can =
       absurd (idle r (place cast M r) a can (held_inside cast (Stopping i r g I) phases M r fine
-        (ap ended (place_leader cast (Stopping i r g I) phases M r refl) ∙ tell_done r (untold cast (Stopping i r g I) phases) i Go (λ q. Flag false) told_all)))
+      (ap ended (place_leader cast (Stopping i r g I) phases M r refl) ∙ tell_done r (untold cast (Stopping i r g I) phases) i Go (λ q. Flag false) told_all)))
   leader_runs (Scoped i r I extra props level begin B) phases M fine told_all a can =
       let k : Kind = Scoped i r I extra props level begin B in
       let rest : Process = process.Seq (gather r (ungone cast k phases) i End) (tell r (others cast r (term.Scope i r I extra props level)) i Out (λ q. Done)) in
       can_second mails (decide r) r (stores r) (tell r (untold cast k phases) i Begin begin) (process.Seq (place cast M r) rest) a
-        (tell_done r (untold cast k phases) i Begin begin told_all) (can_first mails (decide r) r (stores r) (place cast M r) rest a can)
+      (tell_done r (untold cast k phases) i Begin begin told_all) (can_first mails (decide r) r (stores r) (place cast M r) rest a can)
   leader_runs (Releasing i r I extra props level) phases M fine told_all a can =
       let k : Kind = Releasing i r I extra props level in
       absurd (idle r (place cast M r) a can (held_inside cast k phases M r fine
-        (ap ended (place_leader cast k phases M r refl) ∙ tell_done r (untold cast k phases) i Out (λ q. Done) told_all)))
+      (ap ended (place_leader cast k phases M r refl) ∙ tell_done r (untold cast k phases) i Out (λ q. Done) told_all)))
 
   -- the part of a role that is inside
   inside_runs : (k : Kind) (phases : Phases) (M : Mark) → Fine cast (Held k phases M) → (q : Role) → role_eq q (leader k) ≡ false → phases q ≡ Inside → (a : Act)
@@ -220,13 +252,13 @@ module _ (cast : List Role) (stores : Role → Store) (mails : Key → Option Lo
       can_first mails (decide q) q (stores q) (place cast M q) (process.Seq (send_one (key q r i Turn) Done) (projected cast (term.While i r g I) q)) a can
   inside_runs (Stopping i r g I) phases M fine q other at a can =
       absurd (idle q (place cast M q) a can (held_inside cast (Stopping i r g I) phases M q fine
-        (ap ended (place_follower cast (Stopping i r g I) phases M q other ∙ ap (λ p. follows cast (Stopping i r g I) q p (place cast M q)) at))))
+      (ap ended (place_follower cast (Stopping i r g I) phases M q other ∙ ap (λ p. follows cast (Stopping i r g I) q p (place cast M q)) at))))
   inside_runs (Scoped i r I extra props level begin B) phases M fine q other at a can =
       can_first mails (decide q) q (stores q) (place cast M q) (process.Seq (send_one (key q r i End) Done) (process.Gather (key r q i Out ∷ []))) a can
   inside_runs (Releasing i r I extra props level) phases M fine q other at a can =
       let k : Kind = Releasing i r I extra props level in
       absurd (idle q (place cast M q) a can (held_inside cast k phases M q fine
-        (ap ended (place_follower cast k phases M q other ∙ ap (λ p. follows cast k q p (place cast M q)) at))))
+      (ap ended (place_follower cast k phases M q other ∙ ap (λ p. follows cast k q p (place cast M q)) at))))
 
   -- a role that is through goes on outside
   late_follows : (k : Kind) (q : Role) (p : Phase) (P : Process) → is_late p ≡ true → follows cast k q p P ≡ outside cast k q
@@ -236,23 +268,31 @@ module _ (cast : List Role) (stores : Role → Store) (mails : Key → Option Lo
 
   module _ (k : Kind) (phases : Phases) (M : Mark) (fine : Fine cast (Held k phases M)) (agrees : Agrees mails (Held k phases M)) where
     goes_leader : (a : Act) → CanHere (leader k) (leads cast k phases (place cast M (leader k))) a → GoesOn (Held k phases M)
-    goes_leader a can = (leader k, a, fine.1.proper.in_cast (leader k) (leader_in cast k),
-      along (leader k) (leads cast k phases (place cast M (leader k))) (place cast (Held k phases M) (leader k)) a (sym (place_leader cast k phases M (leader k) refl)) can)
+    goes_leader a can = (
+      leader k,
+      a,
+      fine.1.proper.in_cast (leader k) (leader_in cast k),
+      along (leader k) (leads cast k phases (place cast M (leader k))) (place cast (Held k phases M) (leader k)) a (sym (place_leader cast k phases M (leader k) refl)) can,
+    )
 
     goes_follower : (x : Role) → role_eq x (leader k) ≡ false → is_in x (whole k) ≡ true → (p : Phase) → phases x ≡ p → (a : Act)
         → CanHere x (follows cast k x p (place cast M x)) a → GoesOn (Held k phases M)
-    goes_follower x other in_it p at a can = (x, a, fine.1.proper.in_cast x in_it,
+    goes_follower x other in_it p at a can = (
+      x,
+      a,
+      fine.1.proper.in_cast x in_it,
       along x (follows cast k x p (place cast M x)) (place cast (Held k phases M) x) a
-        (sym (place_follower cast k phases M x other ∙ ap (λ y. follows cast k x y (place cast M x)) at)) can)
+          (sym (place_follower cast k phases M x other ∙ ap (λ y. follows cast k x y (place cast M x)) at)) can,
+    )
 
     -- a role that was told takes the message
     goes_told : (x : Role) → phases x ≡ Told → GoesOn (Held k phases M)
     goes_told x at =
         let who = fine.1.known x (ap waits at) in
         goes_follower x who.0 who.1 Told at (act.Take (telling_key k x))
-          (can_hear mails (decide x) x (stores x) cast k fine.1.begins who.0 who.1
-            (own_given mails k phases M fine.1.own agrees (telling_key k x) refl ∙ from_leader k phases x (tag k)
-              ∙ ap (λ p. opened (letter k x p) (telling_key k x)) at ∙ told_opened k x))
+        (can_hear mails (decide x) x (stores x) cast k fine.1.begins who.0 who.1
+        (own_given mails k phases M fine.1.own agrees (telling_key k x) refl ∙ from_leader k phases x (tag k)
+        ∙ ap (λ p. opened (letter k x p) (telling_key k x)) at ∙ told_opened k x))
 
     -- where all have ended who are of the construct
     held_over : ended (leads cast k phases (place cast M (leader k))) ≡ true
@@ -261,8 +301,8 @@ module _ (cast : List Role) (stores : Role → Store) (mails : Key → Option Lo
     held_over lead follow q = ⊎_elim
         (λ is. ap ended (place_leader cast k phases M q is) ∙ subst (λ r. ended (leads cast k phases (place cast M r)) ≡ true) (sym is) lead)
         (λ other. ap ended (place_follower cast k phases M q other) ∙ ⊎_elim (λ in_it. follow q other in_it)
-          (λ out. ap (λ p. ended (follows cast k q p (place cast M q))) (outsider_waits cast k phases M fine q out) ∙ before_out cast k q out)
-          (cases_Bool (is_in q (whole k))))
+        (λ out. ap (λ p. ended (follows cast k q p (place cast M q))) (outsider_waits cast k phases M fine q out) ∙ before_out cast k q out)
+        (cases_Bool (is_in q (whole k))))
         (role_cases q (leader k))
 
     -- all are told, and no message of the leader is pending
@@ -277,15 +317,15 @@ module _ (cast : List Role) (stores : Role → Store) (mails : Key → Option Lo
           let q : Role = go.0 in
           let a : Act = go.1 in
           ⊎_elim
-            (λ is. goes_leader a (leader_runs k phases M fine told_all a (subst (λ r. CanHere r (place cast M r) a) is go.3)))
-            (λ other. ⊎_elim
-              (λ in_it. ⊎_elim
-                (λ at. goes_follower q other in_it Inside at a (inside_runs k phases M fine q other at a go.3))
-                (λ late. absurd (idle q (place cast M q) a go.3 (fine.1.through q late)))
-                (begun q other in_it))
-              (λ out. absurd (idle q (place cast M q) a go.3 (outsider_body cast k phases M fine q other out)))
-              (cases_Bool (is_in q (whole k))))
-            (role_cases q (leader k))
+          (λ is. goes_leader a (leader_runs k phases M fine told_all a (subst (λ r. CanHere r (place cast M r) a) is go.3)))
+          (λ other. ⊎_elim
+          (λ in_it. ⊎_elim
+          (λ at. goes_follower q other in_it Inside at a (inside_runs k phases M fine q other at a go.3))
+          (λ late. absurd (idle q (place cast M q) a go.3 (fine.1.through q late)))
+          (begun q other in_it))
+          (λ out. absurd (idle q (place cast M q) a go.3 (outsider_body cast k phases M fine q other out)))
+          (cases_Bool (is_in q (whole k))))
+          (role_cases q (leader k))
 
       -- each role has ended its part of a turn or of a scope: one tells so, or the leader takes that, or else the leader goes on
       goes_backed : (t : Tag) → Backs k t → (tail : Process)
@@ -300,38 +340,38 @@ module _ (cast : List Role) (stores : Role → Store) (mails : Key → Option Lo
           let T : Process = tell r (untold cast k phases) (index k) (tag k) (told k) in
           let G : Process = gather r (ungone cast k phases) (index k) t in
           ⊎_elim
-            (λ found.
-              let x : Role = found.0 in
-              let who = follower cast k x found.2 in
-              let A : Act = act.Put (backing_key k t x) in
-              let S : Process = send_one (backing_key k t x) Done in
-              inr (goes_follower x who.0 who.1 Inside (inside_at (phases x) found.1) A
-                (along x (process.Seq (place cast M x) (process.Seq S (outside cast k x))) (inside cast k x (place cast M x)) A (sym (form_inside x (place cast M x)))
-                  (can_second mails (decide x) x (stores x) (place cast M x) (process.Seq S (outside cast k x)) A (over x)
-                    (can_first mails (decide x) x (stores x) S (outside cast k x) A
-                      (can_tell mails (decide x) x (stores x) x (r ∷ []) (index k) t (λ y. Done) r [] refl))))))
-            (λ none.
-              let late : (q : Role) → role_eq q r ≡ false → is_in q (whole k) ≡ true → is_late (phases q) ≡ true =
-                λ q other in_it. ⊎_elim
-                  (λ at. absurd (inside_no_other (phases q) (none q (is_follower cast k q fine.1.proper other in_it)) at))
-                  (λ l. l) (begun q other in_it) in
-              ⊎_elim
-                (λ first.
-                  let x : Role = first.0 in
-                  let head = ungone_head cast k phases x first.1 first.2 in
-                  let A : Act = act.Take (backing_key k t x) in
-                  let at : phases x ≡ Sent = sent_at (phases x) (late x head.1 head.2) head.0 in
-                  inr (goes_leader A
-                    (along r (process.Seq T (process.Seq P (process.Seq G tail))) (leads cast k phases P) A (sym (form P))
-                      (can_second mails (decide r) r (stores r) T (process.Seq P (process.Seq G tail)) A (tell_done r (untold cast k phases) (index k) (tag k) (told k) told_all)
-                        (can_second mails (decide r) r (stores r) P (process.Seq G tail) A (over r)
-                          (can_first mails (decide r) r (stores r) G tail A
-                            (can_gather mails (decide r) r (stores r) r (ungone cast k phases) (index k) t x first.1 Done first.2
-                              (own_given mails k phases M fine.1.own agrees (backing_key k t x) refl ∙ to_leader k phases x t head.1
-                                ∙ ap (λ p. opened (letter k x p) (backing_key k t x)) at ∙ sent_opened backs x))))))))
-                (λ gathered. goes_tail gathered late)
-                (first_role (ungone cast k phases)))
-            (find_role (λ x. is_inside (phases x)) (followers cast k))
+          (λ found.
+          let x : Role = found.0 in
+          let who = follower cast k x found.2 in
+          let A : Act = act.Put (backing_key k t x) in
+          let S : Process = send_one (backing_key k t x) Done in
+          inr (goes_follower x who.0 who.1 Inside (inside_at (phases x) found.1) A
+          (along x (process.Seq (place cast M x) (process.Seq S (outside cast k x))) (inside cast k x (place cast M x)) A (sym (form_inside x (place cast M x)))
+          (can_second mails (decide x) x (stores x) (place cast M x) (process.Seq S (outside cast k x)) A (over x)
+          (can_first mails (decide x) x (stores x) S (outside cast k x) A
+          (can_tell mails (decide x) x (stores x) x (r ∷ []) (index k) t (λ y. Done) r [] refl))))))
+          (λ none.
+          let late : (q : Role) → role_eq q r ≡ false → is_in q (whole k) ≡ true → is_late (phases q) ≡ true =
+          λ q other in_it. ⊎_elim
+          (λ at. absurd (inside_no_other (phases q) (none q (is_follower cast k q fine.1.proper other in_it)) at))
+          (λ l. l) (begun q other in_it) in
+          ⊎_elim
+          (λ first.
+          let x : Role = first.0 in
+          let head = ungone_head cast k phases x first.1 first.2 in
+          let A : Act = act.Take (backing_key k t x) in
+          let at : phases x ≡ Sent = sent_at (phases x) (late x head.1 head.2) head.0 in
+          inr (goes_leader A
+          (along r (process.Seq T (process.Seq P (process.Seq G tail))) (leads cast k phases P) A (sym (form P))
+          (can_second mails (decide r) r (stores r) T (process.Seq P (process.Seq G tail)) A (tell_done r (untold cast k phases) (index k) (tag k) (told k) told_all)
+          (can_second mails (decide r) r (stores r) P (process.Seq G tail) A (over r)
+          (can_first mails (decide r) r (stores r) G tail A
+          (can_gather mails (decide r) r (stores r) r (ungone cast k phases) (index k) t x first.1 Done first.2
+          (own_given mails k phases M fine.1.own agrees (backing_key k t x) refl ∙ to_leader k phases x t head.1
+          ∙ ap (λ p. opened (letter k x p) (backing_key k t x)) at ∙ sent_opened backs x))))))))
+          (λ gathered. goes_tail gathered late)
+          (first_role (ungone cast k phases)))
+          (find_role (λ x. is_inside (phases x)) (followers cast k))
 
   -- the body has ended for each role, all are told, and none has still to take that
   goes_over : (k : Kind) (phases : Phases) (M : Mark) → Fine cast (Held k phases M) → Agrees mails (Held k phases M) → untold cast k phases ≡ []
@@ -339,11 +379,11 @@ module _ (cast : List Role) (stores : Role → Store) (mails : Key → Option Lo
   goes_over (Branch i r g I J b) phases M fine agrees told_all quiet over =
       let k : Kind = Branch i r g I J b in
       inl (held_over k phases M fine agrees
-        (and_from _ (ended (place cast M r)) (tell_done r (untold cast k phases) i Choice (λ q. Flag b) told_all) (over r))
-        (λ q other in_it. ⊎_elim
-          (λ at. ap (λ p. ended (follows cast k q p (place cast M q))) at ∙ over q)
-          (λ late. ap ended (late_follows k q (phases q) (place cast M q) late))
-          (begun k phases M fine agrees told_all quiet q other in_it)))
+      (and_from _ (ended (place cast M r)) (tell_done r (untold cast k phases) i Choice (λ q. Flag b) told_all) (over r))
+      (λ q other in_it. ⊎_elim
+      (λ at. ap (λ p. ended (follows cast k q p (place cast M q))) at ∙ over q)
+      (λ late. ap ended (late_follows k q (phases q) (place cast M q) late))
+      (begun k phases M fine agrees told_all quiet q other in_it)))
   goes_over (Turning i r g I) phases M fine agrees told_all quiet over =
       let k : Kind = Turning i r g I in
       let P : Process = place cast M r in
@@ -351,17 +391,17 @@ module _ (cast : List Role) (stores : Role → Store) (mails : Key → Option Lo
       let G : Process = gather r (ungone cast k phases) i Turn in
       let W : Process = projected cast (term.While i r g I) r in
       goes_backed k phases M fine agrees told_all quiet Turn turn_backs W (λ Q. refl) (λ q Q. refl) over
-        (λ gathered late. inr (goes_leader k phases M fine agrees (act.Pick i)
-          (can_second mails (decide r) r (stores r) T (process.Seq P (process.Seq G W)) (act.Pick i) (tell_done r (untold cast k phases) i Go (λ q. Flag true) told_all)
-            (can_second mails (decide r) r (stores r) P (process.Seq G W) (act.Pick i) (over r)
-              (can_second mails (decide r) r (stores r) G W (act.Pick i) (gather_done r (ungone cast k phases) i Turn gathered) (picks_turn i r g I))))))
+      (λ gathered late. inr (goes_leader k phases M fine agrees (act.Pick i)
+      (can_second mails (decide r) r (stores r) T (process.Seq P (process.Seq G W)) (act.Pick i) (tell_done r (untold cast k phases) i Go (λ q. Flag true) told_all)
+      (can_second mails (decide r) r (stores r) P (process.Seq G W) (act.Pick i) (over r)
+      (can_second mails (decide r) r (stores r) G W (act.Pick i) (gather_done r (ungone cast k phases) i Turn gathered) (picks_turn i r g I))))))
   goes_over (Stopping i r g I) phases M fine agrees told_all quiet over =
       let k : Kind = Stopping i r g I in
       inl (held_over k phases M fine agrees (tell_done r (untold cast k phases) i Go (λ q. Flag false) told_all)
-        (λ q other in_it. ⊎_elim
-          (λ at. ap (λ p. ended (follows cast k q p (place cast M q))) at)
-          (λ late. ap ended (late_follows k q (phases q) (place cast M q) late))
-          (begun k phases M fine agrees told_all quiet q other in_it)))
+      (λ q other in_it. ⊎_elim
+      (λ at. ap (λ p. ended (follows cast k q p (place cast M q))) at)
+      (λ late. ap ended (late_follows k q (phases q) (place cast M q) late))
+      (begun k phases M fine agrees told_all quiet q other in_it)))
   goes_over (Scoped i r I extra props level begin B) phases M fine agrees told_all quiet over =
       let k : Kind = Scoped i r I extra props level begin B in
       let P : Process = place cast M r in
@@ -370,47 +410,51 @@ module _ (cast : List Role) (stores : Role → Store) (mails : Key → Option Lo
       let qs : List Role = others cast r (term.Scope i r I extra props level) in
       let O : Process = tell r qs i Out (λ q. Done) in
       goes_backed k phases M fine agrees told_all quiet End end_backs O (λ Q. refl) (λ q Q. refl) over
-        (λ gathered late. ⊎_elim
-          (λ first. let A : Act = act.Put (key r first.0 i Out) in
-            inr (goes_leader k phases M fine agrees A
-              (can_second mails (decide r) r (stores r) T (process.Seq P (process.Seq G O)) A (tell_done r (untold cast k phases) i Begin begin told_all)
-                (can_second mails (decide r) r (stores r) P (process.Seq G O) A (over r)
-                  (can_second mails (decide r) r (stores r) G O A (gather_done r (ungone cast k phases) i End gathered)
-                    (can_tell mails (decide r) r (stores r) r qs i Out (λ q. Done) first.0 first.1 first.2))))))
-          (λ alone. inl (held_over k phases M fine agrees
-            (and_from (ended T) (ended P && (ended G && ended O)) (tell_done r (untold cast k phases) i Begin begin told_all)
-              (and_from (ended P) (ended G && ended O) (over r)
-                (and_from (ended G) (ended O) (gather_done r (ungone cast k phases) i End gathered) (tell_done r qs i Out (λ q. Done) alone))))
-            (λ q other in_it. absurd (both_ways false refl (subst (λ l. member q l ≡ true) alone (is_follower cast k q fine.1.proper other in_it))))))
-          (first_role qs))
+      (λ gathered late. ⊎_elim
+      (λ first. let A : Act = act.Put (key r first.0 i Out) in
+      inr (goes_leader k phases M fine agrees A
+      (can_second mails (decide r) r (stores r) T (process.Seq P (process.Seq G O)) A (tell_done r (untold cast k phases) i Begin begin told_all)
+      (can_second mails (decide r) r (stores r) P (process.Seq G O) A (over r)
+      (can_second mails (decide r) r (stores r) G O A (gather_done r (ungone cast k phases) i End gathered)
+      (can_tell mails (decide r) r (stores r) r qs i Out (λ q. Done) first.0 first.1 first.2))))))
+      (λ alone. inl (held_over k phases M fine agrees
+      (and_from (ended T) (ended P && (ended G && ended O)) (tell_done r (untold cast k phases) i Begin begin told_all)
+      (and_from (ended P) (ended G && ended O) (over r)
+      (and_from (ended G) (ended O) (gather_done r (ungone cast k phases) i End gathered) (tell_done r qs i Out (λ q. Done) alone))))
+      (λ q other in_it. absurd (both_ways false refl (subst (λ l. member q l ≡ true) alone (is_follower cast k q fine.1.proper other in_it))))))
+      (first_role qs))
   goes_over (Releasing i r I extra props level) phases M fine agrees told_all quiet over =
       let k : Kind = Releasing i r I extra props level in
       inl (held_over k phases M fine agrees (tell_done r (untold cast k phases) i Out (λ q. Done) told_all)
-        (λ q other in_it. ⊎_elim
-          (λ at. ap (λ p. ended (follows cast k q p (place cast M q))) at)
-          (λ late. ap ended (late_follows k q (phases q) (place cast M q) late))
-          (begun k phases M fine agrees told_all quiet q other in_it)))
+      (λ q other in_it. ⊎_elim
+      (λ at. ap (λ p. ended (follows cast k q p (place cast M q))) at)
+      (λ late. ap ended (late_follows k q (phases q) (place cast M q) late))
+      (begun k phases M fine agrees told_all quiet q other in_it)))
 
   goes_held : (k : Kind) (phases : Phases) (M : Mark) → Fine cast (Held k phases M) → Agrees mails (Held k phases M) → Outcome M → Outcome (Held k phases M)
   goes_held k phases M fine agrees inner = ⊎_elim
       (λ first. inr (goes_leader k phases M fine agrees (act.Put (telling_key k first.0)) (tells_first k phases (place cast M (leader k)) first.0 first.1 first.2)))
       (λ told_all. ⊎_elim
-        (λ found. inr (goes_told k phases M fine agrees found.0 (told_at (phases found.0) found.1)))
-        (λ quiet. ⊎_elim
-          (λ over. goes_over k phases M fine agrees told_all quiet over)
-          (λ go. inr (goes_inside k phases M fine agrees told_all quiet go))
-          inner)
-        (find_role (λ x. is_told (phases x)) (followers cast k)))
+      (λ found. inr (goes_told k phases M fine agrees found.0 (told_at (phases found.0) found.1)))
+      (λ quiet. ⊎_elim
+      (λ over. goes_over k phases M fine agrees told_all quiet over)
+      (λ go. inr (goes_inside k phases M fine agrees told_all quiet go))
+      inner)
+      (find_role (λ x. is_told (phases x)) (followers cast k)))
       (first_role (untold cast k phases))
 
   goes_flying : (i : Index) (o : List ℕ) (a : Role) (e : Expression) (b : Role) (x : List ℕ) (v : Value) → Fine cast (Flying i o a e b x v)
       → Agrees mails (Flying i o a e b x v) → Outcome (Flying i o a e b x v)
   goes_flying i o a e b x v fine agrees =
       let j : Key = key a b i (Op o) in
-      inr (b, act.Take j, fine.in_cast b (or_right (role_eq b a) (role_eq b b) (role_itself b)),
+      inr (
+        b,
+        act.Take j,
+        fine.in_cast b (or_right (role_eq b a) (role_eq b b) (role_itself b)),
         along b (process.Recv i o a x) (place cast (Flying i o a e b x v) b) (act.Take j)
-          (sym (cond-false (role_eq b a) process.Skip _ (role_swap a b fine.no_self) ∙ cond-true (role_eq b b) (process.Recv i o a x) process.Skip (role_itself b)))
-          (can_receive mails (decide b) b (stores b) i o a x v (agrees j refl ∙ cond-true (key_eq j j) (Some (Val v)) None (key_itself j))))
+            (sym (cond-false (role_eq b a) process.Skip _ (role_swap a b fine.no_self) ∙ cond-true (role_eq b b) (process.Recv i o a x) process.Skip (role_itself b)))
+            (can_receive mails (decide b) b (stores b) i o a x v (agrees j refl ∙ cond-true (key_eq j j) (Some (Val v)) None (key_itself j))),
+      )
 
   goes_mark : (M : Mark) → Fine cast M → Agrees mails M → Outcome M
   goes_mark (Still I) fine agrees = goes_still I fine
@@ -428,10 +472,17 @@ module _ (cast : List Role) (stores : Role → Store) (mails : Key → Option Lo
 module _ (cast : List Role) (stores : Role → Store) where
   pub goes : (M : Mark) → Fine cast M → (mails : Key → Option Load) (decide : Role → ScopeHead → Decision) → Agrees mails M
       → ((q : Role) → ended (place cast M q) ≡ true)
-        ⊎ ((q : Role) × (a : Act) × (d : Deed) × (P : Process) × (member q cast ≡ true) × (is_offered a (offers q (place cast M q)) ≡ true)
-          × (step q (stores q) (place cast M q) a (given_by mails (decide q) a) ≡ Does d P))
+      ⊎ ((q : Role) × (a : Act) × (d : Deed) × (P : Process) × (member q cast ≡ true) × (is_offered a (offers q (place cast M q)) ≡ true)
+      × (step q (stores q) (place cast M q) a (given_by mails (decide q) a) ≡ Does d P))
   goes M fine mails decide agrees = ⊎_elim
       (λ over. inl over)
-      (λ go. inr (go.0, go.1, go.3.0, go.3.1, go.2,
-        step_offered go.0 (stores go.0) (place cast M go.0) go.1 (given_by mails (decide go.0) go.1) go.3.2, go.3.2))
+      (λ go. inr (
+        go.0,
+        go.1,
+        go.3.0,
+        go.3.1,
+        go.2,
+        step_offered go.0 (stores go.0) (place cast M go.0) go.1 (given_by mails (decide go.0) go.1) go.3.2,
+        go.3.2,
+      ))
       (goes_mark cast stores mails decide M fine agrees)

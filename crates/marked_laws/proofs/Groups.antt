@@ -1,67 +1,68 @@
 -- Why a sequence is not begun too early: who is in each group that ends a first part, and has ended it, leaves nothing there but
 -- messages in flight; and who begins the second part of a connected sequence is such a role.
-use Rattle.std.proofs.Common.{◌≡◌, ◌⊎◌, ℕ, suc, List, [], ◌∷◌, map, Bool, true, false, ◌&&◌, ◌||◌, not, if◌then◌else◌, cond, refl, sym, ap, ap₂, ◌∙◌, subst, inl, inr, ⊎_elim}
-use Rattle.std.proofs.lemmas.Bool.{and_parts, and_from, and_cases, and_left, and_right, or_parts, or_from, or_left, or_right, or_cases, cases_Bool, cond-true, cond-false, both_ways, false_from_ne_true, not_from_false}
+use Rattle.std.proofs.Common.{◌≡◌, ℕ, List, Bool, true, false, ◌||◌, if◌then◌else◌, refl, sym, ap, ◌∙◌, subst, ⊎_elim}
+use Rattle.std.proofs.lemmas.Bool.{and_parts, and_from, and_cases, and_left, and_right, or_from, or_left, or_right, or_cases, cases_Bool, cond-true, cond-false, both_ways}
 use Rattle.dioc_terms.specs.declared.names.Role.{Role}
 use Rattle.dioc_terms.specs.declared.names.Index.{Index}
 use Rattle.dioc_terms.specs.declared.values.Value.{Value}
-use Rattle.dioc_terms.specs.declared.processes.Tag.{Tag}
 use Rattle.dioc_terms.specs.declared.processes.ScopeHead.{ScopeHead}
-use Rattle.dioc_terms.specs.Equality.{role_eq, member}
+use Rattle.dioc_terms.specs.Equality.{role_eq}
 use Rattle.dioc_terms.specs.Expressions.{Expression}
 use Rattle.dioc_terms.specs.Processes as process
 use Rattle.dioc_terms.specs.Processes.{Process, Load}
 use Rattle.dioc_terms.specs.Stores.{Store}
-use Rattle.dioc_terms.specs.Terms.{Term, Skip, Com, Set, Input, Seq, Par, If, While, Scope, empty, is_in, others}
+use Rattle.dioc_terms.specs.Terms.{Term, Skip, Com, Set, Input, Seq, Par, If, While, Scope, empty, is_in}
 use Rattle.projection.specs.Projection.{projected}
-use Rattle.dpoc_process.specs.Steps.{Deed, ended, tell, gather}
+use Rattle.dpoc_process.specs.Steps.{Deed, ended}
 use Rattle.global_steps.specs.Running as running
 use Rattle.global_steps.specs.Running.{Running, started, light, is_due}
 use Rattle.global_steps.specs.Follow.{Answer}
-use Rattle.marked_laws.proofs.Constructs.{Phase, Phases, Kind, Branch, Turning, Stopping, Scoped, Releasing, Waits, Told, Inside, Sent, Gone, leader, whole, body, runs, leads, before, inside, outside, follows, untold, ungone}
+use Rattle.connectedness.specs.ByCases.{begins, attends_ends}
+use Rattle.marked_laws.proofs.Tells.{tell_ended, gather_ended}
+use Rattle.marked_laws.proofs.Constructs.{Phase, Phases, Kind, Branch, Turning, Stopping, Scoped, Releasing, Waits, Told, Inside, Sent, Gone, leader, whole, body, inside, outside, follows, untold, ungone}
 use Rattle.marked_laws.proofs.Ends.{place_leader, place_follower, held_inside, all_over, still_skip, turn_goes_on}
 use Rattle.marked_laws.proofs.Equality.{role_itself}
 use Rattle.marked_laws.proofs.Gates.{before_busy, closed_ended}
-use Rattle.marked_laws.proofs.Mark.{Mark, Still, Flying, Over, First, Second, Both, Held, Spent, origin, run, place, Fine, Closed}
+use Rattle.marked_laws.proofs.Mark.{Mark, Still, Flying, Over, First, Second, Both, Held, Spent, origin, run, place, Fine}
 use Rattle.marked_laws.proofs.MarkSteps.{Steps, sends, sets, reads, seq_opens, par_opens, seq_first, seq_begins, par_left, par_right, picks, turns, stops, keeps, replaces, doer_of}
-use Rattle.marked_laws.proofs.Proper.{Proper, is_start, in_groups, proper_seq, proper_par}
+use Rattle.marked_laws.proofs.Proper.{Proper, proper_seq, proper_par}
 use Rattle.marked_laws.proofs.Roles.{role_cases}
 
 -- a role of each group of a term that isn't empty is in the term
-pub groups_in : (q : Role) (I : Term) → in_groups q I ≡ true → empty I ≡ false → is_in q I ≡ true
+pub groups_in : (q : Role) (I : Term) → attends_ends q I ≡ true → empty I ≡ false → is_in q I ≡ true
 groups_in q Skip h e = absurd (both_ways true e refl)
 groups_in q (Com i o a x b y) h e = h
 groups_in q (Set i x r y) h e = h
 groups_in q (Input i x r) h e = h
 groups_in q (Seq I J) h e = ⊎_elim
     (λ none. or_left (is_in q I) (is_in q J)
-      (groups_in q I (sym (cond-true (empty J) (in_groups q I) (in_groups q J) none) ∙ h)
-        (⊎_elim (λ k. k) (λ k. absurd (both_ways (empty J) k none)) (and_cases (empty I) (empty J) e))))
-    (λ some. or_right (is_in q I) (is_in q J) (groups_in q J (sym (cond-false (empty J) (in_groups q I) (in_groups q J) some) ∙ h) some))
+    (groups_in q I (sym (cond-true (empty J) (attends_ends q I) (attends_ends q J) none) ∙ h)
+    (⊎_elim (λ k. k) (λ k. absurd (both_ways (empty J) k none)) (and_cases (empty I) (empty J) e))))
+    (λ some. or_right (is_in q I) (is_in q J) (groups_in q J (sym (cond-false (empty J) (attends_ends q I) (attends_ends q J) some) ∙ h) some))
     (cases_Bool (empty J))
 groups_in q (Par I J) h e =
-    let parts = and_parts (in_groups q I) (in_groups q J) h in
+    let parts = and_parts (attends_ends q I) (attends_ends q J) h in
     ⊎_elim (λ k. or_left (is_in q I) (is_in q J) (groups_in q I parts.0 k)) (λ k. or_right (is_in q I) (is_in q J) (groups_in q J parts.1 k))
-      (and_cases (empty I) (empty J) e)
+    (and_cases (empty I) (empty J) e)
 groups_in q (If i r g I J) h e =
-    let part = (and_parts (if empty I then is_in q (If i r g I J) else in_groups q I) (if empty J then is_in q (If i r g I J) else in_groups q J) h).0 in
+    let part = (and_parts (if empty I then is_in q (If i r g I J) else attends_ends q I) (if empty J then is_in q (If i r g I J) else attends_ends q J) h).0 in
     ⊎_elim
-      (λ none. sym (cond-true (empty I) (is_in q (If i r g I J)) (in_groups q I) none) ∙ part)
-      (λ some. or_left (role_eq q r || is_in q I) (is_in q J) (or_right (role_eq q r) (is_in q I)
-        (groups_in q I (sym (cond-false (empty I) (is_in q (If i r g I J)) (in_groups q I) some) ∙ part) some)))
-      (cases_Bool (empty I))
+    (λ none. sym (cond-true (empty I) (is_in q (If i r g I J)) (attends_ends q I) none) ∙ part)
+    (λ some. or_left (role_eq q r || is_in q I) (is_in q J) (or_right (role_eq q r) (is_in q I)
+    (groups_in q I (sym (cond-false (empty I) (is_in q (If i r g I J)) (attends_ends q I) some) ∙ part) some)))
+    (cases_Bool (empty I))
 groups_in q (While i r g I) h e = h
 groups_in q (Scope i r I extra props level) h e = h
 
 -- a role that begins a term finds something in it
-pub start_busy : (q : Role) (I : Term) → is_start q I ≡ true → empty I ≡ false
+pub start_busy : (q : Role) (I : Term) → begins q I ≡ true → empty I ≡ false
 start_busy q Skip h = sym h
 start_busy q (Seq I J) h = ⊎_elim
-    (λ none. and_right (empty I) (empty J) (start_busy q J (sym (cond-true (empty I) (is_start q J) (is_start q I) none) ∙ h)))
+    (λ none. and_right (empty I) (empty J) (start_busy q J (sym (cond-true (empty I) (begins q J) (begins q I) none) ∙ h)))
     (λ some. and_left (empty I) (empty J) some)
     (cases_Bool (empty I))
 start_busy q (Par I J) h = ⊎_elim (λ k. and_left (empty I) (empty J) (start_busy q I k)) (λ k. and_right (empty I) (empty J) (start_busy q J k))
-    (or_cases (is_start q I) (is_start q J) h)
+    (or_cases (begins q I) (begins q J) h)
 start_busy q I h = refl
 
 -- an empty term has ended from its start
@@ -99,14 +100,6 @@ started_due q (If i r g I J) = refl
 started_due q (While i r g I) = refl
 started_due q (Scope i r I extra props level) = refl
 
-tell_ended : (r : Role) (qs : List Role) (i : Index) (t : Tag) (carries : Role → Load) → ended (tell r qs i t carries) ≡ true → qs ≡ []
-tell_ended r [] i t carries h = refl
-tell_ended r (q ∷ qs) i t carries h = cc
-
-gather_ended : (r : Role) (qs : List Role) (i : Index) (t : Tag) → ended (gather r qs i t) ≡ true → qs ≡ []
-gather_ended r [] i t h = refl
-gather_ended r (q ∷ qs) i t h = cc
-
 module _ (cast : List Role) where
   -- a role that a term names has something to do in it
   pub insider : (I : Term) (q : Role) → is_in q I ≡ true → ended (projected cast I q) ≡ false
@@ -114,9 +107,9 @@ module _ (cast : List Role) where
   insider (Com i o a e b x) q h = ⊎_elim
       (λ k. ap ended (cond-true (role_eq q a) (process.Send i o b e) (if role_eq q b then process.Recv i o a x else process.Skip) k))
       (λ differs. ⊎_elim (λ k. absurd (both_ways (role_eq q a) differs k))
-        (λ k. ap ended (cond-false (role_eq q a) (process.Send i o b e) (if role_eq q b then process.Recv i o a x else process.Skip) differs
-          ∙ cond-true (role_eq q b) (process.Recv i o a x) process.Skip k))
-        (or_cases (role_eq q a) (role_eq q b) h))
+      (λ k. ap ended (cond-false (role_eq q a) (process.Send i o b e) (if role_eq q b then process.Recv i o a x else process.Skip) differs
+      ∙ cond-true (role_eq q b) (process.Recv i o a x) process.Skip k))
+      (or_cases (role_eq q a) (role_eq q b) h))
       (cases_Bool (role_eq q a))
   insider (Set i x r e) q h = ap ended (cond-true (role_eq q r) (process.Assign i x e) process.Skip h)
   insider (Input i x r) q h = ap ended (cond-true (role_eq q r) (process.Read i x) process.Skip h)
@@ -130,7 +123,7 @@ module _ (cast : List Role) where
       (λ k. ap ended (cond-false (role_eq q r) _ _ k ∙ cond-true (is_in q (Scope i r I extra props level)) _ process.Skip h)) (cases_Bool (role_eq q r))
 
   -- a role of each group that has ended a term that nobody has begun finds it empty
-  pub groups_empty : (q : Role) (I : Term) → in_groups q I ≡ true → ended (projected cast I q) ≡ true → empty I ≡ true
+  pub groups_empty : (q : Role) (I : Term) → attends_ends q I ≡ true → ended (projected cast I q) ≡ true → empty I ≡ true
   groups_empty q I h e = ⊎_elim (λ k. k) (λ k. absurd (both_ways _ (insider I q (groups_in q I h k)) e)) (cases_Bool (empty I))
 
   empty_light : (M : Mark) → Fine cast M → empty (origin M) ≡ true → light (run M) ≡ true
@@ -153,12 +146,12 @@ module _ (cast : List Role) where
       → ended (inside cast k q (place cast M q)) ≡ false → ended (outside cast k q) ≡ false → ended (place cast (Held k phases M) q) ≡ false
   busy_follower k phases M q other in_it h h' = ap ended (place_follower cast k phases M q other) ∙ by_phase (phases q)
     where
-    by_phase : (p : Phase) → ended (follows cast k q p (place cast M q)) ≡ false
-    by_phase Waits = before_busy cast k q other in_it
-    by_phase Told = before_busy cast k q other in_it
-    by_phase Inside = h
-    by_phase Sent = h'
-    by_phase Gone = h'
+      by_phase : (p : Phase) → ended (follows cast k q p (place cast M q)) ≡ false
+      by_phase Waits = before_busy cast k q other in_it
+      by_phase Told = before_busy cast k q other in_it
+      by_phase Inside = h
+      by_phase Sent = h'
+      by_phase Gone = h'
 
   turning_busy : (i : Index) (r : Role) (g : Expression) (I : Term) (phases : Phases) (M : Mark) (q : Role) → is_in q (While i r g I) ≡ true
       → ended (place cast (Held (Turning i r g I) phases M) q) ≡ true → ⊥
@@ -173,50 +166,51 @@ module _ (cast : List Role) where
       → ended (place cast (Held (Scoped i r I extra props level begin B) phases M) q) ≡ true → running.ended (run M) ≡ true
   scope_over i r I extra props level begin B phases M q fine in_it h = ⊎_elim
       (λ is.
-        let k : Kind = Scoped i r I extra props level begin B in
-        let led = sym (ap ended (place_leader cast k phases M q is)) ∙ h in
-        let first = and_parts _ _ led in
-        let second = and_parts (ended (place cast M q)) _ first.1 in
-        let third = and_parts _ _ second.1 in
-        all_over cast M fine.0 (closed_ended cast k phases M fine (record {
-          told = tell_ended r (untold cast k phases) i _ begin first.0;
-          done = subst (λ y. ended (place cast M y) ≡ true) is second.0;
-          gathered = gather_ended r (ungone cast k phases) i _ third.0 })))
+      let k : Kind = Scoped i r I extra props level begin B in
+      let led = sym (ap ended (place_leader cast k phases M q is)) ∙ h in
+      let first = and_parts _ _ led in
+      let second = and_parts (ended (place cast M q)) _ first.1 in
+      let third = and_parts _ _ second.1 in
+      all_over cast M fine.0 (closed_ended cast k phases M fine (record {
+        told = tell_ended r (untold cast k phases) i _ begin first.0;
+        done = subst (λ y. ended (place cast M y) ≡ true) is second.0;
+        gathered = gather_ended r (ungone cast k phases) i _ third.0;
+      })))
       (λ other. absurd (both_ways _ (busy_follower (Scoped i r I extra props level begin B) phases M q other in_it (and_right (ended (place cast M q)) _ refl) refl) h))
       (role_cases q r)
 
   branch_light : (i : Index) (r : Role) (g : Expression) (I J : Term) (b : Bool) (M : Mark) (q : Role) → Fine cast M
-      → origin M ≡ body (Branch i r g I J b) → in_groups q (If i r g I J) ≡ true → (in_groups q (origin M) ≡ true → light (run M) ≡ true)
+      → origin M ≡ body (Branch i r g I J b) → attends_ends q (If i r g I J) ≡ true → (attends_ends q (origin M) ≡ true → light (run M) ≡ true)
       → light (run M) ≡ true
   branch_light i r g I J true M q fine is h rest =
-      let part = (and_parts (if empty I then is_in q (If i r g I J) else in_groups q I) (if empty J then is_in q (If i r g I J) else in_groups q J) h).0 in
+      let part = (and_parts (if empty I then is_in q (If i r g I J) else attends_ends q I) (if empty J then is_in q (If i r g I J) else attends_ends q J) h).0 in
       ⊎_elim (λ none. empty_light M fine (ap empty is ∙ none))
-        (λ some. rest (ap (in_groups q) is ∙ sym (cond-false (empty I) (is_in q (If i r g I J)) (in_groups q I) some) ∙ part)) (cases_Bool (empty I))
+      (λ some. rest (ap (attends_ends q) is ∙ sym (cond-false (empty I) (is_in q (If i r g I J)) (attends_ends q I) some) ∙ part)) (cases_Bool (empty I))
   branch_light i r g I J false M q fine is h rest =
-      let part = (and_parts (if empty I then is_in q (If i r g I J) else in_groups q I) (if empty J then is_in q (If i r g I J) else in_groups q J) h).1 in
+      let part = (and_parts (if empty I then is_in q (If i r g I J) else attends_ends q I) (if empty J then is_in q (If i r g I J) else attends_ends q J) h).1 in
       ⊎_elim (λ none. empty_light M fine (ap empty is ∙ none))
-        (λ some. rest (ap (in_groups q) is ∙ sym (cond-false (empty J) (is_in q (If i r g I J)) (in_groups q J) some) ∙ part)) (cases_Bool (empty J))
+      (λ some. rest (ap (attends_ends q) is ∙ sym (cond-false (empty J) (is_in q (If i r g I J)) (attends_ends q J) some) ∙ part)) (cases_Bool (empty J))
 
   -- who is in each group that ends a term, and has ended it, leaves nothing but messages in flight
-  pub groups_light : (M : Mark) (q : Role) → Fine cast M → in_groups q (origin M) ≡ true → ended (place cast M q) ≡ true → light (run M) ≡ true
+  pub groups_light : (M : Mark) (q : Role) → Fine cast M → attends_ends q (origin M) ≡ true → ended (place cast M q) ≡ true → light (run M) ≡ true
   groups_light (Still I) q fine h e = over_light (started I) (empty_over I (groups_empty q I h e))
   groups_light (Flying i o a x b y v) q fine h e = refl
   groups_light (Over I) q fine h e = refl
   groups_light (First M J) q fine h e =
       let parts = and_parts (ended (place cast M q)) (ended (projected cast J q)) e in
       ⊎_elim
-        (λ none. and_from _ _ (groups_light M q fine.0 (sym (cond-true (empty J) (in_groups q (origin M)) (in_groups q J) none) ∙ h) parts.0)
-          (over_light (started J) (empty_over J none)))
-        (λ some. absurd (both_ways (empty J) some (groups_empty q J (sym (cond-false (empty J) (in_groups q (origin M)) (in_groups q J) some) ∙ h) parts.1)))
-        (cases_Bool (empty J))
+      (λ none. and_from _ _ (groups_light M q fine.0 (sym (cond-true (empty J) (attends_ends q (origin M)) (attends_ends q J) none) ∙ h) parts.0)
+      (over_light (started J) (empty_over J none)))
+      (λ some. absurd (both_ways (empty J) some (groups_empty q J (sym (cond-false (empty J) (attends_ends q (origin M)) (attends_ends q J) some) ∙ h) parts.1)))
+      (cases_Bool (empty J))
   groups_light (Second M N) q fine h e =
       let parts = and_parts (ended (place cast M q)) (ended (place cast N q)) e in
       and_from _ _ fine.3 (⊎_elim (λ none. empty_light N fine.1 none)
-        (λ some. groups_light N q fine.1 (sym (cond-false (empty (origin N)) (in_groups q (origin M)) (in_groups q (origin N)) some) ∙ h) parts.1)
-        (cases_Bool (empty (origin N))))
+      (λ some. groups_light N q fine.1 (sym (cond-false (empty (origin N)) (attends_ends q (origin M)) (attends_ends q (origin N)) some) ∙ h) parts.1)
+      (cases_Bool (empty (origin N))))
   groups_light (Both M N) q fine h e =
       let parts = and_parts (ended (place cast M q)) (ended (place cast N q)) e in
-      let both = and_parts (in_groups q (origin M)) (in_groups q (origin N)) h in
+      let both = and_parts (attends_ends q (origin M)) (attends_ends q (origin N)) h in
       and_from _ _ (groups_light M q fine.0 both.0 parts.0) (groups_light N q fine.1 both.1 parts.1)
   groups_light (Held (Branch i r g I J b) phases M) q fine h e =
       branch_light i r g I J b M q fine.0 fine.1.is_body h (λ k. groups_light M q fine.0 k (held_inside cast (Branch i r g I J b) phases M q fine e))
@@ -232,8 +226,8 @@ module _ (cast : List Role) where
   ended_due (Flying i o a e b x v) q fine h = ⊎_elim
       (λ is. ap (λ r. role_eq r b) is ∙ fine.no_self)
       (λ differs. ⊎_elim
-        (λ yes. absurd (both_ways false refl (sym (ap ended (cond-false (role_eq q a) process.Skip _ differs ∙ cond-true (role_eq q b) (process.Recv i o a x) process.Skip yes)) ∙ h)))
-        (λ no. no) (cases_Bool (role_eq q b)))
+      (λ yes. absurd (both_ways false refl (sym (ap ended (cond-false (role_eq q a) process.Skip _ differs ∙ cond-true (role_eq q b) (process.Recv i o a x) process.Skip yes)) ∙ h)))
+      (λ no. no) (cases_Bool (role_eq q b)))
       (role_cases q a)
   ended_due (Over I) q fine h = refl
   ended_due (First M J) q fine h = or_from _ _ (ended_due M q fine.0 (and_parts _ (ended (projected cast J q)) h).0) (started_due q J)
@@ -247,22 +241,22 @@ module _ (cast : List Role) where
   ended_due (Spent G) q fine h = over_due q G fine
 
   module _ (stores : Role → Store) (answers : ScopeHead → Answer) (updates : ℕ) where
-    seq_start_first : (q : Role) (I J : Term) → is_start q I ≡ true → is_start q (Seq I J) ≡ true
-    seq_start_first q I J h = cond-false (empty I) (is_start q J) (is_start q I) (start_busy q I h) ∙ h
+    seq_start_first : (q : Role) (I J : Term) → begins q I ≡ true → begins q (Seq I J) ≡ true
+    seq_start_first q I J h = cond-false (empty I) (begins q J) (begins q I) (start_busy q I h) ∙ h
 
-    seq_start_second : (q : Role) (I J : Term) → Proper cast (Seq I J) → ended (projected cast I q) ≡ true → is_start q J ≡ true → is_start q (Seq I J) ≡ true
+    seq_start_second : (q : Role) (I J : Term) → Proper cast (Seq I J) → ended (projected cast I q) ≡ true → begins q J ≡ true → begins q (Seq I J) ≡ true
     seq_start_second q I J proper e h =
-        cond-true (empty I) (is_start q J) (is_start q I) (groups_empty q I ((proper_seq cast I J proper).3 q h) e) ∙ h
+        cond-true (empty I) (begins q J) (begins q I) (groups_empty q I ((proper_seq cast I J proper).3 q h) e) ∙ h
 
     -- a term that nobody has begun is begun by a role that begins it
-    pub starts : {I : Term} {N : Mark} {d : Deed} → Steps cast stores answers updates (Still I) d N → Proper cast I → is_start (doer_of d) I ≡ true
+    pub starts : {I : Term} {N : Mark} {d : Deed} → Steps cast stores answers updates (Still I) d N → Proper cast I → begins (doer_of d) I ≡ true
     starts (sends {a = a}) proper = role_itself a
     starts (sets {r = r}) proper = role_itself r
     starts (reads {r = r}) proper = role_itself r
     starts (seq_opens {I = I} {J = J} {d = d} (seq_first s)) proper = seq_start_first (doer_of d) I J (starts s (proper_seq cast I J proper).0)
     starts (seq_opens {I = I} {J = J} {d = d} (seq_begins e s)) proper = seq_start_second (doer_of d) I J proper e (starts s (proper_seq cast I J proper).1)
-    starts (par_opens {I = I} {J = J} {d = d} (par_left s)) proper = or_left (is_start (doer_of d) I) (is_start (doer_of d) J) (starts s (proper_par cast I J proper).0)
-    starts (par_opens {I = I} {J = J} {d = d} (par_right s)) proper = or_right (is_start (doer_of d) I) (is_start (doer_of d) J) (starts s (proper_par cast I J proper).1)
+    starts (par_opens {I = I} {J = J} {d = d} (par_left s)) proper = or_left (begins (doer_of d) I) (begins (doer_of d) J) (starts s (proper_par cast I J proper).0)
+    starts (par_opens {I = I} {J = J} {d = d} (par_right s)) proper = or_right (begins (doer_of d) I) (begins (doer_of d) J) (starts s (proper_par cast I J proper).1)
     starts (picks {r = r}) proper = role_itself r
     starts (turns {r = r} e) proper = role_itself r
     starts (stops {r = r} e) proper = role_itself r

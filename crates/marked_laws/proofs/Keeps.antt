@@ -1,35 +1,22 @@
 -- What a step of a mark keeps: where it came from, its indices, the processes of the other roles, and that its running term has ended
 -- or is light; and how it changes the mail.
-use Rattle.std.proofs.Common.{◌≡◌, ◌⊎◌, ℕ, suc, List, [], ◌∷◌, Bool, true, false, ◌&&◌, ◌||◌, not, if◌then◌else◌, cond, Option, Some, None, refl, sym, ap, ap₂, ◌∙◌, subst, inl, inr, ⊎_elim}
-use Rattle.std.proofs.lemmas.Bool.{and_parts, and_from, and_left, and_right, or_parts, or_left, both_ways, cases_Bool, cond-true, cond-false}
+use Rattle.std.proofs.Common.{◌≡◌, ◌⊎◌, ℕ, suc, List, Bool, true, false, if◌then◌else◌, refl, ap, inl, inr, ⊎_elim}
+use Rattle.std.proofs.lemmas.Bool.{and_parts, and_from}
 use Rattle.dioc_terms.specs.declared.names.Role.{Role}
 use Rattle.dioc_terms.specs.declared.names.Index.{Index}
-use Rattle.dioc_terms.specs.declared.values.Value.{Value}
-use Rattle.dioc_terms.specs.declared.processes.Key.{Key}
-use Rattle.dioc_terms.specs.declared.processes.Tag.{Tag}
-use Rattle.dioc_terms.specs.declared.processes.Tag.TheVariants.{Op, Out, Turn, End}
 use Rattle.dioc_terms.specs.declared.processes.ScopeHead.{ScopeHead}
-use Rattle.dioc_terms.specs.Equality.{role_eq, key_eq, member}
-use Rattle.dioc_terms.specs.Expressions.{Expression}
-use Rattle.dioc_terms.specs.Processes as process
-use Rattle.dioc_terms.specs.Processes.{Process, Load, Val}
 use Rattle.dioc_terms.specs.Stores.{Store}
 use Rattle.dioc_terms.specs.Terms as term
 use Rattle.dioc_terms.specs.Terms.{Term, is_in, others, distinct_roles, stamped, at_epoch}
 use Rattle.dioc_terms.specs.Values.{eval, is_true}
-use Rattle.projection.specs.Projection.{projected}
-use Rattle.dpoc_process.specs.Steps.{Deed, Puts, Takes, Sets, Inputs, Picks, Chooses, entry_of, key, tell, gather, ended}
+use Rattle.dpoc_process.specs.Steps.{Deed, Puts, Takes, Sets, Inputs, Picks, Chooses, entry_of}
 use Rattle.global_steps.specs.Running as running
 use Rattle.global_steps.specs.Running.{Running, started, light}
-use Rattle.global_steps.specs.Follow.{Answer, updated, updates_after}
-use Rattle.marked_laws.proofs.Constructs.{Phase, Phases, Kind, Branch, Turning, Stopping, Scoped, Releasing, Waits, Told, Inside, Sent, Gone, waits, gone, is_early, is_late, all_wait, leader, index, tag, told, whole, body, runs, telling_key, backing_key, Backs, turn_backs, end_backs, letter, peer, opened, own_mail, leads, before, inside, outside, follows, untold, ungone, Busy}
-use Rattle.marked_laws.proofs.Ends.{place_leader, place_follower}
-use Rattle.marked_laws.proofs.Equality.{role_itself, key_itself}
-use Rattle.marked_laws.proofs.Gates.{outsider_waits, untold_head, ungone_head, untold_same, ungone_same, ungone_none, closed_ended}
-use Rattle.marked_laws.proofs.Mark.{Mark, Still, Flying, Over, First, Second, Both, Held, Spent, origin, run, mail, first_of_two, At, place, Sound, Fine, Closed}
-use Rattle.marked_laws.proofs.MarkSteps.{Steps, sends, lands, sets, reads, seq_opens, par_opens, seq_first, seq_begins, seq_lags, seq_goes, par_left, par_right, picks, turns, stops, again, leaves, tells, hears, works, arrives, gathers, keeps, replaces, frees, doer_of, New, Old}
-use Rattle.marked_laws.proofs.Proper.{Proper, Within}
-use Rattle.marked_laws.proofs.Roles.{role_cases, role_swap, updated_here, updated_there}
+use Rattle.global_steps.specs.Follow.{Answer, updates_after}
+use Rattle.marked_laws.proofs.Constructs.{Kind, Branch, Turning, Stopping, Scoped, Releasing, index, whole, runs}
+use Rattle.marked_laws.proofs.Mark.{Mark, origin, run, At}
+use Rattle.marked_laws.proofs.MarkSteps.{Steps, sends, lands, sets, reads, seq_opens, par_opens, seq_first, seq_begins, seq_lags, seq_goes, par_left, par_right, picks, turns, stops, again, leaves, tells, hears, works, arrives, gathers, keeps, replaces, frees, New}
+use Rattle.marked_laws.proofs.Proper.{Within}
 
 -- the index at which something is done
 abbrev pub deed_index : Deed → Index
@@ -136,9 +123,9 @@ module _ (cast : List Role) (stores : Role → Store) (answers : ScopeHead → A
   new_step (picks {r = r} {g = g} {I = I} {J = J}) n h =
       ⊎_elim (λ k. inl k) (λ k. inl (inr (of_branch (is_true (eval g (stores r))) k))) h
     where
-    of_branch : (b : Bool) → Within n (if b then I else J) → Within n I ⊎ Within n J
-    of_branch true k = inl k
-    of_branch false k = inr k
+      of_branch : (b : Bool) → Within n (if b then I else J) → Within n I ⊎ Within n J
+      of_branch true k = inl k
+      of_branch false k = inr k
   new_step (turns e) n h = ⊎_elim (λ k. inl k) (λ k. inl (inr k)) h
   new_step (stops e) n h = ⊎_elim (λ k. inl k) (λ k. absurd k) h
   new_step (again e c) n h = ⊎_elim (λ k. inl (inl k)) (λ k. inl (inl (inr k))) h

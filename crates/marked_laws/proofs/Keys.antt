@@ -39,10 +39,10 @@ distinct-append [] ls h h' apart = h'
 distinct-append (k ∷ ks) ls h h' apart =
     let parts = and_parts (not (key_among k ks)) (distinct_keys ks) h in
     and_from (not (key_among k (ks ++ ls))) (distinct_keys (ks ++ ls))
-      (not_from_false (key_among k (ks ++ ls)) (list_any-append (key_eq k) ks ls
-        ∙ or_from (key_among k ks) (key_among k ls) (not-true (key_among k ks) parts.0)
-          (false_from_ne_true (key_among k ls) (λ is. apart k (or_left (key_eq k k) (key_among k ks) (key_itself k)) is))))
-      (distinct-append ks ls parts.1 h' (λ j is at. apart j (or_right (key_eq j k) (key_among j ks) is) at))
+    (not_from_false (key_among k (ks ++ ls)) (list_any-append (key_eq k) ks ls
+    ∙ or_from (key_among k ks) (key_among k ls) (not-true (key_among k ks) parts.0)
+    (false_from_ne_true (key_among k ls) (λ is. apart k (or_left (key_eq k k) (key_among k ks) (key_itself k)) is))))
+    (distinct-append ks ls parts.1 h' (λ j is at. apart j (or_right (key_eq j k) (key_among j ks) is) at))
 
 module _ (q : Role) where
   -- the process is ready to take the message of a key
@@ -55,16 +55,16 @@ module _ (q : Role) where
   ready_seq : (P Q : Process) (j : Key) → Ready (process.Seq P Q) j → Ready P j ⊎ Ready Q j
   ready_seq P Q j h = by_end (ended P) h
     where
-    by_end : (b : Bool) → key_among j (taken_keys (if b then offers q Q else offers q P)) ≡ true → Ready P j ⊎ Ready Q j
-    by_end true h = inr h
-    by_end false h = inl h
+      by_end : (b : Bool) → key_among j (taken_keys (if b then offers q Q else offers q P)) ≡ true → Ready P j ⊎ Ready Q j
+      by_end true h = inr h
+      by_end false h = inl h
 
   few_seq : (P Q : Process) → Few P → Few Q → Few (process.Seq P Q)
   few_seq P Q h h' = by_end (ended P)
     where
-    by_end : (b : Bool) → distinct_keys (taken_keys (if b then offers q Q else offers q P)) ≡ true
-    by_end true = h'
-    by_end false = h
+      by_end : (b : Bool) → distinct_keys (taken_keys (if b then offers q Q else offers q P)) ≡ true
+      by_end true = h'
+      by_end false = h
 
   ready_par : (P Q : Process) (j : Key) → Ready (process.Par P Q) j → Ready P j ⊎ Ready Q j
   ready_par P Q j h = or_cases (key_among j (taken_keys (offers q P))) (key_among j (taken_keys (offers q Q)))
@@ -112,8 +112,8 @@ module _ (q : Role) where
     ready_within term.Skip j h = absurd (never j h)
     ready_within (term.Com i o a e b x) j h =
         ready_either (role_eq q a) (process.Send i o b e) (if role_eq q b then process.Recv i o a x else process.Skip) j (j.index ≡ i)
-          (λ k. absurd (both_ways false refl k))
-          (λ k. ready_either (role_eq q b) (process.Recv i o a x) process.Skip j (j.index ≡ i) (λ l. ready_one (key a q i (Op o)) j l) (λ l. absurd (never j l)) k) h
+        (λ k. absurd (both_ways false refl k))
+        (λ k. ready_either (role_eq q b) (process.Recv i o a x) process.Skip j (j.index ≡ i) (λ l. ready_one (key a q i (Op o)) j l) (λ l. absurd (never j l)) k) h
     ready_within (term.Set i x r e) j h =
         ready_either (role_eq q r) (process.Assign i x e) process.Skip j (j.index ≡ i) (λ k. absurd (both_ways false refl k)) (λ k. absurd (never j k)) h
     ready_within (term.Input i x r) j h =
@@ -122,23 +122,23 @@ module _ (q : Role) where
     ready_within (term.Par I J) j h = ⊎_elim (λ k. inl (ready_within I j k)) (λ k. inr (ready_within J j k)) (ready_par (projected cast I q) (projected cast J q) j h)
     ready_within (term.If i r g I J) j h =
         ready_either (role_eq q r) (process.IfLead i g (others cast r (term.If i r g I J)) (projected cast I q) (projected cast J q))
-          (if is_in q (term.If i r g I J) then process.IfFollow i r (projected cast I q) (projected cast J q) else process.Skip) j (Within j.index (term.If i r g I J))
-          (λ k. absurd (both_ways false refl k))
-          (λ k. ready_either (is_in q (term.If i r g I J)) (process.IfFollow i r (projected cast I q) (projected cast J q)) process.Skip j (Within j.index (term.If i r g I J))
-            (λ l. inl (ready_one (key r q i Choice) j l)) (λ l. absurd (never j l)) k) h
+        (if is_in q (term.If i r g I J) then process.IfFollow i r (projected cast I q) (projected cast J q) else process.Skip) j (Within j.index (term.If i r g I J))
+        (λ k. absurd (both_ways false refl k))
+        (λ k. ready_either (is_in q (term.If i r g I J)) (process.IfFollow i r (projected cast I q) (projected cast J q)) process.Skip j (Within j.index (term.If i r g I J))
+        (λ l. inl (ready_one (key r q i Choice) j l)) (λ l. absurd (never j l)) k) h
     ready_within (term.While i r g I) j h =
         ready_either (role_eq q r) (process.WhileLead i g (others cast r (term.While i r g I)) (projected cast I q))
-          (if is_in q (term.While i r g I) then process.WhileFollow i r (projected cast I q) else process.Skip) j (Within j.index (term.While i r g I))
-          (λ k. absurd (both_ways false refl k))
-          (λ k. ready_either (is_in q (term.While i r g I)) (process.WhileFollow i r (projected cast I q)) process.Skip j (Within j.index (term.While i r g I))
-            (λ l. inl (ready_one (key r q i Go) j l)) (λ l. absurd (never j l)) k) h
+        (if is_in q (term.While i r g I) then process.WhileFollow i r (projected cast I q) else process.Skip) j (Within j.index (term.While i r g I))
+        (λ k. absurd (both_ways false refl k))
+        (λ k. ready_either (is_in q (term.While i r g I)) (process.WhileFollow i r (projected cast I q)) process.Skip j (Within j.index (term.While i r g I))
+        (λ l. inl (ready_one (key r q i Go) j l)) (λ l. absurd (never j l)) k) h
     ready_within (term.Scope i r I extra props level) j h =
         let own_part : Process = if is_in q I then projected cast I q else process.Skip in
         ready_either (role_eq q r) (process.ScopeLead (head_of cast i r I extra props level) (others cast r (term.Scope i r I extra props level)) (projected cast I q))
-          (if is_in q (term.Scope i r I extra props level) then process.ScopeFollow i r own_part else process.Skip) j (Within j.index (term.Scope i r I extra props level))
-          (λ k. absurd (both_ways false refl k))
-          (λ k. ready_either (is_in q (term.Scope i r I extra props level)) (process.ScopeFollow i r own_part) process.Skip j (Within j.index (term.Scope i r I extra props level))
-            (λ l. inl (ready_one (key r q i Begin) j l)) (λ l. absurd (never j l)) k) h
+        (if is_in q (term.Scope i r I extra props level) then process.ScopeFollow i r own_part else process.Skip) j (Within j.index (term.Scope i r I extra props level))
+        (λ k. absurd (both_ways false refl k))
+        (λ k. ready_either (is_in q (term.Scope i r I extra props level)) (process.ScopeFollow i r own_part) process.Skip j (Within j.index (term.Scope i r I extra props level))
+        (λ l. inl (ready_one (key r q i Begin) j l)) (λ l. absurd (never j l)) k) h
 
     -- the leader of a loop is ready for no message before its pick
     picks_first : (i : Index) (r : Role) (g : Expression) (I : Term) (j : Key) → Ready (projected cast (term.While i r g I) r) j → ⊥
@@ -156,7 +156,7 @@ module _ (q : Role) where
         few_seq (projected cast I q) (projected cast J q) (few_within I parts.0) (few_within J parts.1)
     few_within (term.Par I J) proper = let parts = proper_par cast I J proper in
         few_par (projected cast I q) (projected cast J q) (few_within I parts.0) (few_within J parts.1)
-          (λ j h k. parts.2 j.index (ready_within I j h) (ready_within J j k))
+        (λ j h k. parts.2 j.index (ready_within I j h) (ready_within J j k))
     few_within (term.If i r g I J) proper = few_either (role_eq q r) _ _ refl (few_either (is_in q (term.If i r g I J)) _ process.Skip refl refl)
     few_within (term.While i r g I) proper = few_either (role_eq q r) _ _ refl (few_either (is_in q (term.While i r g I)) _ process.Skip refl refl)
     few_within (term.Scope i r I extra props level) proper =
@@ -172,11 +172,11 @@ module _ (q : Role) where
         let G : Process = gather r (ungone cast (Turning i r g I) phases) i Turn in
         let W : Process = projected cast (term.While i r g I) r in
         ⊎_elim
-          (λ x. absurd (ready_tell r (untold cast (Turning i r g I) phases) i Go (λ y. process.Flag true) j x))
-          (λ x. ⊎_elim (λ y. inr y)
-            (λ y. ⊎_elim (λ z. inl (inl (ready_gather r (ungone cast (Turning i r g I) phases) i Turn j z))) (λ z. absurd (picks_first i r g I j z)) (ready_seq G W j y))
-            (ready_seq P (process.Seq G W) j x))
-          (ready_seq T (process.Seq P (process.Seq G W)) j h)
+        (λ x. absurd (ready_tell r (untold cast (Turning i r g I) phases) i Go (λ y. process.Flag true) j x))
+        (λ x. ⊎_elim (λ y. inr y)
+        (λ y. ⊎_elim (λ z. inl (inl (ready_gather r (ungone cast (Turning i r g I) phases) i Turn j z))) (λ z. absurd (picks_first i r g I j z)) (ready_seq G W j y))
+        (ready_seq P (process.Seq G W) j x))
+        (ready_seq T (process.Seq P (process.Seq G W)) j h)
     ready_leads (Stopping i r g I) phases P j h = absurd (ready_tell r (untold cast (Stopping i r g I) phases) i Go (λ y. process.Flag false) j h)
     ready_leads (Scoped i r I extra props level begin B) phases P j h =
         let k : Kind = Scoped i r I extra props level begin B in
@@ -184,12 +184,12 @@ module _ (q : Role) where
         let G : Process = gather r (ungone cast k phases) i End in
         let O : Process = tell r (others cast r (term.Scope i r I extra props level)) i Out (λ y. Done) in
         ⊎_elim
-          (λ x. absurd (ready_tell r (untold cast k phases) i Begin begin j x))
-          (λ x. ⊎_elim (λ y. inr y)
-            (λ y. ⊎_elim (λ z. inl (inl (ready_gather r (ungone cast k phases) i End j z)))
-              (λ z. absurd (ready_tell r (others cast r (term.Scope i r I extra props level)) i Out (λ w. Done) j z)) (ready_seq G O j y))
-            (ready_seq P (process.Seq G O) j x))
-          (ready_seq T (process.Seq P (process.Seq G O)) j h)
+        (λ x. absurd (ready_tell r (untold cast k phases) i Begin begin j x))
+        (λ x. ⊎_elim (λ y. inr y)
+        (λ y. ⊎_elim (λ z. inl (inl (ready_gather r (ungone cast k phases) i End j z)))
+        (λ z. absurd (ready_tell r (others cast r (term.Scope i r I extra props level)) i Out (λ w. Done) j z)) (ready_seq G O j y))
+        (ready_seq P (process.Seq G O) j x))
+        (ready_seq T (process.Seq P (process.Seq G O)) j h)
     ready_leads (Releasing i r I extra props level) phases P j h = absurd (ready_tell r (untold cast (Releasing i r I extra props level) phases) i Out (λ y. Done) j h)
 
     few_leads : (k : Kind) (phases : Phases) (P : Process) → Proper cast (whole k) → Few P → Few (leads cast k phases P)
@@ -201,7 +201,7 @@ module _ (q : Role) where
         let G : Process = gather r (ungone cast (Turning i r g I) phases) i Turn in
         let W : Process = projected cast (term.While i r g I) r in
         few_seq T (process.Seq P (process.Seq G W)) (few_tell r (untold cast (Turning i r g I) phases) i Go (λ y. process.Flag true))
-          (few_seq P (process.Seq G W) few (few_seq G W (few_gather r (ungone cast (Turning i r g I) phases) i Turn) (few_picks i r g I)))
+        (few_seq P (process.Seq G W) few (few_seq G W (few_gather r (ungone cast (Turning i r g I) phases) i Turn) (few_picks i r g I)))
     few_leads (Stopping i r g I) phases P proper few = few_tell r (untold cast (Stopping i r g I) phases) i Go (λ y. process.Flag false)
     few_leads (Scoped i r I extra props level begin B) phases P proper few =
         let k : Kind = Scoped i r I extra props level begin B in
@@ -209,14 +209,14 @@ module _ (q : Role) where
         let G : Process = gather r (ungone cast k phases) i End in
         let O : Process = tell r (others cast r (term.Scope i r I extra props level)) i Out (λ y. Done) in
         few_seq T (process.Seq P (process.Seq G O)) (few_tell r (untold cast k phases) i Begin begin)
-          (few_seq P (process.Seq G O) few (few_seq G O (few_gather r (ungone cast k phases) i End)
-            (few_tell r (others cast r (term.Scope i r I extra props level)) i Out (λ y. Done))))
+        (few_seq P (process.Seq G O) few (few_seq G O (few_gather r (ungone cast k phases) i End)
+        (few_tell r (others cast r (term.Scope i r I extra props level)) i Out (λ y. Done))))
     few_leads (Releasing i r I extra props level) phases P proper few = few_tell r (untold cast (Releasing i r I extra props level) phases) i Out (λ y. Done)
 
     ready_before : (k : Kind) (j : Key) → Ready (before cast k q) j → Within j.index (whole k)
     ready_before (Releasing i r I extra props level) j h =
         ready_either (is_in q (term.Scope i r I extra props level)) (process.Gather (key r q i Out ∷ [])) process.Skip j (Within j.index (term.Scope i r I extra props level))
-          (λ k. inl (ready_one (key r q i Out) j k)) (λ k. absurd (never j k)) h
+        (λ k. inl (ready_one (key r q i Out) j k)) (λ k. absurd (never j k)) h
     ready_before (Branch i r g I J b) j h = ready_within (term.If i r g I J) j h
     ready_before (Turning i r g I) j h = ready_within (term.While i r g I) j h
     ready_before (Stopping i r g I) j h = ready_within (term.While i r g I) j h
@@ -278,15 +278,15 @@ module _ (q : Role) where
     ready_at (Still I) j h = ready_within I j h
     ready_at (Flying i o a e b x v) j h =
         ready_either (role_eq q a) process.Skip (if role_eq q b then process.Recv i o a x else process.Skip) j (j.index ≡ i) (λ k. absurd (never j k))
-          (λ k. ready_either (role_eq q b) (process.Recv i o a x) process.Skip j (j.index ≡ i) (λ l. ready_one (key a q i (Op o)) j l) (λ l. absurd (never j l)) k) h
+        (λ k. ready_either (role_eq q b) (process.Recv i o a x) process.Skip j (j.index ≡ i) (λ l. ready_one (key a q i (Op o)) j l) (λ l. absurd (never j l)) k) h
     ready_at (Over I) j h = absurd (never j h)
     ready_at (First M J) j h = ⊎_elim (λ k. inl (ready_at M j k)) (λ k. inr (ready_within J j k)) (ready_seq (place cast M q) (projected cast J q) j h)
     ready_at (Second M N) j h = ⊎_elim (λ k. inl (ready_at M j k)) (λ k. inr (ready_at N j k)) (ready_seq (place cast M q) (place cast N q) j h)
     ready_at (Both M N) j h = ⊎_elim (λ k. inl (ready_at M j k)) (λ k. inr (ready_at N j k)) (ready_par (place cast M q) (place cast N q) j h)
     ready_at (Held k phases M) j h =
         ready_either (role_eq q (leader k)) (leads cast k phases (place cast M q)) (follows cast k q (phases q) (place cast M q)) j (At j.index (Held k phases M))
-          (λ x. ⊎_elim (λ y. inl y) (λ y. inr (ready_at M j y)) (ready_leads k phases (place cast M q) j x))
-          (λ x. ⊎_elim (λ y. inl y) (λ y. inr (ready_at M j y)) (ready_follows k (phases q) (place cast M q) j x)) h
+        (λ x. ⊎_elim (λ y. inl y) (λ y. inr (ready_at M j y)) (ready_leads k phases (place cast M q) j x))
+        (λ x. ⊎_elim (λ y. inl y) (λ y. inr (ready_at M j y)) (ready_follows k (phases q) (place cast M q) j x)) h
     ready_at (Spent G) j h = absurd (never j h)
 
     few_at : (M : Mark) → Fine cast M → Few (place cast M q)

@@ -32,6 +32,8 @@ pub mod RoleLists
 pub mod Roles
 pub mod Settlements
 pub mod Settles
+pub mod Shapes
 pub mod Simulate
 pub mod Stays
+pub mod Tells
 pub mod Whole

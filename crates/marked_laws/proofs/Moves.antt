@@ -1,6 +1,6 @@
 -- What is known of the parts of a move that is done.
-use Rattle.std.proofs.Common.{◌≡◌, ◌⊎◌, Bool, true, false, refl, ap, inl, inr}
-use Rattle.dioc_terms.specs.Moves.{Move, Stuck, Does, under, orelse, when}
+use Rattle.std.proofs.Common.{◌≡◌, Bool, true, false, refl, ap}
+use Rattle.dioc_terms.specs.Moves.{Move, Stuck, Does, under, when}
 
 pub does_same : {D A : Type 0} {d e : D} {a b : A} → Does d a ≡ Does e b → (d ≡ e) × (a ≡ b)
 does_same h = (cc, cc)
@@ -23,14 +23,6 @@ when_false false m h = refl
 pub under_does : {D A B : Type 0} (f : A → B) (m : Move D A) {d : D} {b : B} → under f m ≡ Does d b → (a : A) × (m ≡ Does d a) × (f a ≡ b)
 under_does f Stuck h = absurd (stuck_does h)
 under_does f (Does d a) h = (a, ap (λ e. Does e a) (does_same h).0, (does_same h).1)
-
-pub under_stuck : {D A B : Type 0} (f : A → B) (m : Move D A) → under f m ≡ Stuck → m ≡ Stuck
-under_stuck f Stuck h = refl
-under_stuck f (Does d a) h = cc
-
-pub orelse_does : {D A : Type 0} (m n : Move D A) {d : D} {a : A} → orelse m n ≡ Does d a → (m ≡ Does d a) ⊎ ((m ≡ Stuck) × (n ≡ Does d a))
-orelse_does Stuck n h = inr (refl, h)
-orelse_does (Does d a) n h = inl h
 
 -- what is put around a move twice
 pub under_twice : {D A B C : Type 0} (f : A → B) (g : B → C) (m : Move D A) → under g (under f m) ≡ under (λ a. g (f a)) m

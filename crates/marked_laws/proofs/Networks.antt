@@ -1,8 +1,6 @@
 -- What a step of the network and a played entry say, part by part.
-use Rattle.std.proofs.Common.{◌≡◌, ◌⊎◌, ℕ, suc, List, [], ◌∷◌, Bool, true, false, ◌&&◌, if◌then◌else◌, nat_le, Option, Some, None, slice_get, refl, sym, ap, ap₂, ◌∙◌, subst, inl, inr, ⊎_elim}
+use Rattle.std.proofs.Common.{◌≡◌, ◌⊎◌, suc, true, if◌then◌else◌, nat_le, Option, Some, None, slice_get, refl, sym, ap, ◌∙◌, inl, inr}
 use Rattle.dioc_terms.specs.declared.names.Role.{Role}
-use Rattle.dioc_terms.specs.declared.processes.Key.{Key}
-use Rattle.dioc_terms.specs.declared.processes.ScopeHead.{ScopeHead}
 use Rattle.dioc_terms.specs.declared.entries.Act.{Act}
 use Rattle.dioc_terms.specs.declared.entries.Act.TheVariants as act
 use Rattle.dioc_terms.specs.declared.entries.Entry.{Entry}
@@ -10,21 +8,28 @@ use Rattle.dioc_terms.specs.declared.entries.Entry.TheVariants as entry
 use Rattle.dioc_terms.specs.declared.bundles.Timed.{Timed}
 use Rattle.dioc_terms.specs.declared.bundles.Bundle.{Bundle}
 use Rattle.dioc_terms.specs.Equality.{entry_eq}
-use Rattle.dioc_terms.specs.Messages.{is_aux, doer, act_of}
+use Rattle.dioc_terms.specs.Messages.{doer, act_of}
 use Rattle.dioc_terms.specs.Moves.{Move, Stuck, Does}
-use Rattle.dioc_terms.specs.Processes.{Process, Load}
+use Rattle.dioc_terms.specs.Processes.{Process}
 use Rattle.dioc_terms.specs.Rules.{apply}
-use Rattle.dpoc_process.specs.Steps.{Deed, Given, Nil, Got, Answers, entry_of, store_after, step}
+use Rattle.dpoc_process.specs.Steps.{Deed, entry_of, store_after, step}
 use Rattle.global_steps.specs.Follow.{answer_of, change_entry, updates_after, updated}
 use Rattle.marked_laws.specs.Network.{Network, Outcome, decision, given_at, pending_at, pending_after, visible_after, act_step, change_step, network_after, network_step}
+use Rattle.marked_laws.proofs.Shapes.{none_some, some_same, if_some}
 use Rattle.marked_laws.proofs.Equality.{entry_same}
 use Rattle.marked_laws.proofs.MarkSteps.{given_by}
 
 -- the network after a role's deed
 abbrev pub after_deed : Network → Role → Deed → Process → Network
 after_deed N r d P = record {
-  processes = updated r P N.processes; stores = updated r (store_after d (N.stores r)) N.stores; pending = pending_after d N.pending;
-  book = N.book; updates = updates_after (entry_of d) N.updates; changes = N.changes; visible = visible_after (entry_of d) N.visible }
+  processes = updated r P N.processes;
+  stores = updated r (store_after d (N.stores r)) N.stores;
+  pending = pending_after d N.pending;
+  book = N.book;
+  updates = updates_after (entry_of d) N.updates;
+  changes = N.changes;
+  visible = visible_after (entry_of d) N.visible;
+}
 
 abbrev pub deed_outcome : Network → Role → Move Deed Process → Option Outcome
 deed_outcome N r Stuck = None
@@ -41,8 +46,15 @@ given_same b N r _ = refl
 
 -- the network after a change of the script
 abbrev pub after_change : Bundle → Network → Timed → Network
-after_change b N timed = record { processes = N.processes; stores = N.stores; pending = N.pending;
-  book = apply b.rules N.book timed.change; updates = N.updates; changes = suc N.changes; visible = suc N.visible }
+after_change b N timed = record {
+  processes = N.processes;
+  stores = N.stores;
+  pending = N.pending;
+  book = apply b.rules N.book timed.change;
+  updates = N.updates;
+  changes = suc N.changes;
+  visible = suc N.visible;
+}
 
 abbrev pub entry_outcome : Bundle → Network → Timed → Option Entry → Option Outcome
 entry_outcome b N timed None = None
@@ -76,16 +88,6 @@ pub record ChangeStep (b : Bundle) (N : Network) (e : Entry) (N' : Network) : Ty
   pub due : nat_le timed.after N.visible ≡ true
   pub gives : N' ≡ after_change b N timed
 
-pub none_some : {A : Type 0} {a : A} → None ≡ Some a → ⊥
-none_some e = cc
-
-pub some_same : {A : Type 0} {a b : A} → Some a ≡ Some b → a ≡ b
-some_same e = cc
-
-if_some : {A : Type 0} (t : Bool) (a : A) {c : A} → (if t then Some a else None) ≡ Some c → (t ≡ true) × (c ≡ a)
-if_some true a h = (refl, sym (some_same h))
-if_some false a h = absurd (none_some h)
-
 after_some : (e : Entry) (o : Option Outcome) (N' : Network) → network_after e o ≡ Some N' → (out : Outcome) × (o ≡ Some out) × (e ≡ out.entry) × (N' ≡ out.network)
 after_some e None N' h = absurd (none_some h)
 after_some e (Some out) N' h =
@@ -102,8 +104,17 @@ role_case : (b : Bundle) (N : Network) (e : Entry) (N' : Network) (r : Role) (a 
 role_case b N e N' r a does acts h =
     let after = after_some e (act_step b N r a) N' h in
     let outcome = outcome_deed N r (step r (N.stores r) (N.processes r) a (given_at b N r a)) after.0 after.1 in
-    record { role = r; act = a; deed = outcome.0; next = outcome.1; does = does; acts = acts; steps = outcome.2;
-      shows = after.2 ∙ outcome.3; gives = after.3 ∙ outcome.4 }
+    record {
+      role = r;
+      act = a;
+      deed = outcome.0;
+      next = outcome.1;
+      does = does;
+      acts = acts;
+      steps = outcome.2;
+      shows = after.2 ∙ outcome.3;
+      gives = after.3 ∙ outcome.4;
+    }
 
 outcome_entry : (b : Bundle) (N : Network) (timed : Timed) (o : Option Entry) (out : Outcome) → entry_outcome b N timed o ≡ Some out
     → (o ≡ Some out.entry) × (nat_le timed.after N.visible ≡ true) × (out.network ≡ after_change b N timed)

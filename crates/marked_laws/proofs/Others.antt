@@ -1,14 +1,10 @@
 -- A step of a mark leaves the processes of the other roles as they are.
-use Rattle.std.proofs.Common.{◌≡◌, ◌⊎◌, ℕ, suc, List, [], ◌∷◌, Bool, true, false, ◌&&◌, ◌||◌, not, if◌then◌else◌, cond, Option, Some, None, refl, sym, ap, ap₂, ◌∙◌, subst, inl, inr, ⊎_elim}
-use Rattle.std.proofs.lemmas.Bool.{cases_Bool, cond-true, cond-false, both_ways}
+use Rattle.std.proofs.Common.{◌≡◌, ◌⊎◌, ℕ, suc, List, Bool, true, false, if◌then◌else◌, cond, refl, sym, ap, ap₂, ◌∙◌, subst, inl, inr, ⊎_elim}
+use Rattle.std.proofs.lemmas.Bool.{cases_Bool, cond-true, cond-false}
 use Rattle.dioc_terms.specs.declared.names.Role.{Role}
-use Rattle.dioc_terms.specs.declared.names.Index.{Index}
-use Rattle.dioc_terms.specs.declared.values.Value.{Value}
-use Rattle.dioc_terms.specs.declared.processes.Key.{Key}
 use Rattle.dioc_terms.specs.declared.processes.Tag.TheVariants.{Choice, Go, Begin, Out, Turn, End}
 use Rattle.dioc_terms.specs.declared.processes.ScopeHead.{ScopeHead}
-use Rattle.dioc_terms.specs.Equality.{role_eq, member}
-use Rattle.dioc_terms.specs.Expressions.{Expression}
+use Rattle.dioc_terms.specs.Equality.{role_eq}
 use Rattle.dioc_terms.specs.Processes as process
 use Rattle.dioc_terms.specs.Processes.{Process, Load, Flag, Part, Keep}
 use Rattle.dioc_terms.specs.Stores.{Store}
@@ -16,14 +12,14 @@ use Rattle.dioc_terms.specs.Terms as term
 use Rattle.dioc_terms.specs.Terms.{Term, is_in, others, stamped}
 use Rattle.dioc_terms.specs.Values.{eval, is_true}
 use Rattle.projection.specs.Projection.{projected}
-use Rattle.dpoc_process.specs.Steps.{Deed, key, tell, gather, ended}
+use Rattle.dpoc_process.specs.Steps.{Deed, tell, gather}
 use Rattle.global_steps.specs.Follow.{Answer, updated}
-use Rattle.marked_laws.proofs.Constructs.{Phase, Phases, Kind, Branch, Turning, Stopping, Scoped, Releasing, Waits, Told, Inside, Sent, Gone, waits, gone, all_wait, leader, whole, Backs, turn_backs, end_backs, leads, before, inside, outside, follows, untold, ungone}
-use Rattle.marked_laws.proofs.Ends.{place_leader, place_follower}
+use Rattle.marked_laws.proofs.Constructs.{Phase, Phases, Kind, Branch, Turning, Stopping, Scoped, Releasing, Waits, Told, Inside, Sent, Gone, waits, gone, all_wait, leader, whole, leads, before, outside, follows, untold, ungone}
+use Rattle.marked_laws.proofs.Ends.{place_follower}
 use Rattle.marked_laws.proofs.Gates.{outsider_waits, untold_head, untold_same, ungone_same, ungone_none}
-use Rattle.marked_laws.proofs.Mark.{Mark, Still, Flying, Over, First, Second, Both, Held, Spent, run, place, Fine, Closed, first_fine, both_fine}
+use Rattle.marked_laws.proofs.Mark.{Mark, Still, Held, Spent, run, place, Fine, Closed, first_fine, both_fine}
 use Rattle.marked_laws.proofs.MarkSteps.{Steps, sends, lands, sets, reads, seq_opens, par_opens, seq_first, seq_begins, seq_lags, seq_goes, par_left, par_right, picks, turns, stops, again, leaves, tells, hears, works, arrives, gathers, keeps, replaces, frees, doer_of}
-use Rattle.marked_laws.proofs.Roles.{role_cases, role_swap, updated_here, updated_there}
+use Rattle.marked_laws.proofs.Roles.{role_cases, updated_here, updated_there}
 
 -- the phase by what is known of it
 pub waits_phase : (p : Phase) → waits p ≡ true → p ≡ Waits
@@ -44,7 +40,7 @@ module _ (cast : List Role) where
   leads_same (Stopping i r g I) phases phases' P h h' = ap (λ qs. tell r qs i Go (λ q. Flag false)) h
   leads_same (Scoped i r I extra props level begin B) phases phases' P h h' =
       ap₂ (λ qs rs. process.Seq (tell r qs i Begin begin) (process.Seq P (process.Seq (gather r rs i End)
-          (tell r (others cast r (term.Scope i r I extra props level)) i Out (λ q. process.Done))))) h h'
+      (tell r (others cast r (term.Scope i r I extra props level)) i Out (λ q. process.Done))))) h h'
   leads_same (Releasing i r I extra props level) phases phases' P h h' = ap (λ qs. tell r qs i Out (λ q. process.Done)) h
 
   -- a phase of another role that the leader doesn't see either
@@ -52,8 +48,8 @@ module _ (cast : List Role) where
       → role_eq q t ≡ false → place cast (Held k (updated t p phases) M) q ≡ place cast (Held k phases M) q
   phase_other k phases M t p q h h' differs =
       ap₂ (λ P Q. if role_eq q (leader k) then P else Q)
-        (leads_same k phases (updated t p phases) (place cast M q) (untold_same cast k phases t p h) (ungone_same cast k phases t p h'))
-        (ap (λ x. follows cast k q x (place cast M q)) (updated_there t p phases q differs))
+      (leads_same k phases (updated t p phases) (place cast M q) (untold_same cast k phases t p h) (ungone_same cast k phases t p h'))
+      (ap (λ x. follows cast k q x (place cast M q)) (updated_there t p phases q differs))
 
   -- a phase that makes no difference to the role itself
   pub phase_alike : (k : Kind) (phases : Phases) (M : Mark) (t : Role) (p : Phase) (q : Role) → role_eq q (leader k) ≡ false
@@ -62,10 +58,10 @@ module _ (cast : List Role) where
   phase_alike k phases M t p q other h =
       place_follower cast k (updated t p phases) M q other
       ∙ ⊎_elim
-        (λ is. subst (λ y. follows cast k y (updated t p phases y) (place cast M y) ≡ follows cast k y (phases y) (place cast M y)) (sym is)
-          (ap (λ x. follows cast k t x (place cast M t)) (updated_here t p phases) ∙ h))
-        (λ differs. ap (λ x. follows cast k q x (place cast M q)) (updated_there t p phases q differs))
-        (role_cases q t)
+      (λ is. subst (λ y. follows cast k y (updated t p phases y) (place cast M y) ≡ follows cast k y (phases y) (place cast M y)) (sym is)
+      (ap (λ x. follows cast k t x (place cast M t)) (updated_here t p phases) ∙ h))
+      (λ differs. ap (λ x. follows cast k q x (place cast M q)) (updated_there t p phases q differs))
+      (role_cases q t)
       ∙ sym (place_follower cast k phases M q other)
 
   -- at a turn or a scope that is over, a role of it is outside, and another one waits
@@ -83,7 +79,7 @@ module _ (cast : List Role) where
   closed_follows k phases M fine closed q other P in_case out_case =
       place_follower cast k phases M q other
       ∙ ⊎_elim (λ h. ap (λ x. follows cast k q x (place cast M q)) h.0 ∙ in_case h.1) (λ h. ap (λ x. follows cast k q x (place cast M q)) h.0 ∙ out_case h.1)
-        (closed_phase k phases M fine closed q other)
+      (closed_phase k phases M fine closed q other)
 
   module _ (stores : Role → Store) (answers : ScopeHead → Answer) (updates : ℕ) where
     pub place_other : {M N : Mark} {d : Deed} → Steps cast stores answers updates M d N → Fine cast M → (q : Role) → role_eq q (doer_of d) ≡ false
@@ -93,9 +89,9 @@ module _ (cast : List Role) where
     place_other (lands {i = i} {o = o} {a = a} {e = e} {b = b} {x = x}) fine q other =
         sym (ap (λ P. cond (role_eq q a) process.Skip P) (cond-false (role_eq q b) (process.Recv i o a x) process.Skip other) ∙ same_both (role_eq q a))
       where
-      same_both : (t : Bool) → cond t process.Skip process.Skip ≡ process.Skip
-      same_both true = refl
-      same_both false = refl
+        same_both : (t : Bool) → cond t process.Skip process.Skip ≡ process.Skip
+        same_both true = refl
+        same_both false = refl
     place_other (sets {i = i} {x = x} {r = r} {e = e}) fine q other = sym (cond-false (role_eq q r) (process.Assign i x e) process.Skip other)
     place_other (reads {i = i} {x = x} {r = r}) fine q other = sym (cond-false (role_eq q r) (process.Read i x) process.Skip other)
     place_other (seq_opens {I = I} {J = J} s) fine q other = place_other s (first_fine cast I J fine) q other
@@ -118,7 +114,7 @@ module _ (cast : List Role) where
         ∙ sym (closed_follows (Turning i r g I) phases M fine closed q other (projected cast (term.While i r g I) q) (λ h. refl) (λ h. refl))
     place_other (tells {k = k} {phases = phases} {M = M} {q = t} {qs = ts} e) fine q other =
         phase_alike k phases M t Told q other
-          (sym (ap (λ x. follows cast k t x (place cast M t)) (waits_phase (phases t) (untold_head cast k phases t ts e).0)))
+        (sym (ap (λ x. follows cast k t x (place cast M t)) (waits_phase (phases t) (untold_head cast k phases t ts e).0)))
     place_other (hears {k = k} {phases = phases} {M = M} {q = t} e) fine q other =
         phase_other k phases M t Inside q (sym (ap waits e)) (sym (ap gone e)) other
     place_other (works {k = k} {phases = phases} {M = M} b s) fine q other =
@@ -131,11 +127,11 @@ module _ (cast : List Role) where
         place_follower cast (Scoped i r I extra props level (λ q. Keep) I) all_wait (Still I) q other
     place_other (replaces {i = i} {r = r} {I = I} {extra = extra} {props = props} {level = level} {B = B} e) fine q other =
         place_follower cast (Scoped i r I extra props level (λ q. Part (suc updates) (projected cast (stamped B (suc updates) (suc level)) q))
-          (stamped B (suc updates) (suc level))) all_wait (Still (stamped B (suc updates) (suc level))) q other
+        (stamped B (suc updates) (suc level))) all_wait (Still (stamped B (suc updates) (suc level))) q other
     place_other (frees {i = i} {r = r} {I = I} {extra = extra} {props = props} {level = level} {begin = begin} {B = B} {phases = phases} {M = M} {q = t} closed f) fine q other =
         phase_alike (Releasing i r I extra props level) all_wait (Spent (run M)) t Told q other refl
         ∙ place_follower cast (Releasing i r I extra props level) all_wait (Spent (run M)) q other
         ∙ sym (closed_follows (Scoped i r I extra props level begin B) phases M fine closed q other (before cast (Releasing i r I extra props level) q)
-          (λ in_it. sym (cond-true (is_in q (term.Scope i r I extra props level)) _ process.Skip in_it))
-          (λ out. cond-false (role_eq q r) _ _ other ∙ cond-false (is_in q (term.Scope i r I extra props level)) _ process.Skip out
-            ∙ sym (cond-false (is_in q (term.Scope i r I extra props level)) _ process.Skip out)))
+        (λ in_it. sym (cond-true (is_in q (term.Scope i r I extra props level)) _ process.Skip in_it))
+        (λ out. cond-false (role_eq q r) _ _ other ∙ cond-false (is_in q (term.Scope i r I extra props level)) _ process.Skip out
+        ∙ sym (cond-false (is_in q (term.Scope i r I extra props level)) _ process.Skip out)))

@@ -1,12 +1,9 @@
 -- A visible step of a mark is played by its running term, and an auxiliary one changes neither the running term nor a store.
-use Rattle.std.proofs.Common.{◌≡◌, ◌⊎◌, ℕ, suc, List, [], ◌∷◌, Bool, true, false, ◌&&◌, ◌||◌, not, if◌then◌else◌, Option, Some, None, refl, sym, ap, ap₂, ◌∙◌, subst, inl, inr, ⊎_elim}
-use Rattle.std.proofs.lemmas.Bool.{and_parts, and_from, cases_Bool, both_ways, false_from_ne_true, not_from_false}
+use Rattle.std.proofs.Common.{◌≡◌, ℕ, suc, List, Bool, true, false, ◌&&◌, not, if◌then◌else◌, Some, refl, sym, ap, ap₂, ◌∙◌, subst, inl, inr}
+use Rattle.std.proofs.lemmas.Bool.{and_parts, and_from, both_ways, false_from_ne_true, not_from_false}
 use Rattle.dioc_terms.specs.declared.names.Role.{Role}
 use Rattle.dioc_terms.specs.declared.names.Index.{Index}
-use Rattle.dioc_terms.specs.declared.values.Value.{Value}
-use Rattle.dioc_terms.specs.declared.processes.Key.{Key}
 use Rattle.dioc_terms.specs.declared.processes.Tag.{Tag}
-use Rattle.dioc_terms.specs.declared.processes.Tag.TheVariants.{Op}
 use Rattle.dioc_terms.specs.declared.processes.ScopeHead.{ScopeHead}
 use Rattle.dioc_terms.specs.declared.entries.Note.TheVariants as note
 use Rattle.dioc_terms.specs.declared.entries.Chosen.TheVariants as chosen
@@ -15,23 +12,23 @@ use Rattle.dioc_terms.specs.declared.entries.Entry.TheVariants as entry
 use Rattle.dioc_terms.specs.Equality.{entry_eq}
 use Rattle.dioc_terms.specs.Expressions.{Expression}
 use Rattle.dioc_terms.specs.Messages.{is_aux, is_aux_tag, doer}
-use Rattle.dioc_terms.specs.Moves.{Move, Stuck, Does, under, orelse, when}
-use Rattle.dioc_terms.specs.Processes.{Load, Val, Done}
+use Rattle.dioc_terms.specs.Moves.{Stuck, Does, under, orelse, when}
+use Rattle.dioc_terms.specs.Processes.{Val}
 use Rattle.dioc_terms.specs.Stores.{Store, next_input}
 use Rattle.dioc_terms.specs.Terms as term
 use Rattle.dioc_terms.specs.Terms.{Term, is_in, head_of, stamped, mark_at}
 use Rattle.dioc_terms.specs.Values.{eval, is_true}
-use Rattle.dpoc_process.specs.Steps.{Deed, Puts, Takes, Sets, Inputs, Picks, Chooses, key, ended, entry_of, store_after}
+use Rattle.dpoc_process.specs.Steps.{Deed, Puts, Takes, Sets, Inputs, Picks, Chooses, entry_of, store_after}
 use Rattle.global_steps.specs.Running as running
 use Rattle.global_steps.specs.Running.{Running, started, light, is_due}
 use Rattle.global_steps.specs.Follow.{Answer, Kept, Replaced, Effect, Leaves, Assigns, Reads, affected, operation, is_doer_due, while_plays, scope_plays, plays}
-use Rattle.marked_laws.proofs.Constructs.{Kind, Branch, Turning, Stopping, Scoped, Releasing, Phases, whole, body, runs, tag, whole_not_skip, Backs, turn_backs, end_backs}
+use Rattle.marked_laws.proofs.Constructs.{Kind, Branch, Turning, Stopping, Scoped, Releasing, body, runs, tag, whole_not_skip, Backs, turn_backs, end_backs}
 use Rattle.marked_laws.proofs.Ends.{all_over}
 use Rattle.marked_laws.proofs.Equality.{entry_same, entry_itself}
 use Rattle.marked_laws.proofs.Gates.{closed_ended}
 use Rattle.marked_laws.proofs.Groups.{ended_due, begins_light}
 use Rattle.marked_laws.proofs.Keeps.{deed_index, deed_at}
-use Rattle.marked_laws.proofs.Mark.{Mark, Still, Flying, Over, First, Second, Both, Held, Spent, origin, run, At, place, Fine, Closed, first_fine, both_fine}
+use Rattle.marked_laws.proofs.Mark.{Mark, Still, Flying, Over, First, Second, Both, Held, Spent, origin, run, At, Fine, first_fine, both_fine}
 use Rattle.marked_laws.proofs.MarkSteps.{Steps, sends, lands, sets, reads, seq_opens, par_opens, seq_first, seq_begins, seq_lags, seq_goes, par_left, par_right, picks, turns, stops, again, leaves, tells, hears, works, arrives, gathers, keeps, replaces, frees, doer_of}
 use Rattle.marked_laws.proofs.Moves.{when_true, when_false}
 use Rattle.marked_laws.proofs.Proper.{Within}
@@ -82,6 +79,18 @@ effect_store (Takes k (Some x) (Val v)) s = refl
 effect_store (Sets i r x v) s = refl
 effect_store (Inputs i r x v) s = refl
 effect_store _ s = refl
+
+-- the messages of a construct are auxiliary
+pub tag_aux : (k : Kind) → is_aux_tag (tag k) ≡ true
+tag_aux (Branch i r g I J b) = refl
+tag_aux (Turning i r g I) = refl
+tag_aux (Stopping i r g I) = refl
+tag_aux (Scoped i r I extra props level begin B) = refl
+tag_aux (Releasing i r I extra props level) = refl
+
+pub backs_aux : {k : Kind} {t : Tag} → Backs k t → is_aux_tag t ≡ true
+backs_aux turn_backs = refl
+backs_aux end_backs = refl
 
 -- an entry of another index is another one
 not_here : (e e' : Entry) → (entry_index e ≡ entry_index e' → ⊥) → entry_eq e e' ≡ false
@@ -158,17 +167,6 @@ module _ (cast : List Role) (stores : Role → Store) (answers : ScopeHead → A
       ap (under (running.Bar (λ q. is_in q (term.Scope i r I extra props level)))) (mark_away M e fine.0 (λ k. h (inr k)))
   mark_away (Spent G) e fine h = ended_plays G e fine
 
-  tag_aux : (k : Kind) → is_aux_tag (tag k) ≡ true
-  tag_aux (Branch i r g I J b) = refl
-  tag_aux (Turning i r g I) = refl
-  tag_aux (Stopping i r g I) = refl
-  tag_aux (Scoped i r I extra props level begin B) = refl
-  tag_aux (Releasing i r I extra props level) = refl
-
-  backs_aux : {k : Kind} {t : Tag} → Backs k t → is_aux_tag t ≡ true
-  backs_aux turn_backs = refl
-  backs_aux end_backs = refl
-
   -- the first part plays an entry
   first_plays : (G G' H : Running) (e : Entry) (effect : Effect) → plays cast stores answers updates G e ≡ Does effect G'
       → plays cast stores answers updates (running.Seq G H) e ≡ Does effect (running.Seq G' H)
@@ -218,19 +216,19 @@ module _ (cast : List Role) (stores : Role → Store) (answers : ScopeHead → A
   run_step (seq_first {M = M} {N = N} {J = J} {d = d} s) fine h = first_plays (run M) (run N) (started J) (entry_of d) (effect_of d) (run_step s fine.0 h)
   run_step (seq_begins {M = M} {N = N} {J = J} {d = d} e s) fine h =
       second_plays (run M) (started J) (run N) d (effect_of d)
-        (mark_away M (entry_of d) fine.0 (λ at. fine.2 (entry_index (entry_of d)) at (subst (λ n. Within n J) (sym (entry_deed_index d)) (deed_at cast stores answers updates s))))
-        (begins_light cast stores answers updates M fine e s) (ended_due cast M (doer_of d) fine.0 e) (run_step s fine.1 h)
+      (mark_away M (entry_of d) fine.0 (λ at. fine.2 (entry_index (entry_of d)) at (subst (λ n. Within n J) (sym (entry_deed_index d)) (deed_at cast stores answers updates s))))
+      (begins_light cast stores answers updates M fine e s) (ended_due cast M (doer_of d) fine.0 e) (run_step s fine.1 h)
   run_step (seq_lags {M = M} {N = N} {K = K} {d = d} s) fine h = first_plays (run M) (run N) (run K) (entry_of d) (effect_of d) (run_step s fine.0 h)
   run_step (seq_goes {M = M} {N = N} {K = K} {d = d} e s) fine h =
       second_plays (run M) (run N) (run K) d (effect_of d)
-        (mark_away M (entry_of d) fine.0 (λ at. fine.2 (entry_index (entry_of d)) at (subst (λ n. At n N) (sym (entry_deed_index d)) (deed_at cast stores answers updates s))))
-        fine.3 (ended_due cast M (doer_of d) fine.0 e) (run_step s fine.1 h)
+      (mark_away M (entry_of d) fine.0 (λ at. fine.2 (entry_index (entry_of d)) at (subst (λ n. At n N) (sym (entry_deed_index d)) (deed_at cast stores answers updates s))))
+      fine.3 (ended_due cast M (doer_of d) fine.0 e) (run_step s fine.1 h)
   run_step (par_left {M = M} {N = N} {K = K} {d = d} s) fine h =
       ap (λ m. orelse (under (λ G. running.Par G (run K)) m) (under (running.Par (run M)) (plays cast stores answers updates (run K) (entry_of d)))) (run_step s fine.0 h)
   run_step (par_right {M = M} {N = N} {K = K} {d = d} s) fine h =
       ap₂ (λ m n. orelse (under (λ G. running.Par G (run N)) m) (under (running.Par (run M)) n))
-        (mark_away M (entry_of d) fine.0 (λ at. fine.2 (entry_index (entry_of d)) at (subst (λ n. At n N) (sym (entry_deed_index d)) (deed_at cast stores answers updates s))))
-        (run_step s fine.1 h)
+      (mark_away M (entry_of d) fine.0 (λ at. fine.2 (entry_index (entry_of d)) at (subst (λ n. At n N) (sym (entry_deed_index d)) (deed_at cast stores answers updates s))))
+      (run_step s fine.1 h)
   run_step (picks {i = i} {r = r} {g = g}) fine h = when_true _ _ (entry_itself (entry.Pick i r (is_true (eval g (stores r)))))
   run_step (turns {i = i} {r = r} {g = g} {I = I} e) fine h = while_picks i r g I true e
   run_step (stops {i = i} {r = r} {g = g} {I = I} e) fine h = while_picks i r g I false e
@@ -241,7 +239,7 @@ module _ (cast : List Role) (stores : Role → Store) (answers : ScopeHead → A
   run_step (tells {k = k} e) fine h = absurd (both_ways _ h (tag_aux k))
   run_step (hears {k = k} e) fine h = absurd (both_ways _ h (tag_aux k))
   run_step (works {k = k} {M = M} {N = N} {d = d} b s) fine h = runs_plays k (run M) (run N) (entry_of d) (effect_of d)
-        (λ is. skip_at M (fine.1.is_body ∙ is) (deed_index d) (deed_at cast stores answers updates s)) (run_step s fine.0 h)
+      (λ is. skip_at M (fine.1.is_body ∙ is) (deed_index d) (deed_at cast stores answers updates s)) (run_step s fine.0 h)
   run_step (arrives b e f) fine h = absurd (both_ways _ h (backs_aux b))
   run_step (gathers b e f) fine h = absurd (both_ways _ h (backs_aux b))
   run_step (keeps {i = i} {r = r} {I = I} {extra = extra} {props = props} {level = level} e) fine h =

@@ -1,39 +1,17 @@
 -- What the proofs ask of a choreography, and of the body of each rule: as facts by recursion over the term.
-use Rattle.std.proofs.Common.{◌≡◌, ◌⊎◌, ℕ, List, Bool, true, false, ◌&&◌, ◌||◌, if◌then◌else◌, refl}
+use Rattle.std.proofs.Common.{◌≡◌, ◌⊎◌, ℕ, List, Bool, true, false, ◌||◌, if◌then◌else◌, refl}
 use Rattle.std.proofs.lemmas.Bool.{or_left, or_right, both_ways}
 use Rattle.dioc_terms.specs.declared.names.Role.{Role}
 use Rattle.dioc_terms.specs.declared.names.Index.{Index}
 use Rattle.dioc_terms.specs.declared.values.Value.{Value}
 use Rattle.dioc_terms.specs.Expressions.{Expression}
 use Rattle.dioc_terms.specs.Equality.{role_eq, member}
-use Rattle.dioc_terms.specs.Terms.{Term, Skip, Com, Set, Input, Seq, Par, If, While, Scope, empty, is_in}
+use Rattle.dioc_terms.specs.Terms.{Term, Skip, Com, Set, Input, Seq, Par, If, While, Scope, is_in}
+use Rattle.connectedness.specs.ByCases.{begins, attends_ends}
 
--- whether the role begins the term
-abbrev pub is_start : Role → Term → Bool
-is_start q Skip = false
-is_start q (Com i o a e b x) = role_eq q a
-is_start q (Set i x r e) = role_eq q r
-is_start q (Input i x r) = role_eq q r
-is_start q (Seq I J) = if empty I then is_start q J else is_start q I
-is_start q (Par I J) = is_start q I || is_start q J
-is_start q (If i r g I J) = role_eq q r
-is_start q (While i r g I) = role_eq q r
-is_start q (Scope i r I extra props level) = role_eq q r
-
--- whether the role is in each group that ends the term
-abbrev pub in_groups : Role → Term → Bool
-in_groups q Skip = true
-in_groups q (Com i o a e b x) = role_eq q a || role_eq q b
-in_groups q (Set i x r e) = role_eq q r
-in_groups q (Input i x r) = role_eq q r
-in_groups q (Seq I J) = if empty J then in_groups q I else in_groups q J
-in_groups q (Par I J) = in_groups q I && in_groups q J
-in_groups q (If i r g I J) = (if empty I then is_in q (If i r g I J) else in_groups q I) && (if empty J then is_in q (If i r g I J) else in_groups q J)
-in_groups q (While i r g I) = is_in q (While i r g I)
-in_groups q (Scope i r I extra props level) = is_in q (Scope i r I extra props level)
-
+-- whoever begins the second is in each group that ends the first
 abbrev pub Linked : Term → Term → Type 0
-Linked I J = (q : Role) → is_start q J ≡ true → in_groups q I ≡ true
+Linked I J = (q : Role) → begins q J ≡ true → attends_ends q I ≡ true
 
 abbrev pub Connected : Term → Type 0
 Connected (Seq I J) = Linked I J × Connected I × Connected J
@@ -90,7 +68,8 @@ module _ (cast : List Role) where
   proper_seq I J h = (
     record { connected = h.connected.1; no_self = h.no_self.0; distinct = h.distinct.1; in_cast = λ q k. h.in_cast q (or_left (is_in q I) (is_in q J) k) },
     record { connected = h.connected.2; no_self = h.no_self.1; distinct = h.distinct.2; in_cast = λ q k. h.in_cast q (or_right (is_in q I) (is_in q J) k) },
-    h.distinct.0, h.connected.0,
+    h.distinct.0,
+    h.connected.0,
   )
 
   pub proper_par : (I J : Term) → Proper cast (Par I J) → Proper cast I × Proper cast J × Apart I J
@@ -104,8 +83,12 @@ module _ (cast : List Role) where
   pub proper_branch : (i : Index) (r : Role) (g : Expression) (I J : Term) (b : Bool) → Proper cast (If i r g I J)
       → Proper cast (if b then I else J) × (Within i (if b then I else J) → ⊥)
   proper_branch i r g I J true h = (
-    record { connected = h.connected.0; no_self = h.no_self.0; distinct = h.distinct.3;
-      in_cast = λ q k. h.in_cast q (or_left (role_eq q r || is_in q I) (is_in q J) (or_right (role_eq q r) (is_in q I) k)) },
+    record {
+      connected = h.connected.0;
+      no_self = h.no_self.0;
+      distinct = h.distinct.3;
+      in_cast = λ q k. h.in_cast q (or_left (role_eq q r || is_in q I) (is_in q J) (or_right (role_eq q r) (is_in q I) k));
+    },
     h.distinct.1,
   )
   proper_branch i r g I J false h = (
@@ -122,8 +105,12 @@ module _ (cast : List Role) where
   pub proper_scope : (i : Index) (r : Role) (I : Term) (extra : List Role) (props : List (List ℕ × Value)) (level : ℕ)
       → Proper cast (Scope i r I extra props level) → Proper cast I × (Within i I → ⊥)
   proper_scope i r I extra props level h = (
-    record { connected = h.connected; no_self = h.no_self; distinct = h.distinct.1;
-      in_cast = λ q k. h.in_cast q (or_left (role_eq q r || is_in q I) (member q extra) (or_right (role_eq q r) (is_in q I) k)) },
+    record {
+      connected = h.connected;
+      no_self = h.no_self;
+      distinct = h.distinct.1;
+      in_cast = λ q k. h.in_cast q (or_left (role_eq q r || is_in q I) (member q extra) (or_right (role_eq q r) (is_in q I) k));
+    },
     h.distinct.0,
   )
 

@@ -1,7 +1,6 @@
 -- In the play of what is visible of a run each entry is settled.
-use Rattle.std.proofs.Common.{◌≡◌, ◌⊎◌, List, [], ◌∷◌, Bool, true, false, not, filter, Option, Some, None, IfSome, refl, sym, ap, ◌∙◌, subst, inl, inr, ⊎_elim}
-use Rattle.std.proofs.lemmas.Bool.{cond-true, cond-false, not_from_true, not_from_false, both_ways}
-use Rattle.dioc_terms.specs.declared.names.Role.{Role}
+use Rattle.std.proofs.Common.{◌≡◌, List, [], ◌∷◌, true, false, not, Option, Some, None, IfSome, sym, ap, ◌∙◌, subst, ⊎_elim}
+use Rattle.std.proofs.lemmas.Bool.{cond-true, cond-false, not_from_true, not_from_false}
 use Rattle.dioc_terms.specs.declared.entries.Entry.{Entry}
 use Rattle.dioc_terms.specs.declared.entries.Entry.TheVariants as entry
 use Rattle.dioc_terms.specs.declared.bundles.Bundle.{Bundle}
@@ -13,7 +12,7 @@ use Rattle.global_steps.specs.Settled.{SettledAt, Settled, SettledFrom, nobody}
 use Rattle.marked_laws.specs.Network.{Network, network_step, run_from}
 use Rattle.marked_laws.proofs.Mark.{Mark, Order}
 use Rattle.marked_laws.proofs.MarkSteps.{SoundAnswers, doer_of}
-use Rattle.marked_laws.proofs.Networks.{none_some}
+use Rattle.marked_laws.proofs.Shapes.{none_some}
 use Rattle.marked_laws.proofs.Orders.{order_step}
 use Rattle.marked_laws.proofs.Settles.{settled_step}
 use Rattle.marked_laws.proofs.Simulate.{Marks, Moved, state_of, answers_in, moves, after_both}
@@ -50,8 +49,8 @@ module _ (b : Bundle) (unique : distinct_roles b.cast ≡ true) (sound : (N : Ne
       → Settled b (state_of N M) e
   moved_settled N M e N' marks order moved visible = ⊎_elim
       (λ step. subst (Settled b (state_of N M)) (sym step.1)
-        (deed_settled b (state_of N M) step.0
-          (settled_step b.cast N.stores (answers_in b N) N.updates step.2 marks.fine order (ap is_aux (sym step.1) ∙ visible))))
+      (deed_settled b (state_of N M) step.0
+      (settled_step b.cast N.stores (answers_in b N) N.updates step.2 marks.fine order (ap is_aux (sym step.1) ∙ visible))))
       (λ still. change_settled b (state_of N M) e still.0)
       moved.why
 
@@ -63,9 +62,10 @@ module _ (b : Bundle) (unique : distinct_roles b.cast ≡ true) (sound : (N : Ne
       let moved = moves b unique sound N M e parts.0 marks parts.1 in
       let rest = runs_settled es parts.0 N' moved.mark moved.marks (moved_order N M e parts.0 marks order moved) parts.2 in
       ⊎_elim
-        (λ aux. subst (SettledFrom b (state_of N M)) (sym (cond-false (not (is_aux e)) (e ∷ visible es) (visible es) (not_from_true (is_aux e) aux.0)))
-          (subst (λ S. SettledFrom b S (visible es)) aux.1 rest))
-        (λ shown. subst (SettledFrom b (state_of N M)) (sym (cond-true (not (is_aux e)) (e ∷ visible es) (visible es) (not_from_false (is_aux e) shown.0)))
-          (moved_settled N M e parts.0 marks order moved shown.0,
-          if_some (λ S. SettledFrom b S (visible es)) (follow b (state_of N M) e) (state_of parts.0 moved.mark) shown.1 rest))
-        moved.shown
+      (λ aux. subst (SettledFrom b (state_of N M)) (sym (cond-false (not (is_aux e)) (e ∷ visible es) (visible es) (not_from_true (is_aux e) aux.0)))
+      (subst (λ S. SettledFrom b S (visible es)) aux.1 rest))
+      (λ shown. subst (SettledFrom b (state_of N M)) (sym (cond-true (not (is_aux e)) (e ∷ visible es) (visible es) (not_from_false (is_aux e) shown.0))) (
+        moved_settled N M e parts.0 marks order moved shown.0,
+        if_some (λ S. SettledFrom b S (visible es)) (follow b (state_of N M) e) (state_of parts.0 moved.mark) shown.1 rest,
+      ))
+      moved.shown

@@ -1,29 +1,30 @@
 -- Each visible step of a mark is settled in its running term: nobody passes the end of a turn or of a scope before all its roles have
 -- arrived there.
-use Rattle.std.proofs.Common.{◌≡◌, ℕ, List, [], ◌∷◌, Bool, true, false, ◌||◌, not, refl, sym, ap, ◌∙◌, subst, ⊎_elim}
+use Rattle.std.proofs.Common.{◌≡◌, ℕ, List, [], Bool, true, false, ◌||◌, not, refl, sym, ap, ◌∙◌, subst, ⊎_elim}
 use Rattle.std.proofs.lemmas.Bool.{and_parts, or_from, or_left, or_right, both_ways}
 use Rattle.dioc_terms.specs.declared.names.Role.{Role}
 use Rattle.dioc_terms.specs.declared.names.Index.{Index}
 use Rattle.dioc_terms.specs.declared.values.Value.{Value}
-use Rattle.dioc_terms.specs.declared.processes.Tag.{Tag}
 use Rattle.dioc_terms.specs.declared.processes.Tag.TheVariants.{Out}
 use Rattle.dioc_terms.specs.declared.processes.ScopeHead.{ScopeHead}
 use Rattle.dioc_terms.specs.declared.entries.Entry.{Entry}
 use Rattle.dioc_terms.specs.declared.entries.Entry.TheVariants as entry
 use Rattle.dioc_terms.specs.Equality.{role_eq, member}
 use Rattle.dioc_terms.specs.Expressions.{Expression}
-use Rattle.dioc_terms.specs.Messages.{is_aux, is_aux_tag}
+use Rattle.dioc_terms.specs.Messages.{is_aux}
 use Rattle.dioc_terms.specs.Moves.{Move, Stuck, Does}
 use Rattle.dioc_terms.specs.Processes.{Load, Done}
 use Rattle.dioc_terms.specs.Stores.{Store}
 use Rattle.dioc_terms.specs.Terms as term
 use Rattle.dioc_terms.specs.Terms.{Term, is_in, others}
-use Rattle.dpoc_process.specs.Steps.{Deed, tell, ended, entry_of}
+use Rattle.dpoc_process.specs.Steps.{Deed, ended, entry_of}
 use Rattle.global_steps.specs.Running as running
 use Rattle.global_steps.specs.Running.{Running, started, is_due}
 use Rattle.global_steps.specs.Follow.{Answer, Effect, plays}
 use Rattle.global_steps.specs.Settled.{Due, due_after, nobody, Released, Played, SettledAt}
-use Rattle.marked_laws.proofs.Constructs.{Phases, Kind, Branch, Turning, Stopping, Scoped, Releasing, is_early, tag, runs, Backs, turn_backs, end_backs}
+use Rattle.marked_laws.proofs.Plays.{tag_aux, backs_aux}
+use Rattle.marked_laws.proofs.Tells.{tell_ended}
+use Rattle.marked_laws.proofs.Constructs.{Phases, Kind, Branch, Turning, Stopping, Scoped, Releasing, is_early, runs}
 use Rattle.marked_laws.proofs.Ends.{place_leader, held_inside, all_over}
 use Rattle.marked_laws.proofs.Equality.{role_itself}
 use Rattle.marked_laws.proofs.Gates.{closed_ended, is_follower}
@@ -35,21 +36,6 @@ use Rattle.marked_laws.proofs.Orders.{scoped_follower, closed_passed}
 use Rattle.marked_laws.proofs.Plays.{entry_deed_index, ended_plays, mark_away, run_step}
 use Rattle.marked_laws.proofs.Proper.{Proper}
 use Rattle.marked_laws.proofs.Roles.{role_cases}
-
-back_aux : {k : Kind} {t : Tag} → Backs k t → is_aux_tag t ≡ true
-back_aux turn_backs = refl
-back_aux end_backs = refl
-
-tag_aux : (k : Kind) → is_aux_tag (tag k) ≡ true
-tag_aux (Branch i r g I J b) = refl
-tag_aux (Turning i r g I) = refl
-tag_aux (Stopping i r g I) = refl
-tag_aux (Scoped i r I extra props level begin B) = refl
-tag_aux (Releasing i r I extra props level) = refl
-
-tell_ended : (r : Role) (qs : List Role) (i : Index) (t : Tag) (l : Role → Load) → ended (tell r qs i t l) ≡ true → qs ≡ []
-tell_ended r [] i t l h = refl
-tell_ended r (q ∷ qs) i t l h = cc
 
 -- what hasn't begun has no chosen scope in it
 unbarred : (due : Due) (I : Term) (s : Role) → Released due (started I) s
@@ -223,8 +209,8 @@ module _ (cast : List Role) where
     settled_from (works {k = k} {phases = phases} {M = M} {d = d} b s) fine order visible due clear =
         settled_inside k due (run M) (entry_of d) (doer_of d) (run_step cast stores answers updates s fine.0 visible)
         (settled_from s fine.0 order visible due (λ q h. clear q (or_right (has_passed q k (phases q)) _ h)))
-    settled_from (arrives b e f) fine order visible due clear = absurd (both_ways _ visible (back_aux b))
-    settled_from (gathers b e f) fine order visible due clear = absurd (both_ways _ visible (back_aux b))
+    settled_from (arrives b e f) fine order visible due clear = absurd (both_ways _ visible (backs_aux b))
+    settled_from (gathers b e f) fine order visible due clear = absurd (both_ways _ visible (backs_aux b))
     settled_from (keeps e) fine order visible due clear = tt
     settled_from (replaces e) fine order visible due clear = tt
     settled_from (frees closed f) fine order visible due clear = absurd (both_ways true visible refl)

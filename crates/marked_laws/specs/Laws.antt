@@ -65,9 +65,9 @@ distinct_keys (k ∷ ks) = not (key_among k ks) && distinct_keys ks
 abbrev pub taken_keys : List Act → List Key
 taken_keys acts = filter_map key_of acts
   where
-  key_of : Act → Option Key
-  key_of (act.Take k) = Some k
-  key_of _ = None
+    key_of : Act → Option Key
+    key_of (act.Take k) = Some k
+    key_of _ = None
 
 -- Unique keys: no two pending messages have one key, and no two ready receives of one role have one key.
 abbrev pub UniqueKeys : Type 0

@@ -51,15 +51,15 @@ decision cast updates head (Replaced name body) =
 abbrev pub given_at : Bundle → Network → Role → Act → Given
 given_at b N r (act.Take k) = message_of (pending_at k N.pending)
   where
-  message_of : Option Load → Given
-  message_of None = Nil
-  message_of (Some l) = Got l
+    message_of : Option Load → Given
+    message_of None = Nil
+    message_of (Some l) = Got l
 given_at b N r (act.Scope i) = Answers (λ head. decision b.cast N.updates head (answer_of b.rules N.book head (N.stores r)))
 given_at b N r _ = Nil
 
 -- a put goes last, a take removes the first message of its key
 abbrev pub pending_after : Deed → List (Key × Load) → List (Key × Load)
-pending_after (Puts k l) pending = pending ++ (k , l) ∷ []
+pending_after (Puts k l) pending = pending ++ (k, l) ∷ []
 pending_after (Takes k x l) pending = without k pending
 pending_after _ pending = pending
 
@@ -75,25 +75,45 @@ pub record Outcome : Type 0 where
 abbrev pub act_step : Bundle → Network → Role → Act → Option Outcome
 act_step b N r a = outcome (step r (N.stores r) (N.processes r) a (given_at b N r a))
   where
-  outcome : Move Deed Process → Option Outcome
-  outcome Stuck = None
-  outcome (Does deed P) = Some (record { entry = entry_of deed; network = record {
-    processes = updated r P N.processes; stores = updated r (store_after deed (N.stores r)) N.stores; pending = pending_after deed N.pending;
-    book = N.book; updates = updates_after (entry_of deed) N.updates; changes = N.changes; visible = visible_after (entry_of deed) N.visible } })
+    outcome : Move Deed Process → Option Outcome
+    outcome Stuck = None
+    outcome (Does deed P) = Some (record {
+      entry = entry_of deed;
+      network = record {
+        processes = updated r P N.processes;
+        stores = updated r (store_after deed (N.stores r)) N.stores;
+        pending = pending_after deed N.pending;
+        book = N.book;
+        updates = updates_after (entry_of deed) N.updates;
+        changes = N.changes;
+        visible = visible_after (entry_of deed) N.visible;
+      };
+    })
 
 -- the script's next change, which may stand once its stated number of visible entries is there
 abbrev pub change_step : Bundle → Network → Option Outcome
 change_step b N = by_script (slice_get b.script N.changes)
   where
-  changed : Timed → Option Entry → Option Outcome
-  changed timed None = None
-  changed timed (Some e) = if nat_le timed.after N.visible
-      then Some (record { entry = e; network = record { processes = N.processes; stores = N.stores; pending = N.pending;
-        book = apply b.rules N.book timed.change; updates = N.updates; changes = suc N.changes; visible = suc N.visible } })
-      else None
-  by_script : Option Timed → Option Outcome
-  by_script None = None
-  by_script (Some timed) = changed timed (change_entry b.rules timed.change)
+    changed : Timed → Option Entry → Option Outcome
+    changed timed None = None
+    changed timed (Some e) = if nat_le timed.after N.visible
+        then Some (record {
+          entry = e;
+          network = record {
+            processes = N.processes;
+            stores = N.stores;
+            pending = N.pending;
+            book = apply b.rules N.book timed.change;
+            updates = N.updates;
+            changes = suc N.changes;
+            visible = suc N.visible;
+          };
+        })
+        else None
+
+    by_script : Option Timed → Option Outcome
+    by_script None = None
+    by_script (Some timed) = changed timed (change_entry b.rules timed.change)
 
 -- the network after an entry, where the entry is exactly that of the outcome
 abbrev pub network_after : Entry → Option Outcome → Option Network
@@ -104,14 +124,21 @@ network_after e (Some outcome) = if entry_eq e outcome.entry then Some outcome.n
 abbrev pub network_step : Bundle → Network → Entry → Option Network
 network_step b N e = by_doer (doer e) (act_of e)
   where
-  by_doer : Option Role → Option Act → Option Network
-  by_doer (Some r) (Some a) = network_after e (act_step b N r a)
-  by_doer _ _ = network_after e (change_step b N)
+    by_doer : Option Role → Option Act → Option Network
+    by_doer (Some r) (Some a) = network_after e (act_step b N r a)
+    by_doer _ _ = network_after e (change_step b N)
 
 -- the network before its first step
 abbrev pub network_start : Bundle → Network
-network_start b = record { processes = projected b.cast (term b.choreo); stores = opening_store b; pending = [];
-  book = opening_book b.rules b.opening b.env; updates = 0; changes = 0; visible = 0 }
+network_start b = record {
+  processes = projected b.cast (term b.choreo);
+  stores = opening_store b;
+  pending = [];
+  book = opening_book b.rules b.opening b.env;
+  updates = 0;
+  changes = 0;
+  visible = 0;
+}
 
 -- the network after entries, where it can do each after those before it
 abbrev pub run_from : Bundle → Network → List Entry → Option Network
