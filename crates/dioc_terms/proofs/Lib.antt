@@ -1,2 +1,3 @@
+pub mod RoleLemmas
 pub mod TermLemmas
 pub mod ValueLemmas

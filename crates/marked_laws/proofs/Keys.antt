@@ -14,7 +14,7 @@ use Rattle.dioc_terms.specs.Expressions.{Expression}
 use Rattle.dioc_terms.specs.Processes as process
 use Rattle.dioc_terms.specs.Processes.{Process, Load, Done}
 use Rattle.dioc_terms.specs.Terms as term
-use Rattle.dioc_terms.specs.Terms.{Term, is_in, others, head_of}
+use Rattle.dioc_terms.specs.Terms.{Term, is_in, others, head_of, distinct_roles}
 use Rattle.projection.specs.Projection.{projected}
 use Rattle.dpoc_process.specs.Steps.{ended, key, tell, gather, send_one, offers}
 use Rattle.marked_laws.specs.Laws.{key_among, distinct_keys, taken_keys}
@@ -46,10 +46,10 @@ distinct-append (k ∷ ks) ls h h' apart =
 
 module _ (q : Role) where
   -- the process is ready to take the message of a key
-  abbrev pub Ready : Process → Key → Type 0
+  abbrev Ready : Process → Key → Type 0
   Ready P j = key_among j (taken_keys (offers q P)) ≡ true
 
-  abbrev pub Few : Process → Type 0
+  abbrev Few : Process → Type 0
   Few P = distinct_keys (taken_keys (offers q P)) ≡ true
 
   ready_seq : (P Q : Process) (j : Key) → Ready (process.Seq P Q) j → Ready P j ⊎ Ready Q j

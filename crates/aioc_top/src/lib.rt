@@ -1,0 +1,10 @@
+//! The program behind `main`: from the words of the command line and the bytes of a source to the trace in a sink.
+#![tactic(auto)]
+
+mod faults;
+mod status;
+mod words;
+
+pub use faults::{Fault, make_refusal_line, make_syntax_line};
+pub use status::Status;
+pub use words::{Command, read_command};
