@@ -4,6 +4,7 @@
 ghost use Rattle.connectedness.specs.Laws.{RolesAtEnds, StampedConnected};
 ghost use Rattle.dioc_terms.specs.TermLaws.{MentionsAreRoles, CastsAreRoles, StampedBodies};
 ghost use Rattle.marked_laws.specs.Laws.{Simulation, Settlement, UniqueKeys, Progress, NothingLeft};
+ghost use Rattle.marked_laws.specs.Offers.{DistinctOffers};
 
 /// What the crates below prove of terms, together.
 fn known()
@@ -39,6 +40,13 @@ pub fn settlement()
 /// A law: no two pending messages have one key, and no two ready receives of one role have one key. It does nothing.
 pub fn unique_keys()
     ensures { UniqueKeys }
+{
+    known();
+}
+
+/// A law: in every network of a run no act stands twice in what a role offers. It does nothing.
+pub fn distinct_offers()
+    ensures { DistinctOffers }
 {
     known();
 }
