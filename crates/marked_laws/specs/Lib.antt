@@ -1,3 +1,4 @@
 pub mod Laws
 pub mod Network
 pub mod Offers
+pub mod RunLaws

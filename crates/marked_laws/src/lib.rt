@@ -3,4 +3,7 @@
 
 mod laws;
 
-pub use laws::{distinct_offers, nothing_left, progress, settlement, simulation, unique_keys};
+pub use laws::{
+    distinct_offers, nothing_left, outsiders_are_ended, progress, runs_extend, settlement,
+    simulation, unique_keys,
+};
