@@ -1,12 +1,9 @@
--- Runs and plays of one history after another.
+-- Runs of one history after another.
 use Rattle.std.proofs.Common.{◌≡◌, List, [], ◌∷◌, ◌++◌, Option, Some, None, option_and_then, refl, sym, ◌∙◌}
 use Rattle.dioc_terms.specs.declared.entries.Entry.{Entry}
 use Rattle.dioc_terms.specs.declared.bundles.Bundle.{Bundle}
-use Rattle.global_steps.specs.Follow.{State, follow, play_from}
 use Rattle.marked_laws.specs.Network.{Network, network_step, run_from}
-use Rattle.marked_laws.specs.RunLaws.{Extensions, Outsiders}
-use Rattle.marked_laws.proofs.Gates.{outsider}
-use Rattle.marked_laws.proofs.Groups.{insider}
+use Rattle.marked_laws.specs.RunLaws.{Extensions}
 use Rattle.marked_laws.proofs.Shapes.{none_some}
 
 -- a step that may fail, after two others
@@ -33,22 +30,10 @@ run_more b N (e ∷ H) K =
     then_same (network_step b N e) (λ M. run_from b M (H ++ K)) (λ M. option_and_then (λ L. run_from b L K) (run_from b M H)) (λ M. run_more b M H K)
     ∙ then_then (network_step b N e) (λ M. run_from b M H) (λ L. run_from b L K)
 
-play_more : (b : Bundle) (S : State) (H K : List Entry) → play_from b S (H ++ K) ≡ option_and_then (λ T. play_from b T K) (play_from b S H)
-play_more b S [] K = refl
-play_more b S (e ∷ H) K =
-    then_same (follow b S e) (λ T. play_from b T (H ++ K)) (λ T. option_and_then (λ U. play_from b U K) (play_from b T H)) (λ T. play_more b T H K)
-    ∙ then_then (follow b S e) (λ T. play_from b T H) (λ U. play_from b U K)
-
 pub extensions : Extensions
 extensions = record {
   run = run_more;
-  play = play_more;
   run_one = λ b N H e. run_more b N H (e ∷ []) ∙ then_same (run_from b N H) (λ M. option_and_then (λ L. Some L) (network_step b M e)) (λ M. network_step b M e)
       (λ M. then_some (network_step b M e));
-  play_one = λ b S H e. play_more b S H (e ∷ []) ∙ then_same (play_from b S H) (λ T. option_and_then (λ U. Some U) (follow b T e)) (λ T. follow b T e)
-      (λ T. then_some (follow b T e));
   prefix = λ b N H K M h. then_had (run_from b N H) (λ L. run_from b L K) (sym (run_more b N H K) ∙ h);
 }
-
-pub outsiders : Outsiders
-outsiders = record { outside = outsider; inside = insider }

@@ -5,7 +5,7 @@ ghost use Rattle.connectedness.specs.Laws.{RolesAtEnds, StampedConnected};
 ghost use Rattle.dioc_terms.specs.TermLaws.{MentionsAreRoles, CastsAreRoles, StampedBodies};
 ghost use Rattle.marked_laws.specs.Laws.{Simulation, Settlement, UniqueKeys, Progress, NothingLeft};
 ghost use Rattle.marked_laws.specs.Offers.{DistinctOffers};
-ghost use Rattle.marked_laws.specs.RunLaws.{Extensions, Outsiders};
+ghost use Rattle.marked_laws.specs.RunLaws.{Extensions};
 
 /// What the crates below prove of terms, together.
 fn known()
@@ -66,13 +66,8 @@ pub fn nothing_left()
     known();
 }
 
-/// A law: a run of two histories, one after the other, is a run of the second after one of the first; so is a play; and a prefix of
-/// a run is a run. It does nothing.
+/// A law: a run of two histories, one after the other, is a run of the second after one of the first, and a prefix of a run is a run.
+/// It does nothing.
 pub fn runs_extend()
     ensures { Extensions }
-{}
-
-/// A law: the process of a role has ended from the start exactly where the choreography doesn't name the role. It does nothing.
-pub fn outsiders_are_ended()
-    ensures { Outsiders }
 {}

@@ -4,6 +4,5 @@
 mod laws;
 
 pub use laws::{
-    distinct_offers, nothing_left, outsiders_are_ended, progress, runs_extend, settlement,
-    simulation, unique_keys,
+    distinct_offers, nothing_left, progress, runs_extend, settlement, simulation, unique_keys,
 };
