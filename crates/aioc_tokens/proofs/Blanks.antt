@@ -1,8 +1,8 @@
 -- Spaces and comments.
-use Rattle.std.proofs.Common.{◌≡◌, ℕ, ◌<◌, ◌≤◌, ◌==◌, not, true, false, List, [], ◌∷◌, length, get_or, take, drop, refl, ap, sym, ◌∙◌, subst, arith}
+use Rattle.std.proofs.Common.{◌≡◌, ℕ, ◌<◌, ◌≤◌, ◌==◌, not, true, false, List, [], ◌∷◌, length, get_or, refl, ap, sym, ◌∙◌, subst, arith}
 use Rattle.std.proofs.lemmas.List.Sums.{prefix_len-le-length}
 use Rattle.std.proofs.lemmas.Bool.{both_ways}
-use Rattle.aioc_tokens.specs.Tokens.{is_space, IsBlank, space, comment, BeginsComment, line_length}
+use Rattle.aioc_tokens.specs.Tokens.{is_space, IsBlank, space, comment, BeginsComment}
 
 pub space_blank : (text : List ℕ) → 0 < length text → is_space (get_or text 0 0) ≡ true → IsBlank text 1
 space_blank [] some is = absurd (omega arith)

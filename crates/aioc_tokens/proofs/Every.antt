@@ -1,16 +1,15 @@
 -- A text has tokens, or a byte of it is in none.
-use Rattle.std.proofs.Common.{◌≡◌, ◌⊎◌, ℕ, zero, suc, ◌+◌, ◌<◌, ◌≤◌, ◌==◌, Bool, true, false, List, [], ◌∷◌, length, get_or, take, drop, Option, Some, None, is_some, refl, ap, sym, ◌∙◌, subst, arith, inl, inr, ⊎_elim, length-drop, codes, bytes_eq}
+use Rattle.std.proofs.Common.{◌≡◌, ◌⊎◌, ℕ, zero, suc, ◌+◌, ◌<◌, ◌≤◌, ◌==◌, Bool, true, false, List, [], ◌∷◌, length, get_or, take, drop, Option, Some, None, is_some, refl, ap, arith, inl, inr, ⊎_elim, length-drop, codes, bytes_eq}
 use Rattle.std.specs.Char.{is_ascii_alphabetic, is_ascii_digit}
-use Rattle.std.specs.List.{prefix_len}
 use Rattle.std.proofs.lemmas.Bool.{both_ways}
-use Rattle.std.proofs.lemmas.Bool.Decides.{nat_tests, Decides-eqb, not_from_Decides}
+use Rattle.std.proofs.lemmas.Bool.Decides.{Decides-eqb, not_from_Decides}
 use Rattle.std.proofs.lemmas.Slice.Eq.{bytes_eq-Decides}
 use Rattle.std.proofs.str.Laws.{order}
 use Rattle.aioc_tokens.specs.declared.kinds.Kind.{Kind}
-use Rattle.aioc_tokens.specs.declared.kinds.Kind.TheVariants.{Name, Number, Text, Symbol}
+use Rattle.aioc_tokens.specs.declared.kinds.Kind.TheVariants.{Text, Symbol}
 use Rattle.aioc_tokens.specs.declared.kinds.Token.{Token}
 use Rattle.aioc_tokens.specs.Words.{mark_of}
-use Rattle.aioc_tokens.specs.Tokens.{is_space, is_name_byte, line_length, IsFront, IsBlank, comment, IsLongestToken, BeginsComment}
+use Rattle.aioc_tokens.specs.Tokens.{is_space, line_length, IsFront, IsBlank, comment, IsLongestToken, BeginsComment}
 use Rattle.aioc_tokens.specs.Lexing.{Lexes, ended, blank_first, token_first, Breaks, at_once, after_blank, after_token}
 use Rattle.aioc_tokens.proofs.Firsts.{kind_by, symbol_by, no_other}
 use Rattle.aioc_tokens.proofs.Blanks.{space_blank, no_blank, blank_size}
@@ -48,9 +47,11 @@ token_or_none text no_comment = by_letter (is_ascii_alphabetic (get_or text 0 0)
     by_quote : (quote : Bool) → (get_or text 0 0 == 34) ≡ quote → is_ascii_alphabetic (get_or text 0 0) ≡ false → is_ascii_digit (get_or text 0 0) ≡ false → TokenOrNone text
     by_quote true is no_letter no_digit = text_or_none text ((Decides-eqb (get_or text 0 0) 34).0 is) (text_end false (drop 1 text)) refl
     by_quote false is no_letter no_digit = symbol_or_none text (symbol_by (get_or text 0 0) no_letter no_digit (not_from_Decides (get_or text 0 0 == 34) (Decides-eqb (get_or text 0 0) 34) is)) no_comment
+
     by_digit : (digit : Bool) → is_ascii_digit (get_or text 0 0) ≡ digit → is_ascii_alphabetic (get_or text 0 0) ≡ false → TokenOrNone text
     by_digit true is no_letter = token (number_longest text is)
     by_digit false is no_letter = by_quote (get_or text 0 0 == 34) refl no_letter is
+
     by_letter : (letter : Bool) → is_ascii_alphabetic (get_or text 0 0) ≡ letter → TokenOrNone text
     by_letter true is = token (name_longest text is)
     by_letter false is = by_digit (is_ascii_digit (get_or text 0 0)) refl is
@@ -66,6 +67,7 @@ front_of text some = by_comment (bytes_eq (take 2 text) (codes "//")) refl
     by_space : (is : Bool) → is_space (get_or text 0 0) ≡ is → (¬ BeginsComment text) → FrontOf text
     by_space true is no_comment = blank (space_blank text some is)
     by_space false is no_comment = other (no_blank text is no_comment) (token_or_none text no_comment)
+
     by_comment : (begins : Bool) → bytes_eq (take 2 text) (codes "//") ≡ begins → FrontOf text
     by_comment true is = blank (comment {text = text} {count = line_length text} ((bytes_eq-Decides (take 2 text) (codes "//")).0 is) refl)
     by_comment false is = by_space (is_space (get_or text 0 0)) refl (not_from_Decides _ (bytes_eq-Decides (take 2 text) (codes "//")) is)

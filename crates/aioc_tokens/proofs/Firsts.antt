@@ -1,5 +1,5 @@
 -- The first byte of a token tells its kind, and is no space.
-use Rattle.std.proofs.Common.{◌≡◌, ℕ, zero, suc, ◌<◌, ◌≤◌, Bool, true, false, ◌||◌, ◌&&◌, List, [], ◌∷◌, length, get_or, take, drop, if◌then◌else◌, ◌==◌, refl, ap, sym, ◌∙◌, subst, arith, get_or-take}
+use Rattle.std.proofs.Common.{◌≡◌, ℕ, zero, suc, ◌<◌, Bool, true, false, ◌&&◌, List, [], ◌∷◌, length, get_or, take, if◌then◌else◌, ◌==◌, refl, sym, ◌∙◌, subst, arith, get_or-take}
 use Rattle.std.specs.Char.{is_ascii_alphabetic, is_ascii_digit}
 use Rattle.std.proofs.lemmas.Bool.{both_ways}
 use Rattle.std.proofs.lemmas.Bool.Decides.{nat_tests}
@@ -8,7 +8,7 @@ use Rattle.aioc_tokens.specs.declared.kinds.Kind.TheVariants.{Name, Number, Text
 use Rattle.aioc_tokens.specs.declared.words.Mark.{Mark}
 use Rattle.aioc_tokens.specs.declared.words.Mark.TheVariants.{LeftBrace, RightBrace}
 use Rattle.aioc_tokens.specs.Words.{mark_spelling}
-use Rattle.aioc_tokens.specs.Tokens.{is_space, quoted, Spells, IsFront, IsBlank, space, comment, IsLongestToken}
+use Rattle.aioc_tokens.specs.Tokens.{is_space, Spells, IsFront, IsBlank, space, comment, IsLongestToken}
 
 -- the kind of a token that begins with this byte
 abbrev pub kind_by : ℕ → Kind

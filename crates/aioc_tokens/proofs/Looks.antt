@@ -1,10 +1,9 @@
 -- What a look at a place of a text with its tokens shows.
-use Rattle.std.proofs.Common.{◌≡◌, ◌≢◌, ℕ, zero, suc, ◌+◌, ◌-◌, ◌*◌, ◌<◌, ◌≤◌, Bool, true, false, cond, List, [], ◌∷◌, ◌++◌, length, get_or, take, drop, map, Option, Some, None, refl, ap, sym, ◌∙◌, subst, arith, length-drop, drop-drop, add_assoc, min, All, ⊎_elim, ◌↔◌, IfOk, Result, Ok, Err, Vec, Global}
+use Rattle.std.proofs.Common.{◌≡◌, ◌≢◌, ℕ, ◌+◌, ◌-◌, ◌<◌, ◌≤◌, Bool, true, false, cond, List, [], ◌∷◌, length, get_or, drop, map, Option, Some, None, refl, ap, sym, ◌∙◌, subst, arith, length-drop, drop-drop, add_assoc, min, ⊎_elim, ◌↔◌, IfOk, Result, Ok, Err, Vec, Global}
 use Rattle.std.specs.Prelude.{nat_le}
 use Rattle.std.specs.Option.{option_map_or}
 use Rattle.std.proofs.str.Laws.{order}
 use Rattle.std.proofs.lemmas.List.{drop_more, drop-map, drop_all, length-map, get_or_default}
-use Rattle.std.proofs.lemmas.List.Elements.{All-get_or}
 use Rattle.std.proofs.lemmas.Bool.Decides.{nat_tests}
 use Rattle.aioc_tokens.specs.declared.kinds.Kind.{Kind}
 use Rattle.aioc_tokens.specs.declared.kinds.Kind.TheVariants as kinds
@@ -14,7 +13,7 @@ use Rattle.aioc_tokens.specs.declared.words.Mark.{Mark}
 use Rattle.aioc_tokens.specs.declared.words.Word.{Word}
 use Rattle.aioc_tokens.specs.declared.words.Sort.{Sort}
 use Rattle.aioc_tokens.specs.declared.words.Sort.TheVariants as sorts
-use Rattle.aioc_tokens.specs.Words.{word_of, mark_of, mark_spelling}
+use Rattle.aioc_tokens.specs.Words.{word_of, mark_of}
 use Rattle.aioc_tokens.specs.Tokens.{Spells}
 use Rattle.aioc_tokens.specs.Lexing.{Lexes, IsTokenOf, bytes_of}
 use Rattle.aioc_tokens.specs.Lexemes.{Lexeme, Name, Long, Number, Text, Reserved, Symbol, lexeme, lexemes, sort_of, value_of, Begins, HasSpelling}
@@ -252,8 +251,7 @@ pub begins_more : (wanted : List Sort) (all : List Lexeme) (at place : ℕ) (oth
     → Begins (drop place wanted) (drop (at + place) all) ↔ Begins wanted (drop at all) → Begins (drop (place + 1) wanted) (drop (at + (place + 1)) all) ↔ Begins wanted (drop at all)
 begins_more wanted all at place other inside same kept =
     let step = drop_more wanted place other inside in
-    let rest : drop 1 (drop (at + place) all) ≡ drop (at + (place + 1)) all = drop-drop 1 (at + place) all ∙ ap (λ count. drop count all) (add_assoc at place 1) in
-    (
+    let rest : drop 1 (drop (at + place) all) ≡ drop (at + (place + 1)) all = drop-drop 1 (at + place) all ∙ ap (λ count. drop count all) (add_assoc at place 1) in (
       λ others. kept.0 (subst (λ sorts. Begins sorts (drop (at + place) all)) (sym step) (same, subst (Begins (drop (place + 1) wanted)) (sym rest) others)),
       λ whole. subst (Begins (drop (place + 1) wanted)) rest (second (get_or wanted place other) (drop (place + 1) wanted) (subst (λ sorts. Begins sorts (drop (at + place) all)) step (kept.1 whole))),
     )

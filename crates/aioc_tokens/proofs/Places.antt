@@ -1,5 +1,5 @@
 -- What the sort at a place says of the list from there on: for readers, whose contracts speak of `drop at` of the list.
-use Rattle.std.proofs.Common.{◌≡◌, ℕ, ◌+◌, List, ◌∷◌, drop, refl, ap, sym, ◌∙◌, subst, drop-drop, add_assoc}
+use Rattle.std.proofs.Common.{◌≡◌, ℕ, ◌+◌, List, ◌∷◌, drop, ap, sym, ◌∙◌, subst, drop-drop, add_assoc}
 use Rattle.aioc_tokens.specs.declared.words.Word.{Word}
 use Rattle.aioc_tokens.specs.declared.words.Mark.{Mark}
 use Rattle.aioc_tokens.specs.declared.words.Sort.{Sort}

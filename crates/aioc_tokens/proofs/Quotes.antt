@@ -1,12 +1,11 @@
 -- Where a text in quotes ends.
-use Rattle.std.proofs.Common.{◌≡◌, ℕ, zero, suc, ◌+◌, ◌<◌, ◌≤◌, Bool, true, false, ◌&&◌, ◌==◌, cond, List, [], ◌∷◌, ◌++◌, length, get_or, take, drop, Option, Some, None, option_map, refl, ap, sym, ◌∙◌, subst, arith, flat_map, append_assoc, length-append, length-take-le, take-append-drop}
+use Rattle.std.proofs.Common.{◌≡◌, ℕ, suc, ◌+◌, ◌<◌, ◌≤◌, Bool, true, false, ◌&&◌, ◌==◌, cond, List, [], ◌∷◌, ◌++◌, length, get_or, take, drop, Option, Some, None, option_map, refl, ap, sym, ◌∙◌, subst, arith, flat_map, append_assoc, length-append, length-take-le, take-append-drop}
 use Rattle.std.specs.List.{list_all}
 use Rattle.std.proofs.lemmas.List.{at_drop_more, drop_all}
 use Rattle.std.proofs.lemmas.Bool.{and_from}
 use Rattle.std.proofs.lemmas.Bool.Decides.{nat_tests}
-use Rattle.aioc_tokens.specs.declared.kinds.Kind.{Kind}
 use Rattle.aioc_tokens.specs.declared.kinds.Kind.TheVariants.{Text}
-use Rattle.aioc_tokens.specs.Tokens.{needs_pair, is_printable, escaped, quoted, Spells, IsFront, IsLongestToken, BeginsComment}
+use Rattle.aioc_tokens.specs.Tokens.{needs_pair, is_printable, escaped, IsFront, IsLongestToken}
 use Rattle.aioc_tokens.proofs.Firsts.{same_kind}
 use Rattle.aioc_tokens.proofs.Runs.{no_comment_by}
 
@@ -78,12 +77,14 @@ text_end_spelled false (byte ∷ others) count is = go (byte == 34) refl is (tex
         → ((less : ℕ) → text_end false others ≡ Some less → IsTail false others less) → IsTail false (byte ∷ others) count
     last true plain printable found rest = let (less, at, more) = bump_some _ _ found in tail_plain byte others count less plain printable more (rest less at)
     last false plain printable found rest = absurd cc
+
     inner : (backslash : Bool) → (byte == 34) ≡ false → (byte == 92) ≡ backslash
         → cond backslash (bump (text_end true others)) (cond (is_printable byte) (bump (text_end false others)) None) ≡ Some count
         → ((less : ℕ) → text_end true others ≡ Some less → IsTail true others less)
         → ((less : ℕ) → text_end false others ≡ Some less → IsTail false others less) → IsTail false (byte ∷ others) count
     inner true quote backslash found paired plain = let (less, at, more) = bump_some _ _ found in tail_backslash byte others count less (grind (arith, nat_tests)) more (paired less at)
     inner false quote backslash found paired plain = last (is_printable byte) (grind (arith, nat_tests)) refl found plain
+
     go : (quote : Bool) → (byte == 34) ≡ quote
         → cond quote (Some 1) (cond (byte == 92) (bump (text_end true others)) (cond (is_printable byte) (bump (text_end false others)) None)) ≡ Some count
         → ((less : ℕ) → text_end true others ≡ Some less → IsTail true others less)
@@ -124,7 +125,7 @@ text_longest [] count quote found = absurd cc
 text_longest (first ∷ inside) count quote found =
     let tail = text_end_spelled false inside count found in
     let front : IsFront (first ∷ inside) Text (suc count) =
-        record { within = omega (arith, tail.within); spells = (tail.value, tail.printable, ap (λ byte. byte ∷ take count inside) quote ∙ ap (λ rest. 34 ∷ rest) tail.spelled) } in
+    record { within = omega (arith, tail.within); spells = (tail.value, tail.printable, ap (λ byte. byte ∷ take count inside) quote ∙ ap (λ rest. 34 ∷ rest) tail.spelled) } in
     record {
       front = front;
       longest = λ other more that.

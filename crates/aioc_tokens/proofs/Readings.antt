@@ -1,17 +1,14 @@
 -- What the lexemes of a text are like.
-use Rattle.std.proofs.Common.{◌≡◌, ◌≢◌, ◌↔◌, ℕ, ◌<◌, ◌≤◌, List, [], ◌∷◌, length, get_or, map, Some, None, refl, ap, sym, ◌∙◌, subst, arith, All, append-nil, nat_le}
+use Rattle.std.proofs.Common.{◌≡◌, ◌≢◌, ◌↔◌, ℕ, ◌≤◌, List, [], ◌∷◌, length, get_or, Some, None, ap, sym, ◌∙◌, arith, All}
 use Rattle.std.proofs.lemmas.List.Elements.{All-map, All-same}
-use Rattle.std.specs.List.{AllByRecursion}
-use Rattle.aioc_tokens.specs.declared.kinds.Kind.TheVariants as kinds
 use Rattle.aioc_tokens.specs.declared.kinds.Token.{Token}
 use Rattle.aioc_tokens.specs.declared.kinds.TheConstants.{NAME_LIMIT}
 use Rattle.aioc_tokens.specs.declared.words.Word.{Word}
 use Rattle.aioc_tokens.specs.declared.words.Mark.{Mark}
 use Rattle.aioc_tokens.specs.Words.{word_spelling, word_of, mark_spelling, mark_of}
 use Rattle.aioc_tokens.specs.Tokens.{IsNameSpelling}
-use Rattle.aioc_tokens.specs.Lexing.{Lexes, bytes_of}
-use Rattle.aioc_tokens.specs.Lexemes.{Lexeme, Name, Long, Reserved, lexeme, lexemes, HasLexemes, HasSpelling}
-use Rattle.aioc_tokens.specs.Spelling.{spelled}
+use Rattle.aioc_tokens.specs.Lexing.{bytes_of}
+use Rattle.aioc_tokens.specs.Lexemes.{Lexeme, Name, Long, lexeme, lexemes, HasLexemes, HasSpelling}
 use Rattle.aioc_tokens.proofs.Unique.{one_lexing}
 use Rattle.aioc_tokens.proofs.Looks.{token_at, lexeme_formed}
 use Rattle.aioc_tokens.proofs.Spellings.{word_found, word_of_spelled, mark_found, mark_of_spelled}

@@ -1,14 +1,14 @@
 -- Names and numbers are the longest runs of their bytes.
-use Rattle.std.proofs.Common.{◌≡◌, ℕ, zero, suc, ◌+◌, ◌<◌, ◌≤◌, Bool, true, false, ◌&&◌, cond, List, [], ◌∷◌, length, take, drop, refl, ap, sym, ◌∙◌, subst, arith, one-add, get_or}
+use Rattle.std.proofs.Common.{◌≡◌, ℕ, zero, suc, ◌+◌, ◌≤◌, Bool, true, false, ◌&&◌, cond, List, [], ◌∷◌, length, take, refl, ap, sym, subst, arith, one-add, get_or}
 use Rattle.std.specs.List.{list_all, prefix_len}
 use Rattle.std.specs.Char.{is_ascii_alphabetic, is_ascii_digit}
 use Rattle.std.proofs.lemmas.Bool.{and_from}
 use Rattle.std.proofs.lemmas.Bool.Decides.{nat_tests}
 use Rattle.std.proofs.lemmas.List.Sums.{prefix_len-le-length}
 use Rattle.aioc_tokens.specs.declared.kinds.Kind.{Kind}
-use Rattle.aioc_tokens.specs.declared.kinds.Kind.TheVariants.{Name, Number, Text, Symbol}
+use Rattle.aioc_tokens.specs.declared.kinds.Kind.TheVariants.{Name, Number}
 use Rattle.aioc_tokens.specs.Tokens.{is_name_byte, Spells, IsFront, IsLongestToken, BeginsComment}
-use Rattle.aioc_tokens.proofs.Firsts.{IsFirstOf, letter_first, digit_first, front_first, same_kind}
+use Rattle.aioc_tokens.proofs.Firsts.{same_kind}
 
 -- a front of bytes that all pass is no longer than the run
 all_within_run : (passes : ℕ → Bool) (text : List ℕ) (count : ℕ) → count ≤ length text → list_all passes (take count text) ≡ true → count ≤ prefix_len passes text

@@ -1,13 +1,10 @@
 -- The longest symbol of at most two bytes.
-use Rattle.std.proofs.Common.{◌≡◌, ℕ, zero, suc, ◌+◌, ◌<◌, ◌≤◌, Bool, true, false, ◌||◌, List, [], ◌∷◌, length, get_or, take, drop, Option, Some, None, is_some, refl, ap, sym, ◌∙◌, subst, arith, length-take-le}
-use Rattle.std.specs.Char.{is_ascii_alphabetic, is_ascii_digit}
-use Rattle.std.proofs.lemmas.Bool.Decides.{nat_tests}
-use Rattle.aioc_tokens.specs.declared.kinds.Kind.{Kind}
+use Rattle.std.proofs.Common.{◌≡◌, ℕ, zero, suc, ◌≤◌, true, List, length, take, Option, Some, None, is_some, refl, ap, sym, ◌∙◌, subst, arith, length-take-le}
 use Rattle.aioc_tokens.specs.declared.kinds.Kind.TheVariants.{Symbol}
 use Rattle.aioc_tokens.specs.declared.words.Mark.{Mark}
 use Rattle.aioc_tokens.specs.declared.words.Mark.TheVariants.{LeftBrace, RightBrace}
 use Rattle.aioc_tokens.specs.Words.{mark_spelling, mark_of}
-use Rattle.aioc_tokens.specs.Tokens.{Spells, IsFront, IsLongestToken, BeginsComment}
+use Rattle.aioc_tokens.specs.Tokens.{IsFront, IsLongestToken, BeginsComment}
 use Rattle.aioc_tokens.proofs.Firsts.{front_first, same_kind}
 use Rattle.aioc_tokens.proofs.Spellings.{mark_found, mark_of_spelled}
 

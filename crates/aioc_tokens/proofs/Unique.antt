@@ -1,8 +1,8 @@
 -- A text has one list of tokens or one first bad byte, and never both.
-use Rattle.std.proofs.Common.{◌≡◌, ℕ, ◌+◌, ◌<◌, ◌≤◌, List, [], ◌∷◌, length, drop, refl, ap, sym, ◌∙◌, subst, arith, le_antisymm}
+use Rattle.std.proofs.Common.{◌≡◌, ℕ, ◌+◌, List, [], ◌∷◌, drop, refl, sym, subst, arith, le_antisymm}
 use Rattle.aioc_tokens.specs.declared.kinds.Kind.{Kind}
 use Rattle.aioc_tokens.specs.declared.kinds.Token.{Token}
-use Rattle.aioc_tokens.specs.Tokens.{IsBlank, IsFront, IsLongestToken}
+use Rattle.aioc_tokens.specs.Tokens.{IsBlank, IsLongestToken}
 use Rattle.aioc_tokens.specs.Lexing.{Lexes, ended, blank_first, token_first, Breaks, at_once, after_blank, after_token}
 use Rattle.aioc_tokens.proofs.Firsts.{same_kind, blank_or_token}
 use Rattle.aioc_tokens.proofs.Blanks.{same_blank, blank_size}

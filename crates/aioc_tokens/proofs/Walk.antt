@@ -1,8 +1,8 @@
 -- What the walk over a text keeps: whatever is left completes what was found.
-use Rattle.std.proofs.Common.{◌≡◌, ℕ, ◌+◌, ◌<◌, ◌≤◌, List, [], ◌∷◌, ◌++◌, length, take, drop, refl, ap, sym, ◌∙◌, subst, arith, length-drop, drop-drop, drop_of_length-le, append_assoc, append-nil}
+use Rattle.std.proofs.Common.{ℕ, ◌+◌, ◌<◌, ◌≤◌, List, [], ◌∷◌, ◌++◌, length, drop, sym, subst, arith, length-drop, drop-drop, drop_of_length-le, append_assoc, append-nil}
 use Rattle.aioc_tokens.specs.declared.kinds.Kind.{Kind}
 use Rattle.aioc_tokens.specs.declared.kinds.Token.{Token}
-use Rattle.aioc_tokens.specs.Tokens.{IsBlank, IsLongestToken, IsFront, comment, BeginsComment}
+use Rattle.aioc_tokens.specs.Tokens.{IsBlank, IsLongestToken, IsFront}
 use Rattle.aioc_tokens.specs.Lexing.{Lexes, ended, blank_first, token_first, Breaks, at_once, after_blank, after_token}
 use Rattle.aioc_tokens.proofs.Firsts.{front_first}
 use Rattle.aioc_tokens.proofs.Blanks.{blank_size}

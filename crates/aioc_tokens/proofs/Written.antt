@@ -1,9 +1,8 @@
 -- What is written is read again.
-use Rattle.std.proofs.Common.{◌≡◌, ◌≢◌, ℕ, zero, suc, ◌+◌, ◌-◌, ◌*◌, ◌<◌, ◌≤◌, ◌==◌, ◌||◌, ◌&&◌, Bool, true, false, cond, List, [], ◌∷◌, ◌++◌, length, get_or, take, drop, map, Option, Some, None, is_some, refl, ap, sym, ◌∙◌, subst, arith, length-append, length-drop, drop-drop, append_assoc, take_at, drop_at, flat_map, append-nil, codes, nat_le}
+use Rattle.std.proofs.Common.{◌≡◌, ℕ, suc, ◌+◌, ◌<◌, ◌≤◌, ◌==◌, ◌||◌, ◌&&◌, Bool, true, false, cond, List, [], ◌∷◌, ◌++◌, length, get_or, take, drop, Some, refl, ap, sym, ◌∙◌, subst, arith, length-append, drop-drop, append_assoc, take_at, drop_at, flat_map, append-nil, add-zero, zero-add, drop_of_length-le, codes, nat_le}
 use Rattle.std.specs.List.{list_all, prefix_len, AllByRecursion}
-use Rattle.std.specs.Char.{is_ascii_digit, is_ascii_alphabetic}
+use Rattle.std.specs.Char.{is_ascii_digit}
 use Rattle.std.proofs.lemmas.Bool.Decides.{nat_tests}
-use Rattle.std.proofs.lemmas.List.Folds.{prefix_len-append}
 use Rattle.aioc_tokens.specs.declared.kinds.Kind.{Kind}
 use Rattle.aioc_tokens.specs.declared.kinds.Kind.TheVariants as kinds
 use Rattle.aioc_tokens.specs.declared.kinds.Token.{Token}
@@ -12,8 +11,8 @@ use Rattle.aioc_tokens.specs.declared.words.Word.{Word}
 use Rattle.aioc_tokens.specs.declared.words.Word.TheVariants.{Aioc, Skip}
 use Rattle.aioc_tokens.specs.declared.words.Mark.{Mark}
 use Rattle.aioc_tokens.specs.declared.words.Mark.TheVariants.{LeftBrace, RightBrace}
-use Rattle.aioc_tokens.specs.Words.{word_spelling, word_of, mark_spelling, mark_of}
-use Rattle.aioc_tokens.specs.Tokens.{is_space, is_name_byte, is_printable, escaped, quoted, Spells, IsNameSpelling, IsFront, IsLongestToken, BeginsComment, space}
+use Rattle.aioc_tokens.specs.Words.{word_spelling, mark_spelling, mark_of}
+use Rattle.aioc_tokens.specs.Tokens.{is_space, is_name_byte, is_printable, escaped, quoted, IsNameSpelling, IsFront, IsLongestToken, BeginsComment, space}
 use Rattle.aioc_tokens.specs.Lexing.{Lexes, ended, blank_first, token_first, bytes_of}
 use Rattle.aioc_tokens.specs.Lexemes.{Lexeme, Name, Long, Number, Text, Reserved, Symbol, lexeme, lexemes, HasLexemes, HasSpelling}
 use Rattle.aioc_tokens.specs.Spelling.{spelling, spelled}
@@ -97,6 +96,7 @@ lone_front mark byte others is stops = one_longest (byte ∷ others) (record { w
     no_two [] stops front = absurd (omega (arith, front.within))
     no_two (next ∷ others) stops front =
         first_stops goes_on next others stops (ap (λ word. goes_on (get_or word 1 61)) front.spells.1 ∙ second_goes_on front.spells.0)
+
     no_comment : (others : List ℕ) → prefix_len goes_on others ≡ 0 → BeginsComment (byte ∷ others) → ⊥
     no_comment [] stops begins = absurd cc
     no_comment (next ∷ others) stops begins = first_stops goes_on next others stops (ap (λ word. goes_on (get_or word 1 61)) begins)
@@ -178,36 +178,59 @@ lexeme_read whole at first others found formed ends rest read =
 pub whole_read : (whole : List ℕ) (found : List Lexeme) → IsRead whole 0 whole found → HasLexemes whole found
 whole_read whole found read = record { tokens = read.tokens; lexes = read.lexes; lexemes_are = read.lexemes_are }
 
+-- a space begins here, or the text ends
+abbrev pub SpaceOrEnd : List ℕ → Type 0
+SpaceOrEnd [] = Unit {0}
+SpaceOrEnd (byte ∷ others) = is_space byte ≡ true
+
+space_stops : (passes : ℕ → Bool) (others : List ℕ) → ((byte : ℕ) → is_space byte ≡ true → passes byte ≡ false) → SpaceOrEnd others → prefix_len passes others ≡ 0
+space_stops passes [] apart stops = refl
+space_stops passes (byte ∷ others) apart stops = rw (apart byte stops) refl
+
+no_name_byte : (byte : ℕ) → is_space byte ≡ true → is_name_byte byte ≡ false
+no_name_byte byte is = grind (arith, nat_tests)
+
+no_digit : (byte : ℕ) → is_space byte ≡ true → is_ascii_digit byte ≡ false
+no_digit byte is = grind (arith, nat_tests)
+
+no_second : (byte : ℕ) → is_space byte ≡ true → goes_on byte ≡ false
+no_second byte is = grind (arith, nat_tests)
+
 -- a space ends each token, and so does the end
-pub space_ends : (first : Lexeme) (others : List ℕ) → Ends first (32 ∷ others)
-space_ends (Name bytes) others = refl
-space_ends Long others = tt
-space_ends (Number digits) others = refl
-space_ends (Text value) others = tt
-space_ends (Reserved word) others = refl
-space_ends (Symbol mark) others = refl
+pub space_ends : (first : Lexeme) (others : List ℕ) → SpaceOrEnd others → Ends first others
+space_ends (Name bytes) others stops = space_stops is_name_byte others no_name_byte stops
+space_ends Long others stops = tt
+space_ends (Number digits) others stops = space_stops is_ascii_digit others no_digit stops
+space_ends (Text value) others stops = tt
+space_ends (Reserved word) others stops = space_stops is_name_byte others no_name_byte stops
+space_ends (Symbol mark) others stops = space_stops goes_on others no_second stops
 
-pub end_ends : (first : Lexeme) → Ends first []
-end_ends (Name bytes) = refl
-end_ends Long = tt
-end_ends (Number digits) = refl
-end_ends (Text value) = tt
-end_ends (Reserved word) = refl
-end_ends (Symbol mark) = refl
-
-spelled_read : (whole : List ℕ) (at : ℕ) (written : List Lexeme) → AllByRecursion HasSpelling written → drop at whole ≡ spelled written → IsRead whole at (spelled written) written
-spelled_read whole at [] formed rest = nothing_read whole at rest
-spelled_read whole at (last ∷ []) formed rest =
-    let rest_is : drop at whole ≡ spelling last ++ [] = rest ∙ sym (append-nil (spelling last)) in
-    let after = nothing_read whole (at + length (spelling last)) (sym (drop-drop (length (spelling last)) at whole) ∙ ap (drop (length (spelling last))) rest_is ∙ drop_at (spelling last) [] (length (spelling last)) refl) in
-    subst (λ text. IsRead whole at text (last ∷ [])) (append-nil (spelling last)) (lexeme_read whole at last [] [] formed.0 (end_ends last) rest_is after)
-spelled_read whole at (first ∷ next ∷ others) formed rest =
+-- Lexemes that are written with one space between two stand before what is read.
+pub spelled_read : (whole : List ℕ) (at : ℕ) (written : List Lexeme) (others : List ℕ) (found : List Lexeme) → AllByRecursion HasSpelling written → SpaceOrEnd others → drop at whole ≡ spelled written ++ others
+    → IsRead whole (at + length (spelled written)) others found → IsRead whole at (spelled written ++ others) (written ++ found)
+spelled_read whole at [] others found formed stops rest read = subst (λ place. IsRead whole place others found) (add-zero at) read
+spelled_read whole at (last ∷ []) others found formed stops rest read = lexeme_read whole at last others found formed.0 (space_ends last others stops) rest read
+spelled_read whole at (first ∷ next ∷ written) others found formed stops rest read =
     let count = length (spelling first) in
-    let left : drop (at + count) whole ≡ 32 ∷ spelled (next ∷ others) = sym (drop-drop count at whole) ∙ ap (drop count) rest ∙ drop_at (spelling first) (32 ∷ spelled (next ∷ others)) count refl in
-    let further : drop (at + count + 1) whole ≡ spelled (next ∷ others) = sym (drop-drop 1 (at + count) whole) ∙ ap (drop 1) left in
-    lexeme_read whole at first (32 ∷ spelled (next ∷ others)) (next ∷ others) formed.0 (space_ends first (spelled (next ∷ others))) rest
-    (space_read whole (at + count) 32 (spelled (next ∷ others)) (next ∷ others) refl left (spelled_read whole (at + count + 1) (next ∷ others) formed.1 further))
+    let tail = spelled (next ∷ written) in
+    let joined = append_assoc (spelling first) (32 ∷ tail) others in
+    let left : drop (at + count) whole ≡ 32 ∷ (tail ++ others) = sym (drop-drop count at whole) ∙ ap (drop count) (rest ∙ joined) ∙ drop_at (spelling first) (32 ∷ (tail ++ others)) count refl in
+    let further : drop (at + count + 1) whole ≡ tail ++ others = sym (drop-drop 1 (at + count) whole) ∙ ap (drop 1) left in
+    let place : at + length (spelling first ++ 32 ∷ tail) ≡ at + count + 1 + length tail = omega (arith, length-append (spelling first) (32 ∷ tail)) in
+    let after = spelled_read whole (at + count + 1) (next ∷ written) others found formed.1 stops further (subst (λ place. IsRead whole place others found) place read) in
+    subst (λ text. IsRead whole at text (first ∷ next ∷ written ++ found)) (sym joined)
+    (lexeme_read whole at first (32 ∷ (tail ++ others)) (next ∷ written ++ found) formed.0 (space_ends first (32 ∷ (tail ++ others)) refl) (rest ∙ joined) (space_read whole (at + count) 32 (tail ++ others) (next ∷ written ++ found) refl left after))
 
 -- lexemes that are written with one space between two are read again
 pub spelled_lexemes : (written : List Lexeme) → AllByRecursion HasSpelling written → HasLexemes (spelled written) written
-spelled_lexemes written formed = whole_read (spelled written) written (spelled_read (spelled written) 0 written formed refl)
+spelled_lexemes written formed =
+    let text = spelled written in
+    let at_end : drop (length text) text ≡ [] = drop_of_length-le text (omega arith) in
+    let read = spelled_read text 0 written [] [] formed tt (sym (append-nil text)) (nothing_read text (0 + length text) (subst (λ place. drop place text ≡ []) (sym (zero-add (length text))) at_end)) in
+    whole_read text written (subst (IsRead text 0 text) (append-nil written) (subst (λ end. IsRead text 0 end (written ++ [])) (append-nil text) read))
+
+-- two lists that aren't empty are written with a space between them
+pub spelled-append : (first : Lexeme) (written : List Lexeme) (next : Lexeme) (others : List Lexeme) → spelled ((first ∷ written) ++ next ∷ others) ≡ spelled (first ∷ written) ++ 32 ∷ spelled (next ∷ others)
+spelled-append first [] next others = refl
+spelled-append first (second ∷ written) next others =
+    ap (λ rest. spelling first ++ 32 ∷ rest) (spelled-append second written next others) ∙ sym (append_assoc (spelling first) (32 ∷ spelled (second ∷ written)) (32 ∷ spelled (next ∷ others)))

@@ -1,5 +1,5 @@
 -- The longest front of a list of lexemes that a relation reads.
-use Rattle.std.specs.Prelude.{ℕ, ◌≤◌, List, length}
+use Rattle.std.specs.Prelude.{◌≤◌, List, length}
 use Rattle.aioc_tokens.specs.Lexemes.{Lexeme}
 
 -- This value is read up to there, and none is read further. A relation reads a value up to a rest of the list.

@@ -8,7 +8,7 @@ use Rattle.aioc_tokens.specs.declared.words.Mark.{Mark}
 use Rattle.aioc_tokens.specs.Words.{word_spelling, word_of, mark_spelling, mark_of}
 use Rattle.aioc_tokens.specs.Tokens.{IsNameSpelling}
 use Rattle.aioc_tokens.specs.Lexing.{Lexes, Breaks, InOrder, IsLongestAt}
-use Rattle.aioc_tokens.specs.Lexemes.{Lexeme, Name, Long, Reserved, lexemes, HasLexemes, HasSpelling}
+use Rattle.aioc_tokens.specs.Lexemes.{Lexeme, Name, Long, HasLexemes, HasSpelling}
 use Rattle.aioc_tokens.specs.Spelling.{spelled}
 
 -- a text has tokens, or a byte of it is in none

@@ -1,5 +1,5 @@
 -- What the grammar sees of a text: the list of its lexemes.
-use Rattle.std.specs.Prelude.{◌≡◌, ℕ, ◌+◌, ◌-◌, ◌<◌, ◌≤◌, Bool, true, false, List, [], ◌∷◌, length, drop, map, Option, None, slice_range, nat_le, if◌then◌else◌, ◌==◌, IsTrue}
+use Rattle.std.specs.Prelude.{◌≡◌, ℕ, ◌-◌, ◌<◌, ◌≤◌, Bool, true, false, List, [], ◌∷◌, length, drop, map, None, slice_range, nat_le, if◌then◌else◌, ◌==◌, IsTrue}
 use Rattle.std.specs.Char.{is_ascii_digit}
 use Rattle.std.specs.List.{list_all}
 use Rattle.std.specs.Option.{option_map_or}
@@ -25,7 +25,9 @@ pub data Lexeme : Type 0 where
   Number : List ℕ → Lexeme
   -- the value of a text
   Text : List ℕ → Lexeme
+  -- a reserved word
   Reserved : Word → Lexeme
+  -- a symbol
   Symbol : Mark → Lexeme
 
 -- the bytes without the `\` that begins each pair; paired: such a `\` stands before them
@@ -38,7 +40,7 @@ unescaped false (byte ∷ others) = if byte == 92 then unescaped true others els
 abbrev pub value_of : List ℕ → List ℕ
 value_of bytes = unescaped false (slice_range bytes 1 (length bytes - 1))
 
--- the lexeme of a token's bytes
+-- the lexeme of a token's bytes (those of a symbol stand in the table)
 abbrev pub lexeme : Kind → List ℕ → Lexeme
 lexeme kinds.Name bytes = option_map_or Reserved (word_of bytes) (if nat_le (length bytes) NAME_LIMIT then Name bytes else Long)
 lexeme kinds.Number bytes = Number bytes

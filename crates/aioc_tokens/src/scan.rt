@@ -6,10 +6,9 @@ ghost use Rattle.aioc_tokens.specs.declared.kinds.Kind.{Kind};
 ghost use Rattle.aioc_tokens.specs.Tokens.{is_space, is_name_byte, is_printable, needs_pair, line_length, BeginsComment, IsBlank, IsFront, IsLongestToken};
 ghost use Rattle.aioc_tokens.specs.Lexing.{Lexes, Breaks, InOrder};
 
-use std::alloc::Global;
-
 use crate::kinds::{Kind, Token, TokenFault};
 use crate::words::find_mark;
+use std::alloc::Global;
 
 fn is_space(byte: u8) -> bool
     ensures { result ≡ is_space byte }
@@ -165,7 +164,11 @@ pub fn tokens(alloc: Global, bytes: &[u8]) -> Result<Vec<Token>, TokenFault>
         };
         let end = at + count;
         found
-            .push(Token { kind, start: at, end })
+            .push(Token {
+                kind,
+                start: at,
+                end,
+            })
             .map_err(|_| TokenFault::Memory)?;
         at = end;
     }

@@ -5,12 +5,10 @@ ghost use Rattle.aioc_tokens.specs.Tokens.{Spells};
 ghost use Rattle.aioc_tokens.specs.Lexing.{Lexes, IsTokenOf, bytes_of, place_of};
 ghost use Rattle.aioc_tokens.specs.Lexemes.{lexeme, lexemes, sort_of, value_of, unescaped, Begins, HasSpelling};
 
-
-use std::alloc::{AllocError, Global};
-use std::marker::Model;
-
 use crate::kinds::{Kind, NAME_LIMIT, TEXT_LIMIT, Token};
 use crate::words::{Sort, find_mark, find_word};
+use std::alloc::{AllocError, Global};
+use std::marker::Model;
 
 /// How many bytes the value of a text in quotes has.
 fn value_length(bytes: &[u8]) -> usize
@@ -86,12 +84,6 @@ fn sort_of(kind: Kind, bytes: &[u8]) -> Sort
     }
 }
 
-fn is_same(sort: Sort, other: Sort) -> bool
-    ensures { IsTrue result ↔ (sort ≡ other) }
-{
-    sort == other
-}
-
 /// Where the token at a place of the list begins, or the text's length where there is none: the byte that a fault of
 /// the grammar names.
 pub fn place(bytes: &[u8], tokens: &[Token], at: usize) -> usize
@@ -161,13 +153,21 @@ impl<'a> Lexed<'a> {
         }
     }
 
+    /// Whether the lexeme at this place is of this sort.
+    pub fn has(&self, at: usize, sort: Sort) -> bool
+        ensures value { IsTrue result ↔ (sort_of (drop at self.now) ≡ sort) }
+        ensures small { length self.now < 2 ^ 63 }
+    {
+        self.sort(at) == sort
+    }
+
     /// Whether the lexemes from this place on are of these sorts, one after the other.
     pub fn begins(&self, at: usize, sorts: &[Sort]) -> bool
         ensures { IsTrue result ↔ Begins sorts.now (drop at self.now) }
     {
         for (place, sort) in sorts.iter().enumerate() {
             // Past the greatest number there is no lexeme, as at it.
-            if !is_same(self.sort(at.saturating_add(place)), *sort) {
+            if !self.has(at.saturating_add(place), *sort) {
                 return false;
             }
         }
@@ -181,6 +181,13 @@ impl<'a> Lexed<'a> {
         ensures valid { HasSpelling (Lexeme.Name result.now) }
     {
         bytes_of(self.bytes, &self.tokens[at])
+    }
+
+    /// Whether the lexeme at this place is this name, as a word that has a meaning only in its place.
+    pub fn named(&self, at: usize, word: &[u8]) -> bool
+        ensures { IsTrue result ↔ (drop at self.now ≡ Lexeme.Name word.now ∷ drop (at + 1) self.now) }
+    {
+        self.has(at, Sort::Name) && self.name(at) == word
     }
 
     /// The digits of the number at this place.

@@ -27,7 +27,7 @@ use Rattle.marked_laws.proofs.MarkSteps.{given_by}
 use Rattle.marked_laws.proofs.Moves.{when_true}
 
 -- a pending message is given to its take
-given_pending : (mails : Key → Option Load) (decide : ScopeHead → Decision) (j : Key) (l : Load) → mails j ≡ Some l → given_by mails decide (act.Take j) ≡ Got l
+pub given_pending : (mails : Key → Option Load) (decide : ScopeHead → Decision) (j : Key) (l : Load) → mails j ≡ Some l → given_by mails decide (act.Take j) ≡ Got l
 given_pending mails decide j l h = ap (λ m. given_by (λ k. m) decide (act.Take j)) h
 
 module _ (mails : Key → Option Load) (decide : ScopeHead → Decision) (q : Role) (s : Store) where

@@ -114,8 +114,8 @@ part_same h = cc
 
 module _ (cast : List Role) (q : Role) (s : Store) (a : Act) (given : Given) where
   -- a take of the leader's message, and what the role goes on with if the message is that of the construct
-  abbrev TakesTold : Kind → Deed → Process → Type 0
-  TakesTold k d R = (a ≡ act.Take (telling_key k q)) × (l : Load) × (given ≡ Got l)
+  abbrev pub Takes_told : Kind → Deed → Process → Type 0
+  Takes_told k d R = (a ≡ act.Take (telling_key k q)) × (l : Load) × (given ≡ Got l)
       × (l ≡ told k q → (d ≡ Takes (telling_key k q) None (told k q)) × (norm R ≡ norm (inside cast k q (projected cast (body k) q))))
 
   -- the part of a scope's own body that a follower runs
@@ -126,7 +126,7 @@ module _ (cast : List Role) (q : Role) (s : Store) (a : Act) (given : Given) whe
 
   -- a role's only step before it has taken the leader's message
   takes_told : (k : Kind) → Begins cast k → role_eq q (leader k) ≡ false → is_in q (whole k) ≡ true → (d : Deed) (R : Process)
-      → step q s (before cast k q) a given ≡ Does d R → TakesTold k d R
+      → step q s (before cast k q) a given ≡ Does d R → Takes_told k d R
   takes_told (Branch i r g I J b) begins other in_it d R h =
       let P : Process = projected cast I q in
       let Q : Process = projected cast J q in
@@ -211,10 +211,10 @@ module _ (cast : List Role) (q : Role) (s : Store) (a : Act) (given : Given) whe
 
 module _ (cast : List Role) (stores : Role → Store) (answers : ScopeHead → Answer) (updates : ℕ) (unique : distinct_roles cast ≡ true)
     (mails : Key → Option Load) (decide : ScopeHead → Decision) (q : Role) (a : Act) where
-  abbrev FoundHere : Mark → Deed → Process → Type 0
+  abbrev pub FoundHere : Mark → Deed → Process → Type 0
   FoundHere M d R = Found cast stores answers updates mails decide q a M d R
 
-  abbrev FindsHere : Process → Mark → Type 0
+  abbrev pub FindsHere : Process → Mark → Type 0
   FindsHere P M = Finds cast stores answers updates mails decide q a P M
 
   module _ (k : Kind) (phases : Phases) (M : Mark) (fine : Fine cast (Held k phases M)) (agrees : Agrees mails (Held k phases M)) (body_finds : FindsHere (place cast M q) M) where

@@ -17,11 +17,11 @@ use Rattle.marked_laws.proofs.MarkSteps.{given_by}
 use Rattle.marked_laws.proofs.Moves.{does_same, stuck_does, when_does, under_does}
 
 -- a take that is given a message has it pending
-taken_message : (m : Option Load) (decide : ScopeHead → Decision) (j : Key) (l : Load) → given_by (λ k. m) decide (act.Take j) ≡ Got l → m ≡ Some l
+pub taken_message : (m : Option Load) (decide : ScopeHead → Decision) (j : Key) (l : Load) → given_by (λ k. m) decide (act.Take j) ≡ Got l → m ≡ Some l
 taken_message None decide j l h = cc
 taken_message (Some n) decide j l h = cc
 
-given_message : (mails : Key → Option Load) (decide : ScopeHead → Decision) (j : Key) (l : Load) → given_by mails decide (act.Take j) ≡ Got l → mails j ≡ Some l
+pub given_message : (mails : Key → Option Load) (decide : ScopeHead → Decision) (j : Key) (l : Load) → given_by mails decide (act.Take j) ≡ Got l → mails j ≡ Some l
 given_message mails decide j l h = taken_message (mails j) decide j l h
 
 -- what is given to an act by the act that it is
@@ -33,7 +33,7 @@ pub when_act : (a b : Act) (m : Move Deed Process) {d : Deed} {R : Process} → 
 when_act a b m h = let parts = when_does (act_eq a b) m h in (act_same a b parts.0, parts.1)
 
 -- which of two moves was done
-either_does : (t : Bool) (m n : Move Deed Process) {d : Deed} {R : Process} → (if t then m else n) ≡ Does d R
+pub either_does : (t : Bool) (m n : Move Deed Process) {d : Deed} {R : Process} → (if t then m else n) ≡ Does d R
     → ((t ≡ true) × (m ≡ Does d R)) ⊎ ((t ≡ false) × (n ≡ Does d R))
 either_does true m n h = inl (refl, h)
 either_does false m n h = inr (refl, h)

@@ -42,7 +42,7 @@ filter_all (x ∷ xs) = ap (λ l. x ∷ l) (filter_all xs)
 norm_after_twice : (P Q R : Process) → norm (after P (after Q R)) ≡ norm (process.Seq P (process.Seq Q R))
 norm_after_twice P Q R = norm-after P (after Q R) ∙ ap (seq_norm (norm P)) (norm-after Q R)
 
-norm_after_thrice : (P Q R S : Process) → norm (after P (after Q (after R S))) ≡ norm (process.Seq P (process.Seq Q (process.Seq R S)))
+pub norm_after_thrice : (P Q R S : Process) → norm (after P (after Q (after R S))) ≡ norm (process.Seq P (process.Seq Q (process.Seq R S)))
 norm_after_thrice P Q R S = norm-after P (after Q (after R S)) ∙ ap (seq_norm (norm P)) (norm_after_twice Q R S)
 
 module _ (cast : List Role) where
@@ -50,7 +50,7 @@ module _ (cast : List Role) where
   pub untold_all : (k : Kind) → untold cast k all_wait ≡ followers cast k
   untold_all k = filter_all (followers cast k)
 
-  ungone_all : (k : Kind) → ungone cast k all_wait ≡ followers cast k
+  pub ungone_all : (k : Kind) → ungone cast k all_wait ≡ followers cast k
   ungone_all k = filter_all (followers cast k)
 
   projected_branch : (b : Bool) (I J : Term) (q : Role) → (if b then projected cast I q else projected cast J q) ≡ projected cast (if b then I else J) q
@@ -126,7 +126,7 @@ module _ (cast : List Role) where
         refl
 
     -- what the leader of a loop does by its pick
-    abbrev Picked : Index → Expression → Term → Deed → Process → Type 0
+    abbrev pub Picked : Index → Expression → Term → Deed → Process → Type 0
     Picked i g I d R =
         ((is_true (eval g (stores q)) ≡ true) × (d ≡ Picks i q true) × (norm R ≡ norm (place cast (Held (Turning i q g I) all_wait (Still I)) q)))
         ⊎ ((is_true (eval g (stores q)) ≡ false) × (d ≡ Picks i q false) × (norm R ≡ norm (place cast (Held (Stopping i q g I) all_wait (Still Skip)) q)))

@@ -28,6 +28,7 @@ pub mod Pending
 pub mod Plays
 pub mod Premise
 pub mod Proper
+pub mod Refutations
 pub mod RoleLists
 pub mod Roles
 pub mod Settlements

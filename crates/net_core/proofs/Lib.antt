@@ -1,3 +1,4 @@
+pub mod AcceptedLemmas
 mod ExampleRuns
 pub mod Examples
 pub mod Interaction

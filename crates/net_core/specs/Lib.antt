@@ -1,3 +1,4 @@
+pub mod AcceptedLaws
 pub mod Net
 pub mod Refusals
 pub mod Runs

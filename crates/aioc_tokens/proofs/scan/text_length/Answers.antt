@@ -1,4 +1,4 @@
-use Rattle.std.proofs.Common.{◌≡◌, ◌-◌, ◌+◌, false, ap, sym, subst, ◌∙◌, take, drop, length, arith}
+use Rattle.std.proofs.Common.{◌-◌, ◌+◌, false, ap, sym, subst, ◌∙◌, take, drop, length, arith}
 use Rattle.std.proofs.lemmas.List.{take_rest}
 use Rattle.aioc_tokens.specs.declared.kinds.Kind.TheVariants.{Text}
 use Rattle.aioc_tokens.specs.Tokens.{IsLongestToken}
@@ -10,7 +10,7 @@ returns-then-not-needs_pair c =
     let text = c.args.text.now in
     let inside = take (length text - 1) (drop 1 text) in
     no_text text (ap (text_end false) (sym (take_rest text 1))
-        ∙ no_pair inside _ _ c.loop-place.invariant c.loop-place-test.true c.if-paired.true (sym c.needs_pair.ensures ∙ c.if-not-needs_pair.true))
+    ∙ no_pair inside _ _ c.loop-place.invariant c.loop-place-test.true c.if-paired.true (sym c.needs_pair.ensures ∙ c.if-not-needs_pair.true))
 
 pub returns-then-byte-eq34 : goal.returns-then-byte-eq34
 returns-then-byte-eq34 c =
@@ -24,7 +24,7 @@ returns-then-not-is_printable c =
     let text = c.args.text.now in
     let inside = take (length text - 1) (drop 1 text) in
     no_text text (ap (text_end false) (sym (take_rest text 1))
-        ∙ bad_byte inside _ _ c.loop-place.invariant c.loop-place-test.true c.if-paired.false c.if-byte-eq34.false c.if-byte-eq92.false (sym c.is_printable.ensures ∙ c.if-not-is_printable.true))
+    ∙ bad_byte inside _ _ c.loop-place.invariant c.loop-place-test.true c.if-paired.false c.if-byte-eq34.false c.if-byte-eq92.false (sym c.is_printable.ensures ∙ c.if-not-is_printable.true))
 
 pub returns : goal.returns
 returns c =

@@ -1,8 +1,8 @@
-use Rattle.std.proofs.Common.{◌≡◌, ◌+◌, ◌-◌, ◌≤◌, ◌++◌, ◌∷◌, [], is_ok, length, take, drop, arith, ap, sym, ◌∙◌, subst, refl, length-drop, length-take}
+use Rattle.std.proofs.Common.{◌≡◌, ◌+◌, is_ok, drop, arith, ap, sym, ◌∙◌, subst, refl, length-drop}
 use Rattle.std.proofs.lemmas.List.{take_rest}
 use Rattle.std.proofs.ResultArms.{chosen}
 use Rattle.aioc_tokens.specs.Tokens.{IsBlank, comment, IsLongestToken}
-use Rattle.aioc_tokens.specs.Lexing.{InOrder, Breaks}
+use Rattle.aioc_tokens.specs.Lexing.{Breaks}
 use Rattle.aioc_tokens.proofs.Blanks.{blank_size}
 use Rattle.aioc_tokens.proofs.Walk.{IsBefore, over_blank, over_token, at_end, at_bad}
 use Rattle.aioc_tokens.proofs.Order.{lexes_ordered, lexes_few}

@@ -1,4 +1,4 @@
-use Rattle.std.proofs.Common.{◌≡◌, Some, sym, ◌∙◌, ap, subst}
+use Rattle.std.proofs.Common.{◌≡◌, Some, ◌∙◌, ap, subst}
 use Rattle.aioc_tokens.specs.declared.kinds.Kind.TheVariants.{Symbol}
 use Rattle.aioc_tokens.specs.Words.{mark_of}
 use Rattle.aioc_tokens.specs.Tokens.{Spells}

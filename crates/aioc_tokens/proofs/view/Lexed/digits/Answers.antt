@@ -1,5 +1,5 @@
 use Rattle.std.proofs.Common.{◌≡◌, ◌∷◌, ◌+◌, drop, sym, subst}
-use Rattle.aioc_tokens.specs.Lexemes.{Lexeme, Number, HasSpelling}
+use Rattle.aioc_tokens.specs.Lexemes.{Number, HasSpelling}
 use Rattle.aioc_tokens.proofs.Looks.{number_shown}
 use Rattle.aioc_tokens.proofs.view.Lexed.digits.Goals as goal
 

@@ -1,5 +1,5 @@
 use Rattle.std.proofs.Common.{◌≡◌, ◌∷◌, ◌+◌, drop, sym, subst}
-use Rattle.aioc_tokens.specs.Lexemes.{Lexeme, Name, HasSpelling}
+use Rattle.aioc_tokens.specs.Lexemes.{Name, HasSpelling}
 use Rattle.aioc_tokens.proofs.Looks.{name_shown}
 use Rattle.aioc_tokens.proofs.view.Lexed.name.Goals as goal
 

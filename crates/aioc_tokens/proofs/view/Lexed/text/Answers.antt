@@ -1,4 +1,4 @@
-use Rattle.std.proofs.Common.{◌≡◌, ◌∷◌, ◌+◌, drop, sym, ◌∙◌, ap, subst}
+use Rattle.std.proofs.Common.{◌≡◌, ◌∷◌, ◌+◌, drop, sym, subst}
 use Rattle.aioc_tokens.specs.Tokens.{Spells}
 use Rattle.aioc_tokens.specs.Lexemes.{Text, value_of, HasSpelling}
 use Rattle.aioc_tokens.proofs.Looks.{text_shown, text_copied, text_copied_formed}

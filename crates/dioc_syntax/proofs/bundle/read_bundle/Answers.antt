@@ -1,0 +1,30 @@
+-- What the looks show, said of the bytes.
+use Rattle.std.proofs.Common.{◌≡◌, ◌≢◌, ℕ, List, Err, refl, subst, sym, ap, ◌∙◌}
+use Rattle.dioc_terms.specs.declared.bundles.Bundle.{Bundle}
+use Rattle.aioc_tokens.specs.Lexemes.{Lexeme, lexemes}
+use Rattle.dioc_syntax.specs.declared.bundle.Stop.{Stop}
+use Rattle.dioc_syntax.specs.declared.bundle.Stop.TheVariants as stop
+use Rattle.dioc_syntax.specs.Grammar.{IsBundle}
+use Rattle.dioc_syntax.proofs.Bundles.{bad_byte_none, spells_none}
+use Rattle.dioc_syntax.proofs.Formed.{read_formed}
+use Rattle.dioc_syntax.proofs.bundle.read_bundle.Goals as goal
+
+pub returns-in-Err-BadByte-clause-syntax : goal.returns-in-Err-BadByte-clause-syntax
+returns-in-Err-BadByte-clause-syntax c =
+    λ other. bad_byte_none c.args.bytes.now c.in-Err-BadByte.at (c.tokens.ensures.bad c.in-Err-BadByte.at (c.in-Err-BadByte.is ∙ ap Err c.in-Err-BadByte.field-0-is))
+
+pub returns-in-Ok-bundle_at-clause-formed : goal.returns-in-Ok-bundle_at-clause-formed
+returns-in-Ok-bundle_at-clause-formed c =
+    read_formed c.args.bytes.now (lexemes c.args.bytes.now c.in-Ok.tokens.items) c.in-Ok-bundle_at.bundle
+      (record { tokens = c.in-Ok.tokens.items; lexes = c.in-Ok.ensures.found; lexemes_are = refl })
+      (subst (λ l. IsBundle l c.in-Ok-bundle_at.bundle) (c.new.ensures ∙ ap (lexemes c.args.bytes.now) c.deref.ensures.value) c.in-Ok-bundle_at.ensures.found)
+
+-- the reader stopped near a place, so it has no other answer
+stopped : (s : Stop) (at : ℕ) (text : List Lexeme) → (s ≢ stop.Memory → (b : Bundle) → IsBundle text b → ⊥) → s ≡ stop.Near at → (b : Bundle) → IsBundle text b → ⊥
+stopped s at text told is b = told (λ e. cc) b
+
+pub returns-in-Err-Near-clause-syntax : goal.returns-in-Err-Near-clause-syntax
+returns-in-Err-Near-clause-syntax c = λ other.
+    spells_none c.args.bytes.now c.in-Ok.tokens.items c.in-Ok.ensures.found
+      (subst (λ l. (b : Bundle) → IsBundle l b → ⊥) (c.new.ensures ∙ ap (lexemes c.args.bytes.now) c.deref.ensures.value)
+        (stopped c.in-Err-Near.field-0 c.in-Err-Near.at c.new.result c.in-Err-Near.ensures.stopped c.in-Err-Near.field-0-is))

@@ -1,0 +1,11 @@
+//! From the bytes of a text to the bundle that it spells.
+//!
+//! Today a text has one `aioc` section with one interaction that sends a constant.
+#![tactic(auto)]
+
+mod bundle;
+mod laws;
+mod names;
+
+pub use bundle::{LONGEST, read_bundle};
+pub use laws::one_bundle;

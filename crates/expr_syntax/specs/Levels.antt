@@ -1,0 +1,75 @@
+-- The levels of the grammar, and the operators of each.
+use Rattle.std.specs.Prelude.{Bool, true, false, Option, Some, None}
+use Rattle.dioc_terms.specs.declared.expressions.Oper.{Oper}
+use Rattle.dioc_terms.specs.declared.expressions.Oper.TheVariants.{Add, Sub, Mul, Div, Rem, Join, Eq, Ne, Lt, Le, Gt, Ge, And, Or}
+use Rattle.aioc_tokens.specs.declared.words.Word.{Word}
+use Rattle.aioc_tokens.specs.declared.words.Word.TheVariants as word
+use Rattle.aioc_tokens.specs.declared.words.Mark.{Mark}
+use Rattle.aioc_tokens.specs.declared.words.Mark.TheVariants.{EqualEqual, NotEqual, Less, LessEqual, Greater, GreaterEqual, Plus, PlusPlus, Minus, Star, Slash, Percent}
+use Rattle.aioc_tokens.specs.declared.words.Sort.{Sort}
+use Rattle.aioc_tokens.specs.declared.words.Sort.TheVariants.{Reserved, Symbol}
+use Rattle.expr_syntax.specs.declared.levels.ExprKind.{ExprKind}
+use Rattle.expr_syntax.specs.declared.levels.ExprKind.TheVariants.{Step, Condition}
+use Rattle.expr_syntax.specs.declared.levels.Level.{Level}
+use Rattle.expr_syntax.specs.declared.levels.Level.TheVariants.{Disjunction, Conjunction, Negation, Comparison, Sum, Product, Unary}
+
+-- the levels where any number of operators may follow one another
+abbrev pub is_chain : Level → Bool
+is_chain Disjunction = true
+is_chain Conjunction = true
+is_chain Sum = true
+is_chain Product = true
+is_chain _ = false
+
+-- the level of an operand
+abbrev pub tighter : Level → Level
+tighter Disjunction = Conjunction
+tighter Conjunction = Negation
+tighter Negation = Comparison
+tighter Comparison = Sum
+tighter Sum = Product
+tighter Product = Unary
+tighter Unary = Unary
+
+abbrev pub disjunction : Word → Option Oper
+disjunction word.Or = Some Or
+disjunction _ = None
+
+abbrev pub conjunction : Word → Option Oper
+conjunction word.And = Some And
+conjunction _ = None
+
+abbrev pub comparison : Mark → Option Oper
+comparison EqualEqual = Some Eq
+comparison NotEqual = Some Ne
+comparison Less = Some Lt
+comparison LessEqual = Some Le
+comparison Greater = Some Gt
+comparison GreaterEqual = Some Ge
+comparison _ = None
+
+-- a condition joins no texts
+abbrev pub joining : ExprKind → Option Oper
+joining Step = Some Join
+joining Condition = None
+
+abbrev pub addition : ExprKind → Mark → Option Oper
+addition kind Plus = Some Add
+addition kind Minus = Some Sub
+addition kind PlusPlus = joining kind
+addition kind _ = None
+
+abbrev pub multiplication : Mark → Option Oper
+multiplication Star = Some Mul
+multiplication Slash = Some Div
+multiplication Percent = Some Rem
+multiplication _ = None
+
+-- the operator that a token is between two operands of a level
+abbrev pub operator : ExprKind → Level → Sort → Option Oper
+operator kind Disjunction (Reserved word) = disjunction word
+operator kind Conjunction (Reserved word) = conjunction word
+operator kind Comparison (Symbol mark) = comparison mark
+operator kind Sum (Symbol mark) = addition kind mark
+operator kind Product (Symbol mark) = multiplication mark
+operator kind level _ = None

@@ -1,0 +1,3 @@
+pub mod Constants
+pub mod Levels
+pub mod Grammar
