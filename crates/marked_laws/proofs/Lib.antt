@@ -4,8 +4,9 @@ pub mod CanStep
 pub mod Choices
 pub mod Constructs
 pub mod Ends
-pub mod Examples
 pub mod Equality
+pub mod Examples
+pub mod Extension
 pub mod Found
 pub mod FoundHeld
 pub mod FoundParts

@@ -1,2 +1,4 @@
 pub mod Laws
 pub mod Network
+pub mod Offers
+pub mod RunLaws

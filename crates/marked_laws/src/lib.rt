@@ -3,4 +3,6 @@
 
 mod laws;
 
-pub use laws::{nothing_left, progress, settlement, simulation, unique_keys};
+pub use laws::{
+    distinct_offers, nothing_left, progress, runs_extend, settlement, simulation, unique_keys,
+};
