@@ -1,4 +1,3 @@
-pub mod AcceptedLemmas
 mod ExampleRuns
 pub mod Examples
 pub mod Interaction

@@ -1,4 +1,3 @@
-pub mod AcceptedLaws
 pub mod Net
 pub mod Refusals
 pub mod Runs

@@ -1,5 +1,0 @@
-use Rattle.net_core.proofs.AcceptedLemmas.{accepted-is_sound}
-use Rattle.net_core.proofs.laws.accepted_is_sound.Goals as goal
-
-pub returns : goal.returns
-returns c = accepted-is_sound c.mentions_are_roles.ensures c.casts_are_roles.ensures c.gaps_are_found.ensures
