@@ -17,6 +17,7 @@ pub mod Groups
 pub mod Keeps
 pub mod Keys
 pub mod Mails
+pub mod MailLemmas
 pub mod Mark
 pub mod MarkSteps
 pub mod Moves
