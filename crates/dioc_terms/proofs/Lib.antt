@@ -1,3 +1,4 @@
 pub mod RoleLemmas
 pub mod TermLemmas
 pub mod ValueLemmas
+pub mod RuleLemmas

@@ -1,12 +1,12 @@
 -- The roles that a term names, its cast, and what stamping keeps.
-use Rattle.std.proofs.Common.{◌≡◌, ◌⊎◌, ℕ, suc, ◌+◌, List, [], ◌∷◌, ◌++◌, Bool, true, false, ◌&&◌, ◌||◌, not, if◌then◌else◌, filter, map, cond, refl, sym, ap, ap₂, ◌∙◌, subst, ⊎_elim}
+use Rattle.std.proofs.Common.{◌≡◌, ℕ, suc, ◌+◌, List, [], ◌∷◌, ◌++◌, Bool, true, false, ◌&&◌, ◌||◌, not, if◌then◌else◌, filter, map, refl, sym, ap, ap₂, ◌∙◌, subst, ⊎_elim}
 use Rattle.std.proofs.lemmas.Bool.{and_from, and_right, cond-true, cond-false, cases_Bool}
 use Rattle.std.proofs.lemmas.List.{map-append}
 use Rattle.std.proofs.lemmas.List.Folds.{list_any-append}
 use Rattle.dioc_terms.specs.declared.names.Role.{Role}
 use Rattle.dioc_terms.specs.Equality.{role_eq, member}
 use Rattle.dioc_terms.specs.EqualityLemmas.{equality-decides}
-use Rattle.dioc_terms.specs.Terms.{Term, Skip, Com, Set, Input, Seq, Par, If, While, Scope, empty, mentions, is_in, first_appearances, cast_of, distinct_roles, at_epoch, stamped, self_messages, constructs}
+use Rattle.dioc_terms.specs.Terms.{Term, Skip, Com, Set, Input, Seq, Par, If, While, Scope, empty, mentions, is_in, first_appearances, distinct_roles, at_epoch, stamped, self_messages, constructs}
 use Rattle.dioc_terms.specs.TermLaws.{MentionsAreRoles, CastsAreRoles, StampedBodies}
 
 role_same : (a b : Role) → role_eq a b ≡ true → a ≡ b

@@ -10,6 +10,7 @@ pub mod Messages
 pub mod Moves
 pub mod Names
 pub mod Processes
+pub mod RuleLaws
 pub mod Rules
 pub mod SeenValues
 pub mod Stores

@@ -1,5 +1,5 @@
 -- What holds of the roles that a term names, of its cast, and of a stamped body.
-use Rattle.std.specs.Prelude.{◌≡◌, ℕ, List, [], map, Bool, true}
+use Rattle.std.specs.Prelude.{◌≡◌, ℕ, [], map, true}
 use Rattle.dioc_terms.specs.declared.names.Role.{Role}
 use Rattle.dioc_terms.specs.Equality.{member}
 use Rattle.dioc_terms.specs.Terms.{Term, empty, mentions, is_in, cast_of, distinct_roles, at_epoch, stamped, self_messages, constructs}

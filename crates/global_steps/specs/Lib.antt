@@ -1,3 +1,4 @@
 pub mod Follow
+pub mod Laws
 pub mod Running
 pub mod Settled

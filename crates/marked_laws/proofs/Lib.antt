@@ -4,8 +4,9 @@ pub mod CanStep
 pub mod Choices
 pub mod Constructs
 pub mod Ends
-pub mod Examples
 pub mod Equality
+pub mod Examples
+pub mod Extension
 pub mod Found
 pub mod FoundHeld
 pub mod FoundParts
@@ -16,6 +17,7 @@ pub mod Groups
 pub mod Keeps
 pub mod Keys
 pub mod Mails
+pub mod MailLemmas
 pub mod Mark
 pub mod MarkSteps
 pub mod Moves
@@ -27,6 +29,7 @@ pub mod Pending
 pub mod Plays
 pub mod Premise
 pub mod Proper
+pub mod Refutations
 pub mod RoleLists
 pub mod Roles
 pub mod Settlements

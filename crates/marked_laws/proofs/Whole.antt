@@ -19,11 +19,12 @@ use Rattle.dpoc_process.specs.Steps.{Deed, Decision, ended, is_offered, step}
 use Rattle.global_steps.specs.Follow.{answer_of, play}
 use Rattle.marked_laws.specs.Laws.{IsSound, Simulation, Settlement, UniqueKeys, Progress, NothingLeft, distinct_keys, taken_keys}
 use Rattle.marked_laws.specs.Network.{Network, decision, given_at, pending_at, no_message, network_start, network_run, network_ended}
+use Rattle.marked_laws.specs.Offers.{distinct_acts, DistinctOffers}
 use Rattle.marked_laws.proofs.Choices.{cast_unique, sound_answers}
 use Rattle.marked_laws.proofs.Constructs.{leader, whole, follows}
 use Rattle.marked_laws.proofs.Ends.{place_follower, all_over, no_mail}
 use Rattle.marked_laws.proofs.Gates.{outsider, outsider_waits, before_out, leader_in}
-use Rattle.marked_laws.proofs.Keys.{few_takes}
+use Rattle.marked_laws.proofs.Keys.{few_offers, few_takes}
 use Rattle.marked_laws.proofs.Mark.{Mark, Still, Flying, Over, First, Second, Both, Held, Spent, mail, place, Fine}
 use Rattle.marked_laws.proofs.Norm.{ended_alike, offers_alike, alike_step}
 use Rattle.marked_laws.proofs.Pending.{queued, no_loads, pending_is, pending_distinct}
@@ -111,6 +112,11 @@ module _ (known : Known) where
         λ q. ap (λ acts. distinct_keys (taken_keys acts)) (offers_alike q (N.processes q) (place b.cast parts.0 q) ((parts.1).places q))
             ∙ few_takes b.cast parts.0 (parts.1).fine q,
       )
+
+  pub distinct_offers : DistinctOffers
+  distinct_offers b H N sound h q =
+      let parts = explained b H N sound h in
+      ap distinct_acts (offers_alike q (N.processes q) (place b.cast parts.0 q) ((parts.1).places q)) ∙ few_offers b.cast parts.0 (parts.1).fine q
 
   pub nothing_left : NothingLeft
   nothing_left b H N sound h all =

@@ -1,2 +1,5 @@
 pub mod Laws
+pub mod MailLaws
 pub mod Network
+pub mod Offers
+pub mod RunLaws

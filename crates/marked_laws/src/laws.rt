@@ -4,6 +4,8 @@
 ghost use Rattle.connectedness.specs.Laws.{RolesAtEnds, StampedConnected};
 ghost use Rattle.dioc_terms.specs.TermLaws.{MentionsAreRoles, CastsAreRoles, StampedBodies};
 ghost use Rattle.marked_laws.specs.Laws.{Simulation, Settlement, UniqueKeys, Progress, NothingLeft};
+ghost use Rattle.marked_laws.specs.Offers.{DistinctOffers};
+ghost use Rattle.marked_laws.specs.RunLaws.{Extensions};
 
 /// What the crates below prove of terms, together.
 fn known()
@@ -43,6 +45,13 @@ pub fn unique_keys()
     known();
 }
 
+/// A law: in every network of a run no act stands twice in what a role offers. It does nothing.
+pub fn distinct_offers()
+    ensures { DistinctOffers }
+{
+    known();
+}
+
 /// A law: a network that has not ended has a step of a role. It does nothing.
 pub fn progress()
     ensures { Progress }
@@ -56,3 +65,9 @@ pub fn nothing_left()
 {
     known();
 }
+
+/// A law: a run of two histories, one after the other, is a run of the second after one of the first, and a prefix of a run is a run.
+/// It does nothing.
+pub fn runs_extend()
+    ensures { Extensions }
+{}

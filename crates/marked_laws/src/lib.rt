@@ -2,5 +2,9 @@
 #![tactic(auto)]
 
 mod laws;
+mod mail_laws;
 
-pub use laws::{nothing_left, progress, settlement, simulation, unique_keys};
+pub use laws::{
+    distinct_offers, nothing_left, progress, runs_extend, settlement, simulation, unique_keys,
+};
+pub use mail_laws::mail_is_a_map;

@@ -1,2 +1,6 @@
 //! What each role does of a choreography.
 #![tactic(auto)]
+
+mod laws;
+
+pub use laws::outsiders_have_ended;
