@@ -1,3 +1,4 @@
+pub mod Accepted
 mod ExampleRuns
 pub mod Examples
 pub mod Interaction
