@@ -1,5 +1,5 @@
 -- A bundle without a refusal has no unknown role, no message of a role to itself, and no gap: it is sound.
-use Rattle.std.proofs.Common.{◌≡◌, ℕ, suc, List, [], ◌∷◌, Bool, true, false, not, Option, Some, None, All, length, map, refl, sym, ap, ◌∙◌, subst}
+use Rattle.std.proofs.Common.{◌≡◌, ℕ, suc, List, [], ◌∷◌, Bool, true, false, not, Option, Some, None, All, length, map, refl, sym, ◌∙◌, subst}
 use Rattle.std.specs.Prelude.{find}
 use Rattle.std.specs.List.{list_all}
 use Rattle.std.proofs.lemmas.List.Elements.{All-nil, All-cons}
@@ -11,17 +11,17 @@ use Rattle.dioc_terms.specs.declared.bundles.Bundle.{Bundle}
 use Rattle.dioc_terms.specs.Equality.{member}
 use Rattle.dioc_terms.specs.Rules.{opening_book}
 use Rattle.dioc_terms.specs.TermLaws.{MentionsAreRoles, CastsAreRoles}
-use Rattle.dioc_terms.specs.Terms.{Term, term, mentions, self_messages, is_in, nodes}
+use Rattle.dioc_terms.specs.Terms.{Term, term, mentions, self_messages, nodes}
 use Rattle.connectedness.specs.Connected.{Gap, first_gap}
 use Rattle.connectedness.specs.Laws.{GapsAreFound, HasRoles}
-use Rattle.marked_laws.specs.Laws.{IsSoundTerm, IsSoundRule, IsSound}
+use Rattle.marked_laws.specs.Laws.{IsSoundTerm, IsSoundRule}
 use Rattle.marked_laws.proofs.Premise.{all_member}
 use Rattle.net_core.specs.declared.refusals.Refusal.{Refusal}
 use Rattle.net_core.specs.declared.refusals.Refusal.TheVariants.{UnknownRole, SelfMessage, Unlinked}
 use Rattle.net_core.specs.declared.refusals.Where.{Where}
 use Rattle.net_core.specs.declared.refusals.Where.TheVariants as place
 use Rattle.net_core.specs.declared.refusals.Which.TheVariants.{Nodes, Roles, Rules, Changes}
-use Rattle.net_core.specs.Refusals.{first_refusal, too_many, most_alive, unknown_role, self_message, unlinked, body_too_big, rule_refusal, rules_refusal, IsAccepted}
+use Rattle.net_core.specs.Refusals.{first_refusal, too_many, most_alive, unknown_role, self_message, unlinked, body_too_big, rule_refusal, rules_refusal}
 use Rattle.net_core.specs.Laws.{AcceptedIsSound}
 
 -- where the first refusal of a list is none, each test of it has none

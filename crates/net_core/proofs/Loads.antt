@@ -1,5 +1,5 @@
 -- In a reachable network each pending message carries what its tag stands for.
-use Rattle.std.proofs.Common.{◌≡◌, ◌⊎◌, List, Bool, true, Option, Some, None, refl, sym, ap, ◌∙◌, subst, inl, inr, ⊎_elim}
+use Rattle.std.proofs.Common.{◌≡◌, ◌⊎◌, List, true, Option, Some, None, refl, sym, ap, ◌∙◌, subst, inl, inr, ⊎_elim}
 use Rattle.dioc_terms.specs.declared.names.Role.{Role}
 use Rattle.dioc_terms.specs.declared.processes.Key.{Key}
 use Rattle.dioc_terms.specs.declared.processes.Tag.TheVariants.{Op, Begin}

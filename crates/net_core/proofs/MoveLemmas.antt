@@ -1,5 +1,5 @@
 -- After any run of a sound bundle each move can be done, and there is one where the network has not ended.
-use Rattle.std.proofs.Common.{◌≡◌, ◌≢◌, ℕ, zero, suc, List, [], ◌∷◌, ◌++◌, Bool, true, false, ◌&&◌, ◌||◌, not, Option, Some, None, IsSome, All, slice_get, filter, map, refl, sym, ap, ◌∙◌, subst, ⊎_elim, arith}
+use Rattle.std.proofs.Common.{◌≡◌, ℕ, zero, suc, List, [], ◌∷◌, ◌++◌, Bool, true, false, ◌&&◌, not, Option, Some, None, IsSome, All, slice_get, filter, map, refl, sym, ap, ◌∙◌, subst, ⊎_elim, arith}
 use Rattle.std.specs.Prelude.{flat_map, is_some, if◌then◌else◌}
 use Rattle.std.proofs.lemmas.Bool.{and_parts, or_left, or_right, or_cases, cond-true, cond-false, both_ways}
 use Rattle.std.proofs.lemmas.List.Elements.{All-nil, All-cons}
@@ -11,22 +11,22 @@ use Rattle.dioc_terms.specs.declared.entries.Act.TheVariants as act
 use Rattle.dioc_terms.specs.declared.entries.Entry.{Entry}
 use Rattle.dioc_terms.specs.declared.bundles.Bundle.{Bundle}
 use Rattle.dioc_terms.specs.Equality.{role_eq, member, act_eq}
-use Rattle.dioc_terms.specs.Messages.{doer, act_of}
+use Rattle.dioc_terms.specs.Messages.{act_of}
 use Rattle.dioc_terms.specs.Moves.{Move as Step, Stuck, Does}
 use Rattle.dioc_terms.specs.Processes.{Process, Load}
 use Rattle.dioc_terms.specs.Terms.{term as term_of}
 use Rattle.dpoc_process.specs.Laws.{given_fits, is_done, load_fits, OffersAreSteps}
 use Rattle.dpoc_process.specs.Steps.{Deed, Puts, Takes, Sets, Inputs, Picks, Chooses, Given, Nil, Got, Decision, entry_of, offers, is_offered, step}
 use Rattle.global_steps.specs.Follow.{answer_of}
-use Rattle.marked_laws.specs.Laws.{IsSound, HasStep, Progress}
-use Rattle.marked_laws.specs.Network.{Network, Outcome, decision, given_at, pending_at, act_step, change_step, network_start, network_run, network_ended}
+use Rattle.marked_laws.specs.Laws.{IsSound, HasStep}
+use Rattle.marked_laws.specs.Network.{Network, Outcome, decision, given_at, pending_at, act_step, network_start, network_run, network_ended}
 use Rattle.marked_laws.proofs.Acts.{step_act}
 use Rattle.marked_laws.proofs.Choices.{cast_unique, sound_answers}
 use Rattle.marked_laws.proofs.Equality.{role_same, act_same, act_itself}
 use Rattle.marked_laws.proofs.Found.{found}
 use Rattle.marked_laws.proofs.Mails.{MailFits, mail_fits}
 use Rattle.marked_laws.proofs.Mark.{Mark, Still, mail, place}
-use Rattle.marked_laws.proofs.MarkSteps.{Steps, doer_of, given_by}
+use Rattle.marked_laws.proofs.MarkSteps.{doer_of, given_by}
 use Rattle.marked_laws.proofs.Networks.{deed_outcome, given_same}
 use Rattle.marked_laws.proofs.Norm.{alike_step}
 use Rattle.marked_laws.proofs.Pending.{pending_is}
@@ -108,7 +108,7 @@ module _ (offered_steps : OffersAreSteps) (b : Bundle) (N : Network) (pending : 
       by_test : (t : Bool) → is_ready N a ≡ t → EachDone b N (map (move.Act q) (filter (is_ready N) acts)) → EachDone b N (map (move.Act q) (filter (is_ready N) (a ∷ acts)))
       by_test true ready rest =
           subst (λ l. EachDone b N (map (move.Act q) l)) (sym (cond-true (is_ready N a) (a ∷ filter (is_ready N) acts) (filter (is_ready N) acts) ready))
-            (act_done q a (offered a (or_left (act_eq a a) (is_offered a acts) (act_itself a))) ready, rest)
+          (act_done q a (offered a (or_left (act_eq a a) (is_offered a acts) (act_itself a))) ready, rest)
       by_test false waits rest =
           subst (λ l. EachDone b N (map (move.Act q) l)) (sym (cond-false (is_ready N a) (a ∷ filter (is_ready N) acts) (filter (is_ready N) acts) waits)) rest
 
@@ -197,11 +197,11 @@ module _ (known : Known) (b : Bundle) (sound : IsSound b) where
         let decide : ScopeHead → Decision = λ head. decision b.cast N.updates head (answer_of b.rules N.book head (N.stores q)) in
         let did = outcome_deed N q (step q (N.stores q) (N.processes q) a (given_at b N q a)) outcome h in
         let steps : step q (N.stores q) (N.processes q) a (given_by mails decide a) ≡ Does did.0 did.1 =
-            ap (step q (N.stores q) (N.processes q) a) (sym (given_same b N q a)) ∙ did.2 in
+        ap (step q (N.stores q) (N.processes q) a) (sym (given_same b N q a)) ∙ did.2 in
         let alike = alike_step q (N.stores q) a (given_by mails decide a) (N.processes q) (place b.cast M q) (marks.places q) steps in
         let here = found b.cast N.stores (answers_in b N) N.updates (cast_unique known b sound) M marks.fine mails decide q
-            (λ j at. pending_mail j)
-            (λ head is. ap (λ r. decision b.cast N.updates head (answer_of b.rules N.book head (N.stores r))) (sym is)) a alike.1 in
+        (λ j at. pending_mail j)
+        (λ head is. ap (λ r. decision b.cast N.updates head (answer_of b.rules N.book head (N.stores r))) (sym is)) a alike.1 in
         record {
           deed = did.0;
           entry = did.3;
@@ -223,4 +223,4 @@ module _ (known : Known) (b : Bundle) (sound : IsSound b) where
     has_move next = has_right (if change_due b.script N.changes N.visible && not (network_ended b N) then move.Change ∷ [] else [])
         (flat_map (role_moves N) b.cast)
         (role_listed N next.role b.cast next.in_cast
-          (act_listed N next.role next.act (offers next.role (N.processes next.role)) (ready_step next.role next.act next.defined) next.offered))
+        (act_listed N next.role next.act (offers next.role (N.processes next.role)) (ready_step next.role next.act next.defined) next.offered))

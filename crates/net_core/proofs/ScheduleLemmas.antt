@@ -1,6 +1,6 @@
 -- A schedule's entries are a run, up to an end or the limit.
-use Rattle.std.proofs.Common.{◌≡◌, ◌≢◌, ◌⊎◌, ℕ, zero, suc, ◌+◌, ◌-◌, ◌%◌, ◌/◌, ◌^◌, ◌<◌, ◌≤◌, List, [], ◌∷◌, ◌++◌, length, Bool, true, false, Option, Some, None, IsSome, slice_get, refl, sym, ap, ap₂, ◌∙◌, subst, inl, inr, ⊎_elim, arith, length-append}
-use Rattle.std.specs.Prelude.{option_and_then, if◌then◌else◌}
+use Rattle.std.proofs.Common.{◌≡◌, ◌⊎◌, ℕ, zero, suc, ◌+◌, ◌-◌, ◌%◌, ◌/◌, ◌^◌, ◌<◌, ◌≤◌, List, [], ◌∷◌, ◌++◌, length, Bool, true, false, Option, Some, None, refl, sym, ap, ap₂, ◌∙◌, subst, inl, inr, ⊎_elim, arith, length-append}
+use Rattle.std.specs.Prelude.{option_and_then}
 use Rattle.std.specs.Option.{option_map_or}
 use Rattle.std.proofs.lemmas.Bool.{cond-true, cond-false}
 use Rattle.dioc_terms.specs.declared.names.Role.{Role}
@@ -8,9 +8,8 @@ use Rattle.dioc_terms.specs.declared.entries.Act.{Act}
 use Rattle.dioc_terms.specs.declared.entries.Entry.{Entry}
 use Rattle.dioc_terms.specs.declared.bundles.Bundle.{Bundle}
 use Rattle.dioc_terms.specs.Equality.{entry_eq}
-use Rattle.dioc_terms.specs.Messages.{visible, doer, act_of}
+use Rattle.dioc_terms.specs.Messages.{doer, act_of}
 use Rattle.dpoc_process.specs.Laws.{OffersAreSteps}
-use Rattle.dpoc_process.specs.Steps.{entry_of}
 use Rattle.marked_laws.specs.Laws.{IsSound, Progress, Simulation}
 use Rattle.marked_laws.specs.Network.{Network, Outcome, act_step, change_step, network_after, network_step, run_from, network_run, network_ended}
 use Rattle.marked_laws.proofs.Equality.{entry_itself}
@@ -108,8 +107,8 @@ module _ (known : Known) (progress : Progress) (offered_steps : OffersAreSteps) 
           let next = next_of H N seed h goes in
           let rest = more next.outcome (run_append b _ H (next.outcome.entry ∷ []) N h ∙ ap (option_and_then (λ n. Some n)) next.steps) in
           let entries : continued b seed (suc count) N ≡ next.outcome.entry ∷ continued b (next_seed seed) count next.outcome.network =
-              cond-false (network_ended b N) [] _ goes
-              ∙ ap (λ o. option_map_or (λ (outcome : Outcome). outcome.entry ∷ continued b (next_seed seed) count outcome.network) o []) next.takes in
+          cond-false (network_ended b N) [] _ goes
+          ∙ ap (λ o. option_map_or (λ (outcome : Outcome). outcome.entry ∷ continued b (next_seed seed) count outcome.network) o []) next.takes in
           subst (Onward b N (suc count)) (sym entries) (record {
             network = rest.network;
             runs = ap (option_and_then (λ n. run_from b n (continued b (next_seed seed) count next.outcome.network))) next.steps ∙ rest.runs;
@@ -132,10 +131,10 @@ module _ (known : Known) (progress : Progress) (offered_steps : OffersAreSteps) 
       let sound = accepted_sound b accepted in
       let far = onward known progress offered_steps b sound (limit - length H) seed H N h in
       let entries : sched_from b H seed limit ≡ H ++ continued b seed (limit - length H) N =
-          ap (λ o. H ++ option_map_or (continued b seed (limit - length H)) o []) h in
+      ap (λ o. H ++ option_map_or (continued b seed (limit - length H)) o []) h in
       let runs : network_run b (H ++ continued b seed (limit - length H) N) ≡ Some far.network = run_append b _ H (continued b seed (limit - length H) N) N h ∙ far.runs in
       let longer : length (H ++ continued b seed (limit - length H) N) ≡ length H + length (continued b seed (limit - length H) N) =
-          length-append H (continued b seed (limit - length H) N) in
+      length-append H (continued b seed (limit - length H) N) in
       subst (Arrives b limit) (sym entries) (record {
         network = far.network;
         runs = runs;

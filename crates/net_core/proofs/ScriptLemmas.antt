@@ -1,5 +1,5 @@
 -- A change that is due can be done: each rule that the script adds is there.
-use Rattle.std.proofs.Common.{◌≡◌, ℕ, zero, suc, ◌+◌, ◌-◌, ◌<◌, ◌≤◌, List, [], ◌∷◌, length, Bool, true, false, Option, Some, None, IsSome, slice_get, refl, sym, ap, ◌∙◌, subst, arith}
+use Rattle.std.proofs.Common.{◌≡◌, ℕ, zero, suc, ◌+◌, ◌-◌, ◌<◌, ◌≤◌, List, [], ◌∷◌, length, true, false, Option, Some, None, IsSome, slice_get, refl, sym, ap, ◌∙◌, subst, arith}
 use Rattle.std.specs.Prelude.{nat_le, option_map}
 use Rattle.std.specs.Option.{option_map_or}
 use Rattle.std.proofs.lemmas.Bool.{cond-true}
@@ -67,11 +67,11 @@ pub change_steps : (b : Bundle) (N : Network) → IsFormed b → change_due b.sc
 change_steps b N formed due =
     let next = due_some (slice_get b.script N.changes) N.visible due in
     let below : AllBelow (length b.rules) (adds b.script) =
-        subst (AllBelow (length b.rules)) (sym formed.added) (numbers_below b.opening (length b.rules - b.opening) (length b.rules) (omega (arith, formed.opening))) in
+    subst (AllBelow (length b.rules)) (sym formed.added) (numbers_below b.opening (length b.rules - b.opening) (length b.rules) (omega (arith, formed.opening))) in
     let shown = change_shown b.rules (next.0).change (script_within (length b.rules) b.script N.changes next.0 below next.1) in
     let is : script_outcome b N (slice_get b.script N.changes) ≡ Some (record { entry = shown.0; network = after_change b N next.0 }) =
-        ap (script_outcome b N) next.1 ∙ ap (entry_outcome b N next.0) shown.1
-        ∙ cond-true (nat_le (next.0).after N.visible) (Some (record { entry = shown.0; network = after_change b N next.0 })) None next.2 in
+    ap (script_outcome b N) next.1 ∙ ap (entry_outcome b N next.0) shown.1
+    ∙ cond-true (nat_le (next.0).after N.visible) (Some (record { entry = shown.0; network = after_change b N next.0 })) None next.2 in
     subst (λ (o : Option Outcome). IsSome o) (sym is) refl
 
 change_nobody : (rules : List Rule) (c : Change) (e : Entry) → change_entry rules c ≡ Some e → doer e ≡ None
