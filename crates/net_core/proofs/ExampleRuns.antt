@@ -1,8 +1,7 @@
 -- Runs of each construct, computed: a loop of two turns, a choice, a scope that keeps its body, updates in the middle of a run, named
 -- roles and priorities; and entries that must be refused.
-use Rattle.std.proofs.Common.{◌≡◌, ℕ, List, [], ◌∷◌, ◌++◌, Bool, true, false, Option, Some, None, refl, pos, length}
-use Rattle.std.specs.Prelude.{codes, option_map, is_some, filter, take}
-use Rattle.dioc_terms.specs.declared.names.Role.{Role}
+use Rattle.std.proofs.Common.{◌≡◌, ℕ, List, [], ◌∷◌, ◌++◌, Bool, true, false, Some, None, refl, pos, length}
+use Rattle.std.specs.Prelude.{codes, take}
 use Rattle.dioc_terms.specs.declared.values.Value.{Value}
 use Rattle.dioc_terms.specs.declared.values.Value.TheVariants as value
 use Rattle.dioc_terms.specs.declared.expressions.Oper.TheVariants as oper
@@ -15,12 +14,12 @@ use Rattle.dioc_terms.specs.declared.bundles.Rule.{Rule}
 use Rattle.dioc_terms.specs.declared.bundles.Change.TheVariants as change
 use Rattle.dioc_terms.specs.declared.bundles.Timed.{Timed}
 use Rattle.dioc_terms.specs.declared.bundles.Bundle.{Bundle}
-use Rattle.dioc_terms.specs.Expressions.{Expression, Const, Var, Prop, Env, Not, Neg, Bin}
+use Rattle.dioc_terms.specs.Expressions.{Expression, Const, Var, Prop, Env, Bin}
 use Rattle.dioc_terms.specs.Messages.{visible}
-use Rattle.dioc_terms.specs.Terms.{Term, Skip, Com, Set, Input, Seq, Par, If, While, Scope, marked, cast_of}
+use Rattle.dioc_terms.specs.Terms.{Term, Skip, Com, Set, Seq, Par, If, While, Scope, marked, cast_of}
 use Rattle.global_steps.specs.Follow.{play, stray}
 use Rattle.marked_laws.specs.Network.{network_run}
-use Rattle.net_core.specs.declared.refusals.Refusal.TheVariants.{SelfMessage, Unlinked, UnknownRole}
+use Rattle.net_core.specs.declared.refusals.Refusal.TheVariants.{SelfMessage, Unlinked}
 use Rattle.net_core.specs.declared.refusals.Where.TheVariants as place
 use Rattle.net_core.specs.Refusals.{refusal}
 use Rattle.net_core.specs.Schedule.{sched}
@@ -48,7 +47,7 @@ o = codes "o"
 abbrev two_turns : Term
 two_turns = Seq (Set unmarked n (role a) (Const (int 0)))
     (While unmarked (role a) (Bin oper.Lt (Var n) (Const (int 2)))
-      (Seq (Com unmarked o (role a) (Var n) (role b) x) (Set unmarked n (role a) (Bin oper.Add (Var n) (Const (int 1))))))
+    (Seq (Com unmarked o (role a) (Var n) (role b) x) (Set unmarked n (role a) (Bin oper.Add (Var n) (Const (int 1))))))
 
 abbrev set_n : ℕ → ℕ → Entry
 set_n i v = entry.Set (at 0 i) (role a) n (int v)
@@ -116,8 +115,17 @@ rule_of p name priority condition body =
 
 -- a program with rules, the first so many of them opening, an environment and a script
 abbrev program_with : Place → ℕ → Term → List Rule → ℕ → List (List ℕ × Value) → List Timed → Bundle
-program_with p version I rules opening env script = record { version = version; cast = cast_of I; choreo = choreo_at p (marked I); rules = rules;
-  opening = opening; env = env; inputs = []; script = script; trace = record { entries = []; last = None } }
+program_with p version I rules opening env script = record {
+  version = version;
+  cast = cast_of I;
+  choreo = choreo_at p (marked I);
+  rules = rules;
+  opening = opening;
+  env = env;
+  inputs = [];
+  script = script;
+  trace = record { entries = []; last = None };
+}
 
 -- buyer and seller
 abbrev buyer : List ℕ
@@ -135,9 +143,9 @@ offer_of v = Seq (Set unmarked price (role seller) (Const (int v))) (Com unmarke
 abbrev trade : Term
 trade = Seq (Set unmarked n (role buyer) (Const (int 0)))
     (While unmarked (role buyer) (Bin oper.Lt (Var n) (Const (int 2)))
-      (Seq (Com unmarked (codes "ask") (role buyer) (Var n) (role seller) (codes "item"))
-        (Seq (Scope unmarked (role seller) (offer_of 100) [] ((codes "name", value.Text (codes "offer")) ∷ []) 0)
-          (Set unmarked n (role buyer) (Bin oper.Add (Var n) (Const (int 1)))))))
+    (Seq (Com unmarked (codes "ask") (role buyer) (Var n) (role seller) (codes "item"))
+    (Seq (Scope unmarked (role seller) (offer_of 100) [] ((codes "name", value.Text (codes "offer")) ∷ []) 0)
+    (Set unmarked n (role buyer) (Bin oper.Add (Var n) (Const (int 1)))))))
 
 abbrev cheap : Place → Rule
 cheap p = rule_of p (codes "cheap") 0
@@ -191,8 +199,8 @@ named-role p = refl
 -- the first of the rules with the greatest priority is chosen
 greatest-priority : (p : Place) → sched (program_with p 2 (Scope unmarked (role a) (Set unmarked x (role a) (Const (int 0))) [] ((codes "k", int 1) ∷ []) 0)
     (rule_of p (codes "p") 0 (Const (value.Bool true)) (Set unmarked x (role a) (Const (int 1))) ∷
-     rule_of p (codes "q") 5 (Const (value.Bool true)) (Set unmarked x (role a) (Const (int 2))) ∷
-     rule_of p (codes "s") 5 (Const (value.Bool true)) (Set unmarked x (role a) (Const (int 3))) ∷ []) 3 [] []) None 20000 ≡
+    rule_of p (codes "q") 5 (Const (value.Bool true)) (Set unmarked x (role a) (Const (int 2))) ∷
+    rule_of p (codes "s") 5 (Const (value.Bool true)) (Set unmarked x (role a) (Const (int 3))) ∷ []) 3 [] []) None 20000 ≡
     entry.Scope (at 0 0) (role a) (chosen.Rule (codes "q") 1) ∷ entry.Set (at 1 0) (role a) x (int 2) ∷ []
 greatest-priority p = refl
 

@@ -1,31 +1,25 @@
 -- Small bundles, for whose runs the definitions are computed.
-use Rattle.std.proofs.Common.{◌≡◌, ℕ, List, [], ◌∷◌, ◌++◌, Bool, true, false, Option, Some, None, refl, pos, length}
-use Rattle.std.specs.Prelude.{codes, option_map, is_some}
+use Rattle.std.proofs.Common.{◌≡◌, ℕ, List, [], ◌∷◌, Bool, true, Option, Some, None, refl, pos}
+use Rattle.std.specs.Prelude.{codes, option_map}
 use Rattle.std.specs.declared.boxed.Box.{Box}
 use Rattle.std.specs.declared.alloc.Global.{Global}
 use Rattle.dioc_terms.specs.declared.names.Role.{Role}
 use Rattle.dioc_terms.specs.declared.names.Index.{Index}
 use Rattle.dioc_terms.specs.declared.values.Value.{Value}
 use Rattle.dioc_terms.specs.declared.values.Value.TheVariants as value
-use Rattle.dioc_terms.specs.declared.expressions.Oper.TheVariants as oper
 use Rattle.dioc_terms.specs.declared.expressions.Expr.{Expr}
 use Rattle.dioc_terms.specs.declared.expressions.Expr as expr
 use Rattle.dioc_terms.specs.declared.choreographies.Choreo.{Choreo}
 use Rattle.dioc_terms.specs.declared.choreographies.Choreo as choreo
 use Rattle.dioc_terms.specs.declared.processes.Tag.{Tag}
-use Rattle.dioc_terms.specs.declared.processes.Tag.TheVariants.{Op, Choice, Go, Turn, Begin, End, Out}
+use Rattle.dioc_terms.specs.declared.processes.Tag.TheVariants.{Op}
 use Rattle.dioc_terms.specs.declared.entries.Note.{Note}
 use Rattle.dioc_terms.specs.declared.entries.Note.TheVariants as note
-use Rattle.dioc_terms.specs.declared.entries.Chosen.TheVariants as chosen
 use Rattle.dioc_terms.specs.declared.entries.Entry.{Entry}
 use Rattle.dioc_terms.specs.declared.entries.Entry.TheVariants as entry
-use Rattle.dioc_terms.specs.declared.bundles.Rule.{Rule}
-use Rattle.dioc_terms.specs.declared.bundles.Change.TheVariants as change
-use Rattle.dioc_terms.specs.declared.bundles.Timed.{Timed}
 use Rattle.dioc_terms.specs.declared.bundles.Bundle.{Bundle}
 use Rattle.dioc_terms.specs.Expressions.{Expression, Const, Var, Prop, Env, Not, Neg, Bin}
-use Rattle.dioc_terms.specs.Messages.{visible}
-use Rattle.dioc_terms.specs.Terms.{Term, Skip, Com, Set, Input, Seq, Par, If, While, Scope, cast_of, marked, mark_at}
+use Rattle.dioc_terms.specs.Terms.{Term, Skip, Com, Set, Input, Seq, Par, If, While, Scope, cast_of, marked}
 use Rattle.global_steps.specs.Running as running
 use Rattle.global_steps.specs.Follow.{State, play, stray}
 use Rattle.marked_laws.specs.Network.{Network, network_run, network_ended}
@@ -58,8 +52,17 @@ choreo_at p (Scope i r I extra props level) = choreo.Scope' i r p (choreo_at p I
 
 -- a bundle of a choreography alone, with the marks of its text
 abbrev pub program : Place → Term → Bundle
-program p I = record { version = 1; cast = cast_of I; choreo = choreo_at p (marked I); rules = []; opening = 0; env = []; inputs = [];
-  script = []; trace = record { entries = []; last = None } }
+program p I = record {
+  version = 1;
+  cast = cast_of I;
+  choreo = choreo_at p (marked I);
+  rules = [];
+  opening = 0;
+  env = [];
+  inputs = [];
+  script = [];
+  trace = record { entries = []; last = None };
+}
 
 abbrev pub role : List ℕ → Role
 role name = record { 0 = name }

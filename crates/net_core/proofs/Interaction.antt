@@ -1,39 +1,34 @@
 -- The runs of a bundle of one interaction, computed over variables: the networks before the put, between put and take, and after it.
-use Rattle.std.proofs.Common.{◌≡◌, ℕ, suc, List, [], ◌∷◌, ◌++◌, Bool, true, false, Option, Some, None, refl, sym, ap, ◌∙◌, subst, length, arith, rules, cond, not, ◌&&◌, ◌||◌}
-use Rattle.std.specs.Prelude.{◌-◌, ◌<◌, ◌≤◌, is_some, flat_map, filter, map, option_to_list, if◌then◌else◌}
+use Rattle.std.proofs.Common.{◌≡◌, ℕ, List, [], ◌∷◌, ◌++◌, Bool, true, false, Some, refl, sym, ◌∙◌, subst, not, ◌&&◌}
+use Rattle.std.specs.Prelude.{flat_map, option_to_list, if◌then◌else◌}
 use Rattle.std.specs.List.{list_all}
 use Rattle.dioc_terms.specs.declared.names.Role.{Role}
 use Rattle.dioc_terms.specs.declared.names.Index.{Index}
 use Rattle.dioc_terms.specs.declared.values.Value.{Value}
 use Rattle.dioc_terms.specs.declared.processes.Key.{Key}
-use Rattle.dioc_terms.specs.declared.processes.Tag.{Tag}
 use Rattle.dioc_terms.specs.declared.processes.Tag.TheVariants.{Op}
-use Rattle.dioc_terms.specs.declared.entries.Act.{Act}
 use Rattle.dioc_terms.specs.declared.entries.Act.TheVariants as act
 use Rattle.dioc_terms.specs.declared.entries.Entry.{Entry}
 use Rattle.dioc_terms.specs.declared.entries.Entry.TheVariants as entry
 use Rattle.dioc_terms.specs.declared.entries.Note.TheVariants as note
 use Rattle.dioc_terms.specs.declared.bundles.Bundle.{Bundle}
-use Rattle.dioc_terms.specs.Equality.{member, role_eq, key_eq, entry_eq, act_eq}
+use Rattle.dioc_terms.specs.Equality.{role_eq, key_eq, entry_eq}
 use Rattle.dioc_terms.specs.EqualityLemmas.{role_eq-decides, key_eq-decides, entry_eq-decides}
 use Rattle.dioc_terms.specs.Expressions.{Const}
 use Rattle.dioc_terms.specs.Processes as process
 use Rattle.dioc_terms.specs.Processes.{Val}
 use Rattle.dioc_terms.specs.Stores.{set_variable}
-use Rattle.dioc_terms.specs.Terms.{Term, Com, term, cast_of}
+use Rattle.dioc_terms.specs.Terms.{Com, term, cast_of}
 use Rattle.projection.specs.Projection.{projected}
-use Rattle.dpoc_process.specs.Steps.{key, ended, offers, is_offered}
+use Rattle.dpoc_process.specs.Steps.{key, ended, offers}
 use Rattle.net_core.specs.declared.moves.Move.{Move}
 use Rattle.net_core.specs.declared.moves.Move.TheVariants as move
 use Rattle.net_core.specs.Schedule.{moves, role_moves, change_due}
 use Rattle.global_steps.specs.Follow.{updated}
-use Rattle.marked_laws.specs.Network.{Network, Outcome, act_step, network_run, network_start, network_ended, no_message}
+use Rattle.marked_laws.specs.Network.{Network, act_step, network_start, network_ended, no_message}
 use Rattle.net_core.specs.declared.network.Stage.{Stage}
 use Rattle.net_core.specs.declared.network.Stage.TheVariants.{Ready, Flying, Landed}
-use Rattle.net_core.specs.declared.network.Offer.{Offer}
-use Rattle.net_core.specs.declared.network.Offer.TheVariants as offer
-use Rattle.net_core.specs.Net.{NetState, IsNetOf, network_of, put_entry, take_entry, entries_at, move_at, offer_at}
-
+use Rattle.net_core.specs.Net.{NetState, IsNetOf, move_at}
 
 pub role_eq-refl : (q : Role) → role_eq q q ≡ true
 role_eq-refl q = (role_eq-decides q q).1 refl
@@ -56,14 +51,24 @@ abbrev pub flying : Bundle → Key → Value → Network
 flying b k v = record {
   processes = updated k.from process.Skip (network_start b).processes;
   stores = updated k.from ((network_start b).stores k.from) (network_start b).stores;
-  pending = (k, Val v) ∷ []; book = (network_start b).book; updates = 0; changes = 0; visible = 1 }
+  pending = (k, Val v) ∷ [];
+  book = (network_start b).book;
+  updates = 0;
+  changes = 0;
+  visible = 1;
+}
 
 -- the network after the take
 abbrev pub landed : Bundle → Key → Value → List ℕ → Network
 landed b k v x = record {
   processes = updated k.to process.Skip (flying b k v).processes;
   stores = updated k.to (set_variable x v ((flying b k v).stores k.to)) (flying b k v).stores;
-  pending = []; book = (network_start b).book; updates = 0; changes = 0; visible = 2 }
+  pending = [];
+  book = (network_start b).book;
+  updates = 0;
+  changes = 0;
+  visible = 2;
+}
 
 module _ (b : Bundle) (a c : Role) (i : Index) (o : List ℕ) (v : Value) (x : List ℕ)
     (is : term b.choreo ≡ Com i o a (Const v) c x) (apart : role_eq a c ≡ false) where
@@ -80,7 +85,6 @@ module _ (b : Bundle) (a c : Role) (i : Index) (o : List ℕ) (v : Value) (x : L
   take_step-key : act_step b (flying b (key a c i (Op o)) v) c (act.Take (key a c i (Op o)))
       ≡ Some (record { entry = entry.Take (key a c i (Op o)) (Some x); network = landed b (key a c i (Op o)) v x })
   take_step-key = rw (key_eq-refl (key a c i (Op o))) (rw (role_eq-sym a c apart) (rw receiver (rw (key_eq-refl (key a c i (Op o))) (rw (key_eq-refl (key a c i (Op o))) (rw (role_eq-sym a c apart) refl)))))
-
 
 -- the network by how far the interaction has come
 abbrev pub network_at : Bundle → Key → Value → List ℕ → Stage → Network
@@ -105,7 +109,7 @@ moves_by : (b : Bundle) (N : Network) (roles : List Role) {found : List Move} �
     → flat_map (role_moves N) roles ≡ found → moves b N ≡ found
 moves_by b N roles {found} no_script e h =
     subst (λ script. (if change_due script N.changes N.visible && not (network_ended b N) then move.Change ∷ [] else []) ++ flat_map (role_moves N) b.cast ≡ found)
-      (sym no_script) (subst (λ qs. flat_map (role_moves N) qs ≡ found) (sym e) h)
+    (sym no_script) (subst (λ qs. flat_map (role_moves N) qs ≡ found) (sym e) h)
 
 -- all that a bundle of one interaction of this key does
 pub record Computes (b : Bundle) (k : Key) (v : Value) (x : List ℕ) : Type 0 where
@@ -154,13 +158,21 @@ module _ (b : Bundle) (a c : Role) (i : Index) (o : List ℕ) (v : Value) (x : L
 
   computes-key : Computes b (key a c i (Op o)) v x
   computes-key = record {
-    put_step = put_step-key b a c i o v x is apart; take_step = take_step-key b a c i o v x is apart; ended = ended-key; moves = moves-key;
-    two_roles = two_roles; sends = sends; waits = waits; sent = sent; receives = receives }
+    put_step = put_step-key b a c i o v x is apart;
+    take_step = take_step-key b a c i o v x is apart;
+    ended = ended-key;
+    moves = moves-key;
+    two_roles = two_roles;
+    sends = sends;
+    waits = waits;
+    sent = sent;
+    receives = receives;
+  }
 
 -- a net of a bundle computes so
 pub computes : (b : Bundle) (net : NetState) → IsNetOf b net → Computes b net.key net.value net.variable
 computes b net is =
     let key_is : key net.key.from net.key.to net.key.index (Op is.operation) ≡ net.key =
-          λ j. record { from = net.key.from; to = net.key.to; index = net.key.index; tag = sym is.tag j } in
+    λ j. record { from = net.key.from; to = net.key.to; index = net.key.index; tag = sym is.tag j } in
     subst (λ k. Computes b k net.value net.variable) key_is
-      (computes-key b net.key.from net.key.to net.key.index is.operation net.value net.variable is.choreo is.supported.cast is.supported.script is.apart)
+    (computes-key b net.key.from net.key.to net.key.index is.operation net.value net.variable is.choreo is.supported.cast is.supported.script is.apart)

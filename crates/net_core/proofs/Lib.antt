@@ -1,6 +1,11 @@
+pub mod Accepted
 mod ExampleRuns
 pub mod Examples
 pub mod Interaction
+pub mod Loads
+pub mod MoveLemmas
 pub mod NetLemmas
 pub mod RefusalLemmas
 pub mod RunLemmas
+pub mod ScheduleLemmas
+pub mod ScriptLemmas

@@ -1,5 +1,5 @@
 -- What a net of a bundle of one interaction stands for, and which fault a step of it has.
-use Rattle.std.proofs.Common.{◌≡◌, ◌≢◌, ℕ, suc, List, [], ◌∷◌, ◌++◌, Bool, true, false, Option, Some, None, refl, sym, ap, ◌∙◌, subst, length, arith, length-append, rules, cond, not, ◌&&◌, ◌||◌, ◌≤◌, leb, ltb, ◌<◌, ⊎_elim, inl, inr, ◌⊎◌}
+use Rattle.std.proofs.Common.{◌≡◌, ◌≢◌, ℕ, List, [], ◌∷◌, ◌++◌, Bool, true, false, Some, refl, sym, ap, ◌∙◌, subst, length, arith, length-append, ◌&&◌, ◌||◌, ◌≤◌, ◌<◌}
 use Rattle.std.proofs.lemmas.Bool.{lt-leb}
 use Rattle.std.specs.Prelude.{if◌then◌else◌, nat_le, unwrap_or}
 use Rattle.dioc_terms.specs.declared.names.Role.{Role}
@@ -8,12 +8,11 @@ use Rattle.dioc_terms.specs.declared.entries.Act.{Act}
 use Rattle.dioc_terms.specs.declared.entries.Act.TheVariants as act
 use Rattle.dioc_terms.specs.declared.entries.Entry.{Entry}
 use Rattle.dioc_terms.specs.declared.bundles.Bundle.{Bundle}
-use Rattle.dioc_terms.specs.Equality.{member, role_eq, key_eq, act_eq, entry_eq}
+use Rattle.dioc_terms.specs.Equality.{member, role_eq, key_eq}
 use Rattle.dioc_terms.specs.EqualityLemmas.{role_eq-decides, key_eq-decides}
 use Rattle.dpoc_process.specs.Steps.{offers, is_offered}
-use Rattle.marked_laws.specs.Network.{Network, Outcome, act_step, network_run, network_start, network_ended}
-use Rattle.net_core.specs.declared.moves.StepFault.{StepFault}
-use Rattle.net_core.specs.declared.moves.StepFault.TheVariants.{Ended, Full, NoAct, NotYet}
+use Rattle.marked_laws.specs.Network.{Network, act_step, network_run, network_start, network_ended}
+use Rattle.net_core.specs.declared.moves.StepFault.TheVariants.{NoAct}
 use Rattle.net_core.specs.declared.network.Stage.{Stage}
 use Rattle.net_core.specs.declared.network.Stage.TheVariants.{Ready, Flying, Landed}
 use Rattle.net_core.specs.declared.network.Offer.{Offer}
@@ -55,14 +54,14 @@ is_put k Ready q (act.Put j) e =
     (refl, (role_eq-decides q k.from).0 both.0, ap act.Put ((key_eq-decides j k).0 both.1))
 is_put k Ready q (act.Take j) e = absurd (no_put (role_eq q k.to && key_eq j k) e)
   where
-  no_put : (t : Bool) → (if t then offer.Waiting else offer.Nothing) ≡ offer.Put → ⊥
-  no_put true h = cc
-  no_put false h = cc
+    no_put : (t : Bool) → (if t then offer.Waiting else offer.Nothing) ≡ offer.Put → ⊥
+    no_put true h = cc
+    no_put false h = cc
 is_put k Flying q (act.Take j) e = absurd (no_put (role_eq q k.to && key_eq j k) e)
   where
-  no_put : (t : Bool) → (if t then offer.Take else offer.Nothing) ≡ offer.Put → ⊥
-  no_put true h = cc
-  no_put false h = cc
+    no_put : (t : Bool) → (if t then offer.Take else offer.Nothing) ≡ offer.Put → ⊥
+    no_put true h = cc
+    no_put false h = cc
 is_put k _ q _ e = cc
 
 -- an offer to take is the receiver's take of the key while the message flies
@@ -72,14 +71,14 @@ is_take k Flying q (act.Take j) e =
     (refl, (role_eq-decides q k.to).0 both.0, ap act.Take ((key_eq-decides j k).0 both.1))
 is_take k Ready q (act.Put j) e = absurd (no_take (role_eq q k.from && key_eq j k) e)
   where
-  no_take : (t : Bool) → (if t then offer.Put else offer.Nothing) ≡ offer.Take → ⊥
-  no_take true h = cc
-  no_take false h = cc
+    no_take : (t : Bool) → (if t then offer.Put else offer.Nothing) ≡ offer.Take → ⊥
+    no_take true h = cc
+    no_take false h = cc
 is_take k Ready q (act.Take j) e = absurd (no_take (role_eq q k.to && key_eq j k) e)
   where
-  no_take : (t : Bool) → (if t then offer.Waiting else offer.Nothing) ≡ offer.Take → ⊥
-  no_take true h = cc
-  no_take false h = cc
+    no_take : (t : Bool) → (if t then offer.Waiting else offer.Nothing) ≡ offer.Take → ⊥
+    no_take true h = cc
+    no_take false h = cc
 is_take k _ q _ e = cc
 
 -- the faults of a step, by the tests that decide them
@@ -128,9 +127,19 @@ put_steps-there b net is room e =
       outcome = record { entry = put_entry net; network = flying b net.key net.value };
       no_fault = fault_is b net (network_start b) net.key.from (act.Put net.key) at (does.ended Ready) (full_is net room) (from_offers b net does) refl;
       steps = subst (λ N. act_step b N net.key.from (act.Put net.key) ≡ Some (record { entry = put_entry net; network = flying b net.key net.value })) (sym at) does.put_step;
-      history = refl; network = network_then b net does Flying (net.history ++ put_entry net ∷ []) entries; limit = refl;
-      net = record { supported = is.supported; operation = is.operation; tag = is.tag; choreo = is.choreo; apart = is.apart; history = entries;
-        within = one_more net.history (put_entry net) net.limit room } }
+      history = refl;
+      network = network_then b net does Flying (net.history ++ put_entry net ∷ []) entries;
+      limit = refl;
+      net = record {
+        supported = is.supported;
+        operation = is.operation;
+        tag = is.tag;
+        choreo = is.choreo;
+        apart = is.apart;
+        history = entries;
+        within = one_more net.history (put_entry net) net.limit room;
+      };
+    }
 
 take_steps-there : (b : Bundle) (net : NetState) → IsNetOf b net → length net.history < net.limit → net.stage ≡ Flying
     → Steps b net net.key.to (act.Take net.key) (record net { stage = Landed; history = net.history ++ take_entry net ∷ [] })
@@ -141,12 +150,22 @@ take_steps-there b net is room e =
     record {
       outcome = record { entry = take_entry net; network = landed b net.key net.value net.variable };
       no_fault = fault_is b net (flying b net.key net.value) net.key.to (act.Take net.key) at (does.ended Flying) (full_is net room) (to_offers b net does)
-        (there b net);
+          (there b net);
       steps = subst (λ N. act_step b N net.key.to (act.Take net.key) ≡ Some (record { entry = take_entry net; network = landed b net.key net.value net.variable }))
-        (sym at) does.take_step;
-      history = refl; network = network_then b net does Landed (net.history ++ take_entry net ∷ []) entries; limit = refl;
-      net = record { supported = is.supported; operation = is.operation; tag = is.tag; choreo = is.choreo; apart = is.apart; history = entries;
-        within = one_more net.history (take_entry net) net.limit room } }
+          (sym at) does.take_step;
+      history = refl;
+      network = network_then b net does Landed (net.history ++ take_entry net ∷ []) entries;
+      limit = refl;
+      net = record {
+        supported = is.supported;
+        operation = is.operation;
+        tag = is.tag;
+        choreo = is.choreo;
+        apart = is.apart;
+        history = entries;
+        within = one_more net.history (take_entry net) net.limit room;
+      };
+    }
 
 -- after a put the net stands for the network in which the message flies
 pub put_steps : (b : Bundle) (net : NetState) → IsNetOf b net → (q : Role) (a : Act) → length net.history < net.limit
@@ -154,8 +173,8 @@ pub put_steps : (b : Bundle) (net : NetState) → IsNetOf b net → (q : Role) (
 put_steps b net is q a room offered =
     let put = is_put net.key net.stage q a offered in
     subst (λ r. Steps b net r a (record net { stage = Flying; history = net.history ++ put_entry net ∷ [] })) (sym put.1)
-      (subst (λ t. Steps b net net.key.from t (record net { stage = Flying; history = net.history ++ put_entry net ∷ [] })) (sym put.2)
-        (put_steps-there b net is room put.0))
+    (subst (λ t. Steps b net net.key.from t (record net { stage = Flying; history = net.history ++ put_entry net ∷ [] })) (sym put.2)
+    (put_steps-there b net is room put.0))
 
 -- after a take the net stands for the ended network
 pub take_steps : (b : Bundle) (net : NetState) → IsNetOf b net → (q : Role) (a : Act) → length net.history < net.limit
@@ -163,8 +182,8 @@ pub take_steps : (b : Bundle) (net : NetState) → IsNetOf b net → (q : Role) 
 take_steps b net is q a room offered =
     let take = is_take net.key net.stage q a offered in
     subst (λ r. Steps b net r a (record net { stage = Landed; history = net.history ++ take_entry net ∷ [] })) (sym take.1)
-      (subst (λ t. Steps b net net.key.to t (record net { stage = Landed; history = net.history ++ take_entry net ∷ [] })) (sym take.2)
-        (take_steps-there b net is room take.0))
+    (subst (λ t. Steps b net net.key.to t (record net { stage = Landed; history = net.history ++ take_entry net ∷ [] })) (sym take.2)
+    (take_steps-there b net is room take.0))
 
 and_false : (t : Bool) → (t && false) ≡ false
 and_false true = refl
@@ -200,7 +219,7 @@ sender_offers_nothing : (b : Bundle) (net : NetState) (does : Computes b net.key
     → role_eq q net.key.from ≡ true → q ≡ net.key.from → offer_at net.key s q a ≡ offer.Nothing → is_offered_by b (net_at b net s) q a ≡ false
 sender_offers_nothing b net does Ready q a lasts same is nothing =
     none_offered b (net_at b net Ready) q a (act.Put net.key ∷ []) (subst (λ r. offers r ((net_at b net Ready).processes r) ≡ act.Put net.key ∷ []) (sym is) does.sends)
-      (no_put_offered net.key q a same nothing)
+    (no_put_offered net.key q a same nothing)
 sender_offers_nothing b net does Flying q a lasts same is nothing =
     none_offered b (net_at b net Flying) q a [] (subst (λ r. offers r ((net_at b net Flying).processes r) ≡ []) (sym is) does.sent) refl
 sender_offers_nothing b net does Landed q a lasts same is nothing = cc
@@ -210,13 +229,13 @@ not_offered : (b : Bundle) (net : NetState) (does : Computes b net.key net.value
     → ended_at s ≡ false → offer_at net.key s q a ≡ offer.Nothing → is_offered_by b (net_at b net s) q a ≡ false
 not_offered b net does s q a lasts nothing = by_tests (role_eq q net.key.from) refl (role_eq q net.key.to) refl
   where
-  by_tests : (r : Bool) → role_eq q net.key.from ≡ r → (t : Bool) → role_eq q net.key.to ≡ t → is_offered_by b (net_at b net s) q a ≡ false
-  by_tests true from t to = sender_offers_nothing b net does s q a lasts from ((role_eq-decides q net.key.from).0 from) nothing
-  by_tests false from true to =
-      none_offered b (net_at b net s) q a (act.Take net.key ∷ [])
+    by_tests : (r : Bool) → role_eq q net.key.from ≡ r → (t : Bool) → role_eq q net.key.to ≡ t → is_offered_by b (net_at b net s) q a ≡ false
+    by_tests true from t to = sender_offers_nothing b net does s q a lasts from ((role_eq-decides q net.key.from).0 from) nothing
+    by_tests false from true to =
+        none_offered b (net_at b net s) q a (act.Take net.key ∷ [])
         (subst (λ r. offers r ((net_at b net s).processes r) ≡ act.Take net.key ∷ []) (sym ((role_eq-decides q net.key.to).0 to)) (receiver_offers b net does s lasts))
         (no_take_offered net.key s q a lasts to nothing)
-  by_tests false from false to = stranger b net.key (net_at b net s) q a does.two_roles from to
+    by_tests false from false to = stranger b net.key (net_at b net s) q a does.two_roles from to
 
 lasting : (s : Stage) → s ≢ Landed → ended_at s ≡ false
 lasting Ready h = refl

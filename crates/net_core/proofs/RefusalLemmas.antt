@@ -1,5 +1,5 @@
 -- The one refusal of a bundle of one interaction.
-use Rattle.std.proofs.Common.{◌≡◌, ◌≢◌, ℕ, zero, suc, List, [], ◌∷◌, Bool, true, false, Option, Some, None, refl, sym, ap, ◌∙◌, subst, length, arith, rules, cond, not, ◌≤◌, ltb}
+use Rattle.std.proofs.Common.{◌≡◌, ℕ, List, [], ◌∷◌, Bool, true, false, Option, Some, None, refl, ap, ◌∙◌, length, arith, rules, cond, not, ◌≤◌}
 use Rattle.std.specs.Prelude.{if◌then◌else◌, map}
 use Rattle.dioc_terms.specs.declared.names.Role.{Role}
 use Rattle.dioc_terms.specs.declared.names.Index.{Index}
@@ -11,7 +11,7 @@ use Rattle.dioc_terms.specs.Bundles.{IsFormed}
 use Rattle.dioc_terms.specs.Equality.{role_eq}
 use Rattle.dioc_terms.specs.Expressions.{Expression}
 use Rattle.dioc_terms.specs.Rules.{opening_book}
-use Rattle.dioc_terms.specs.Supported.{IsSupported, is_one_interaction}
+use Rattle.dioc_terms.specs.Supported.{IsSupported}
 use Rattle.dioc_terms.specs.Terms.{Term, Com, term, cast_of, nodes}
 use Rattle.net_core.specs.declared.refusals.Refusal.{Refusal}
 use Rattle.net_core.specs.declared.refusals.Refusal.TheVariants.{SelfMessage}
@@ -40,9 +40,9 @@ talks : (i : Index) (o : List ℕ) (a : Role) (e : Expression) (c : Role) (x : L
 talks i o a e c x env = ap (λ roles. first_refusal (None ∷ roles ∷ None ∷ None ∷ None ∷ self_message place.Program (Com i o a e c x) ∷ None ∷ None ∷ [])) (few_roles (not (role_eq c a)) a c)
     ∙ by_test (role_eq a c) refl
   where
-  by_test : (t : Bool) → role_eq a c ≡ t → first_refusal (None ∷ None ∷ None ∷ None ∷ None ∷ self_message place.Program (Com i o a e c x) ∷ None ∷ None ∷ []) ≡ (if t then Some (SelfMessage place.Program i) else None)
-  by_test true same = rw same refl
-  by_test false differ = rw differ refl
+    by_test : (t : Bool) → role_eq a c ≡ t → first_refusal (None ∷ None ∷ None ∷ None ∷ None ∷ self_message place.Program (Com i o a e c x) ∷ None ∷ None ∷ []) ≡ (if t then Some (SelfMessage place.Program i) else None)
+    by_test true same = rw same refl
+    by_test false differ = rw differ refl
 
 -- a bundle of an interaction is refused exactly where a role sends to itself
 pub refusal_is : (b : Bundle) (i : Index) (o : List ℕ) (a : Role) (e : Expression) (c : Role) (x : List ℕ) → IsFormed b → IsSupported b
@@ -51,8 +51,8 @@ refusal_is b i o a e c x formed supported is =
     let none_open : b.opening ≡ 0 = at_most (b.opening) (length b.rules) formed.opening (ap length supported.rules) in
     (λ j. refusal_by (is j) ((supported.cast ∙ ap cast_of is) j) (supported.rules j) (none_open j) b.env (supported.script j) (supported.inputs j)) ∙ talks i o a e c x b.env
   where
-  at_most : (m n : ℕ) → m ≤ n → n ≡ 0 → m ≡ 0
-  at_most m n h e = omega (arith, h, e)
+    at_most : (m n : ℕ) → m ≤ n → n ≡ 0 → m ≡ 0
+    at_most m n h e = omega (arith, h, e)
 
 pub accepts : (b : Bundle) (i : Index) (o : List ℕ) (a : Role) (e : Expression) (c : Role) (x : List ℕ) → IsFormed b → IsSupported b
     → term b.choreo ≡ Com i o a e c x → role_eq a c ≡ false → IsAccepted b

@@ -1,9 +1,9 @@
 -- How a run goes on from a net, and where it has finished.
-use Rattle.std.proofs.Common.{◌≡◌, ◌≢◌, ℕ, zero, suc, List, [], ◌∷◌, ◌++◌, Bool, true, false, Option, Some, None, refl, sym, ap, ◌∙◌, subst, length, take, arith, rules, cond, not, ◌&&◌, ◌||◌, ◌≤◌, ◌<◌, ◌+◌, ◌-◌, leb, length-append, append_assoc}
+use Rattle.std.proofs.Common.{◌≡◌, ◌≢◌, ℕ, zero, suc, List, [], ◌∷◌, ◌++◌, Bool, true, false, Option, Some, None, refl, sym, ap, ◌∙◌, subst, length, take, arith, rules, ◌≤◌, ◌<◌, ◌+◌, ◌-◌, leb, length-append, append_assoc}
 use Rattle.std.proofs.lemmas.Bool.{leb-false, leb-true}
 use Rattle.std.proofs.lemmas.List.{append-nil, append_cancel_left}
 use Rattle.std.proofs.Math.Seq.{take-append_seam}
-use Rattle.std.specs.Prelude.{if◌then◌else◌, nat_le, slice_get, ◌↔◌, option_and_then}
+use Rattle.std.specs.Prelude.{if◌then◌else◌, nat_le, slice_get, option_and_then}
 use Rattle.std.specs.Option.{option_map_or}
 use Rattle.dioc_terms.specs.declared.names.Role.{Role}
 use Rattle.dioc_terms.specs.declared.entries.Act.{Act}
@@ -16,13 +16,13 @@ use Rattle.net_core.specs.declared.moves.Move.TheVariants as move
 use Rattle.net_core.specs.declared.moves.Finish.{Finish}
 use Rattle.net_core.specs.declared.moves.Finish.TheVariants as finish
 use Rattle.net_core.specs.declared.moves.StepFault.{StepFault}
-use Rattle.net_core.specs.declared.moves.StepFault.TheVariants.{Ended, Full, NoAct, NotYet, Memory}
+use Rattle.net_core.specs.declared.moves.StepFault.TheVariants.{Full, Memory}
 use Rattle.net_core.specs.declared.network.Stage.{Stage}
 use Rattle.net_core.specs.declared.network.Stage.TheVariants.{Ready, Flying, Landed}
 use Rattle.net_core.specs.Schedule.{moves, move_step, continued, scheduled, is_ready}
 use Rattle.net_core.specs.Net.{NetState, IsNetOf, Steps, network_of, first_fault, step_fault, is_offered_by}
 use Rattle.net_core.specs.Runs.{run_of, Advances, Finishes, RunsPart}
-use Rattle.net_core.proofs.Interaction.{Computes, computes, network_at, moves_at, ended_at, flying}
+use Rattle.net_core.proofs.Interaction.{computes, moves_at, ended_at, flying}
 use Rattle.net_core.proofs.NetLemmas.{net_at, network_is, moves_are, fault_is, from_offers, to_offers, there}
 
 -- an ended network runs no further
@@ -43,11 +43,15 @@ continued-goes b count N q a outcome goes first steps =
 pub finishes_ended : (b : Bundle) (net : NetState) → IsNetOf b net → network_ended b (network_of b net) ≡ true → Finishes b net net finish.Ended
 finishes_ended b net is ends = record {
   history = sym (ap (λ h. net.history ++ h) (continued-ended b (net.limit - length net.history) (network_of b net) ends) ∙ search rules);
-  ended = ((λ e. ends), (λ e. refl)); limit = ((λ e. cc), (λ h. absurd (false_true (network_ended b (network_of b net)) h.1 ends))); same_limit = refl; net = is }
+  ended = ((λ e. ends), (λ e. refl));
+  limit = ((λ e. cc), (λ h. absurd (false_true (network_ended b (network_of b net)) h.1 ends)));
+  same_limit = refl;
+  net = is;
+}
   where
-  false_true : (t : Bool) → t ≡ false → t ≡ true → ⊥
-  false_true true h k = cc
-  false_true false h k = cc
+    false_true : (t : Bool) → t ≡ false → t ≡ true → ⊥
+    false_true true h k = cc
+    false_true false h k = cc
 
 -- what the first move of a network that has not ended is: an act whose step has no fault but a full history
 abbrev pub IsGoodFirst : Bundle → NetState → Option Move → Type 0
@@ -62,16 +66,16 @@ full_only false f limit len e h = cc
 first_at : (b : Bundle) (net : NetState) → IsNetOf b net → (s : Stage) → net.stage ≡ s → ended_at s ≡ false → IsGoodFirst b net (slice_get (moves_at net.key s) 0)
 first_at b net is Ready e goes = λ f faulty.
     full_only (nat_le net.limit (length net.history)) f net.limit (length net.history) refl
-      (sym (fault_is b net (network_start b) net.key.from (act.Put net.key) (network_is b net is ∙ ap (net_at b net) e) ((computes b net is).ended Ready) refl (from_offers b net (computes b net is)) refl) ∙ faulty)
+    (sym (fault_is b net (network_start b) net.key.from (act.Put net.key) (network_is b net is ∙ ap (net_at b net) e) ((computes b net is).ended Ready) refl (from_offers b net (computes b net is)) refl) ∙ faulty)
 first_at b net is Flying e goes = λ f faulty.
     full_only (nat_le net.limit (length net.history)) f net.limit (length net.history) refl
-      (sym (fault_is b net (flying b net.key net.value) net.key.to (act.Take net.key) (network_is b net is ∙ ap (net_at b net) e) ((computes b net is).ended Flying) refl (to_offers b net (computes b net is)) (there b net)) ∙ faulty)
+    (sym (fault_is b net (flying b net.key net.value) net.key.to (act.Take net.key) (network_is b net is ∙ ap (net_at b net) e) ((computes b net is).ended Flying) refl (to_offers b net (computes b net is)) (there b net)) ∙ faulty)
 first_at b net is Landed e goes = cc
 
 pub first_good : (b : Bundle) (net : NetState) → IsNetOf b net → network_ended b (network_of b net) ≡ false → IsGoodFirst b net (slice_get (moves b (network_of b net)) 0)
 first_good b net is goes =
     subst (λ found. IsGoodFirst b net (slice_get found 0)) (sym (moves_are b net is))
-      (first_at b net is net.stage refl (sym (ap (network_ended b) (network_is b net is) ∙ (computes b net is).ended net.stage) ∙ goes))
+    (first_at b net is net.stage refl (sym (ap (network_ended b) (network_is b net is) ∙ (computes b net is).ended net.stage) ∙ goes))
 
 -- a full history
 pub finishes_full : (b : Bundle) (net : NetState) → IsNetOf b net → network_ended b (network_of b net) ≡ false → net.limit ≤ length net.history → Finishes b net net finish.Limit
@@ -80,11 +84,15 @@ finishes_full b net is goes full =
     let at : length net.history ≡ net.limit = omega (arith, full, is.within) in
     record {
       history = sym (ap (λ n. net.history ++ continued b None n (network_of b net)) none ∙ search rules);
-      ended = ((λ e. cc), (λ h. absurd (both (network_ended b (network_of b net)) goes h))); limit = ((λ e. (at, goes)), (λ h. refl)); same_limit = refl; net = is }
+      ended = ((λ e. cc), (λ h. absurd (both (network_ended b (network_of b net)) goes h)));
+      limit = ((λ e. (at, goes)), (λ h. refl));
+      same_limit = refl;
+      net = is;
+    }
   where
-  both : (t : Bool) → t ≡ false → t ≡ true → ⊥
-  both true h k = cc
-  both false h k = cc
+    both : (t : Bool) → t ≡ false → t ≡ true → ⊥
+    both true h k = cc
+    both false h k = cc
 
 not_full : (e f o r : Bool) → first_fault e f o r ≡ None → f ≡ false
 not_full true f o r h = cc
@@ -107,16 +115,20 @@ pub advances : (b : Bundle) (old new : NetState) → IsNetOf b old → network_e
     → slice_get (moves b (network_of b old)) 0 ≡ Some (move.Act q a) → Steps b old q a new → Advances b old new
 advances b old new is goes q a first step =
     let open_end : nat_le old.limit (length old.history) ≡ false =
-          not_full (network_ended b (network_of b old)) (nat_le old.limit (length old.history)) (is_offered_by b (network_of b old) q a) (is_ready (network_of b old) a) step.no_fault in
+    not_full (network_ended b (network_of b old)) (nat_le old.limit (length old.history)) (is_offered_by b (network_of b old) q a) (is_ready (network_of b old) a) step.no_fault in
     let room : length old.history < old.limit = leb-false old.limit (length old.history) open_end in
     let longer : length new.history ≡ length old.history + 1 = ap length step.history ∙ length-append old.history (step.outcome.entry ∷ []) in
     let count : old.limit - length old.history ≡ suc (new.limit - length new.history) = omega (arith, room, longer, step.limit) in
     record {
       entry = step.outcome.entry;
       run = ap (λ n. continued b None n (network_of b old)) count
-        ∙ continued-goes b (new.limit - length new.history) (network_of b old) q a step.outcome goes first step.steps
-        ∙ ap (λ N. step.outcome.entry ∷ continued b None (new.limit - length new.history) N) (sym step.network);
-      history = step.history; room = room; same_limit = step.limit; net = step.net }
+          ∙ continued-goes b (new.limit - length new.history) (network_of b old) q a step.outcome goes first step.steps
+          ∙ ap (λ N. step.outcome.entry ∷ continued b None (new.limit - length new.history) N) (sym step.network);
+      history = step.history;
+      room = room;
+      same_limit = step.limit;
+      net = step.net;
+    }
 
 -- the entries made so far with the rest of the run make the run
 pub record Goes (b : Bundle) (old new : NetState) : Type 0 where
@@ -134,18 +146,29 @@ goes_more b old mid new far step = record {
   made = far.made ++ step.entry ∷ [];
   run = far.run ∙ ap (λ r. far.made ++ r) step.run ∙ sym (append_assoc far.made (step.entry ∷ []) (run_of b new));
   history = step.history ∙ ap (λ h. h ++ step.entry ∷ []) far.history ∙ append_assoc old.history far.made (step.entry ∷ []);
-  same_limit = step.same_limit ∙ far.same_limit; net = step.net }
+  same_limit = step.same_limit ∙ far.same_limit;
+  net = step.net;
+}
 
 pub goes_finishes : (b : Bundle) (old mid : NetState) (how : Finish) → Goes b old mid → Finishes b mid mid how → Finishes b old mid how
 goes_finishes b old mid how far finishes =
     let over : run_of b mid ≡ [] = append_cancel_left mid.history (run_of b mid) [] (sym finishes.history ∙ sym (append-nil mid.history)) in
     record {
       history = far.history ∙ ap (λ h. old.history ++ h) (sym (far.run ∙ ap (λ r. far.made ++ r) over ∙ append-nil far.made));
-      ended = finishes.ended; limit = finishes.limit; same_limit = far.same_limit; net = far.net }
+      ended = finishes.ended;
+      limit = finishes.limit;
+      same_limit = far.same_limit;
+      net = far.net;
+    }
 
 pub goes_part : (b : Bundle) (old mid : NetState) → Goes b old mid → RunsPart b old mid
-goes_part b old mid far = record { count = length far.made; history = far.history ∙ ap (λ h. old.history ++ h) (sym (ap (take (length far.made)) far.run ∙ take-append_seam far.made (run_of b mid)));
-  same_limit = far.same_limit; net = far.net }
+goes_part b old mid far = record {
+  count = length far.made;
+  history = far.history ∙ ap (λ h. old.history ++ h) (sym (ap (take (length far.made)) far.run ∙ take-append_seam far.made (run_of b mid)));
+  same_limit = far.same_limit;
+  net = far.net;
+}
 
 pub ruleset run_steps = (goes_here, goes_more, goes_finishes, goes_part)
+
 pub ruleset first_steps = (finishes_ended, finishes_stopped, advances, first_good)

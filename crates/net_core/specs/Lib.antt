@@ -1,3 +1,4 @@
+pub mod Laws
 pub mod Net
 pub mod Refusals
 pub mod Runs

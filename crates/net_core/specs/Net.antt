@@ -1,5 +1,5 @@
 -- What a net stands for: the network of its bundle after its history.
-use Rattle.std.specs.Prelude.{◌≡◌, ℕ, ◌≤◌, List, [], ◌∷◌, ◌++◌, length, Bool, true, false, ◌&&◌, not, nat_le, Option, Some, None, if◌then◌else◌, unwrap_or}
+use Rattle.std.specs.Prelude.{◌≡◌, ℕ, ◌≤◌, List, [], ◌∷◌, ◌++◌, length, Bool, false, ◌&&◌, not, nat_le, Option, Some, None, if◌then◌else◌, unwrap_or}
 use Rattle.dioc_terms.specs.declared.names.Role.{Role}
 use Rattle.dioc_terms.specs.declared.values.Value.{Value}
 use Rattle.dioc_terms.specs.declared.processes.Key.{Key}

@@ -36,25 +36,25 @@ most_alive rules book (timed ∷ rest) = max (length book.order) (most_alive rul
 abbrev pub unknown_role : Where → List Role → List Role → Option Refusal
 unknown_role at cast roles = refused (find (λ q. not (member q cast)) roles)
   where
-  refused : Option Role → Option Refusal
-  refused None = None
-  refused (Some q) = Some (UnknownRole at q)
+    refused : Option Role → Option Refusal
+    refused None = None
+    refused (Some q) = Some (UnknownRole at q)
 
 -- the first interaction of a role with itself
 abbrev pub self_message : Where → Term → Option Refusal
 self_message at I = refused (self_messages I)
   where
-  refused : List Index → Option Refusal
-  refused [] = None
-  refused (i ∷ rest) = Some (SelfMessage at i)
+    refused : List Index → Option Refusal
+    refused [] = None
+    refused (i ∷ rest) = Some (SelfMessage at i)
 
 -- the first sequence that isn't linked
 abbrev pub unlinked : Where → List Role → Term → Option Refusal
 unlinked at cast I = refused (first_gap cast I)
   where
-  refused : Option Gap → Option Refusal
-  refused None = None
-  refused (Some gap) = Some (Unlinked at gap.first gap.second gap.role)
+    refused : Option Gap → Option Refusal
+    refused None = None
+    refused (Some gap) = Some (Unlinked at gap.first gap.second gap.role)
 
 -- more than 200 nodes, or deeper than 64
 abbrev pub body_too_big : ℕ → Term → Option Refusal

@@ -1,11 +1,13 @@
 //! The network of a bundle, stepped entry by entry, and which bundles may run.
 #![tactic(auto)]
 
+mod laws;
 mod moves;
 mod network;
 mod refusals;
 mod runs;
 
+pub use laws::{accepted_is_sound, moves_are_steps, runs_are_sound};
 pub use moves::{Finish, Move, StepFault};
 pub use network::Net;
 pub use refusals::{Refusal, Where, Which, accept};

@@ -55,7 +55,10 @@ pub fn accept(bundle: &Bundle) -> Result<(), Refusal>
 {
     match &bundle.choreo {
         Choreo::Com {
-            index, from, to, ..
+            index,
+            from,
+            to,
+            ..
         } => {
             if *from == *to {
                 Err(Refusal::SelfMessage(Where::Program, *index))

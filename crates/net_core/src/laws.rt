@@ -1,0 +1,53 @@
+//! What holds of each bundle that is accepted. Each function is a law: it does nothing, and whoever calls it knows what its
+//! contract says.
+
+ghost use Rattle.connectedness.specs.Laws.{RolesAtEnds, StampedConnected};
+ghost use Rattle.dioc_terms.specs.TermLaws.{MentionsAreRoles, CastsAreRoles, StampedBodies};
+ghost use Rattle.net_core.specs.Laws.{AcceptedIsSound, MovesAreSteps, RunsAreSound};
+
+/// What the crates below prove of terms, together.
+fn known()
+    ensures mentions { MentionsAreRoles }
+    ensures casts { CastsAreRoles }
+    ensures bodies { StampedBodies }
+    ensures ends { RolesAtEnds }
+    ensures stamps { StampedConnected }
+{
+    dioc_terms::mentions_are_roles();
+    dioc_terms::casts_are_roles();
+    dioc_terms::stamped_bodies();
+    connectedness::roles_at_ends();
+    connectedness::stamped_connected();
+}
+
+/// A law: a bundle that is accepted is sound, whatever its choreography and its rules. It does nothing.
+pub fn accepted_is_sound()
+    ensures { AcceptedIsSound }
+{
+    dioc_terms::mentions_are_roles();
+    dioc_terms::casts_are_roles();
+    connectedness::gaps_are_found();
+}
+
+/// A law: after any run of an accepted bundle each move of its network can be done, and there is one where the network has
+/// not ended. It does nothing.
+pub fn moves_are_steps()
+    ensures { MovesAreSteps }
+{
+    known();
+    accepted_is_sound();
+    marked_laws::progress();
+    dpoc_process::offers_are_steps();
+}
+
+/// A law: what a schedule, with a seed or without, makes of a run of an accepted bundle is again a run, that the choreography
+/// explains; it has ended, or it has as many entries as it may. It does nothing.
+pub fn runs_are_sound()
+    ensures { RunsAreSound }
+{
+    known();
+    accepted_is_sound();
+    marked_laws::progress();
+    marked_laws::simulation();
+    dpoc_process::offers_are_steps();
+}
