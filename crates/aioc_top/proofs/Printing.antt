@@ -34,10 +34,13 @@ prints b old new how answer none limited finishes same printed =
     let limit : old.limit ≡ entry_limit = limited ∙ limit_is in
     let history : new.history ≡ history_of b = finishes.history ∙ (λ j. none j ++ run_is b old none limit j) in
     let full = subst (λ h. (how ≡ finish.Limit) ↔ ((length h ≡ entry_limit) × (network_ended b (network_of b new) ≡ false))) history
-          (subst (λ n. (how ≡ finish.Limit) ↔ ((length new.history ≡ n) × (network_ended b (network_of b new) ≡ false))) (finishes.same_limit ∙ limit) finishes.limit) in
+    (subst (λ n. (how ≡ finish.Limit) ↔ ((length new.history ≡ n) × (network_ended b (network_of b new) ≡ false))) (finishes.same_limit ∙ limit) finishes.limit) in
     record {
       finishes = subst (RunFinishes b) (sym same) (record {
         network = network_of b new;
         runs = ap (network_run b) (sym history) ∙ network_runs b new finishes.net;
-        ended = finishes.ended; limit = full });
-      printed = printed ∙ (λ j. text (visible (history j)) (last_line_of (sym same j) (length (history j)))) }
+        ended = finishes.ended;
+        limit = full;
+      });
+      printed = printed ∙ (λ j. text (visible (history j)) (last_line_of (sym same j) (length (history j))));
+    }

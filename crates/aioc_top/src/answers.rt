@@ -87,7 +87,11 @@ fn run(alloc: Global, bundle: &Bundle) -> Result<Answer, Memory>
     let mut net = Net::start(alloc, bundle, ENTRY_LIMIT)?;
     let finish = run_to_end(&mut net, bundle)?;
     let mut text = Vec::new(alloc);
-    write_visible(net.history(), &last_of(finish, net.history().len() as u64), &mut text)?;
+    write_visible(
+        net.history(),
+        &last_of(finish, net.history().len() as u64),
+        &mut text,
+    )?;
     Ok(Answer { text, finish })
 }
 

@@ -57,16 +57,17 @@ head_is from o a h op sender =
     let n2 = next sorts.Name (drop 3 HEAD) from 2 3 refl n1.1 in
     let n3 = next (sorts.Symbol Colon) (drop 4 HEAD) from 3 4 refl n2.1 in
     let n4 = next sorts.Name (drop 5 HEAD) from 4 5 refl n3.1 in
-    let n5 = next (sorts.Symbol LeftParen) (drop 6 HEAD) from 5 6 refl n4.1 in
-    (reserved_at Aioc from 0 1 refl n0.0 ∙ ap (λ l. Reserved Aioc ∷ l) (symbol_at LeftBrace from 1 2 refl n1.0),
-     op ∙ ap (λ l. Name o ∷ l) (symbol_at Colon from 3 4 refl n3.0 ∙ ap (λ l. Symbol Colon ∷ l) (sender ∙ ap (λ l. Name a ∷ l) (symbol_at LeftParen from 5 6 refl n5.0))))
+    let n5 = next (sorts.Symbol LeftParen) (drop 6 HEAD) from 5 6 refl n4.1 in (
+      reserved_at Aioc from 0 1 refl n0.0 ∙ ap (λ l. Reserved Aioc ∷ l) (symbol_at LeftBrace from 1 2 refl n1.0),
+      op ∙ ap (λ l. Name o ∷ l) (symbol_at Colon from 3 4 refl n3.0 ∙ ap (λ l. Symbol Colon ∷ l) (sender ∙ ap (λ l. Name a ∷ l) (symbol_at LeftParen from 5 6 refl n5.0))),
+    )
 
 -- which sorts stand behind what is sent
 pub record Tail (from : List Lexeme) (at : ℕ) : Type 0 where
   pub receiver : sort_of (drop (at + 2) from) ≡ sorts.Name
   pub variable : sort_of (drop (at + 4) from) ≡ sorts.Name
   pub closes : (b x : List ℕ) → drop (at + 2) from ≡ Name b ∷ drop (at + 2 + 1) from → drop (at + 4) from ≡ Name x ∷ drop (at + 4 + 1) from → length from - at ≡ 7
-    → drop at from ≡ Symbol RightParen ∷ Symbol Arrow ∷ Name b ∷ Symbol LeftParen ∷ Name x ∷ Symbol RightParen ∷ Symbol RightBrace ∷ []
+      → drop at from ≡ Symbol RightParen ∷ Symbol Arrow ∷ Name b ∷ Symbol LeftParen ∷ Name x ∷ Symbol RightParen ∷ Symbol RightBrace ∷ []
 
 pub tail_is : (from : List Lexeme) (at : ℕ) → Begins TAIL (drop at from) → Tail from at
 tail_is from at h =
@@ -78,21 +79,23 @@ tail_is from at h =
     let n5 = next (sorts.Symbol RightParen) (drop 6 TAIL) from (at + 5) (at + 6) (omega arith) n4.1 in
     let n6 = next (sorts.Symbol RightBrace) (drop 7 TAIL) from (at + 6) (at + 7) (omega arith) n5.1 in
     record {
-      receiver = n2.0; variable = n4.0;
+      receiver = n2.0;
+      variable = n4.0;
       closes = λ b x received kept end.
-        let last : drop (at + 7) from ≡ [] = nothing_left (drop (at + 7) from) (omega (arith, length-drop (at + 7) from)) in
-        symbol_at RightParen from at (at + 1) refl n0.0
-        ∙ ap (λ l. Symbol RightParen ∷ l) (symbol_at Arrow from (at + 1) (at + 2) (omega arith) n1.0
-        ∙ ap (λ l. Symbol Arrow ∷ l) (received ∙ ap (λ n. Name b ∷ drop n from) (omega arith)
-        ∙ ap (λ l. Name b ∷ l) (symbol_at LeftParen from (at + 3) (at + 4) (omega arith) n3.0
-        ∙ ap (λ l. Symbol LeftParen ∷ l) (kept ∙ ap (λ n. Name x ∷ drop n from) (omega arith)
-        ∙ ap (λ l. Name x ∷ l) (symbol_at RightParen from (at + 5) (at + 6) (omega arith) n5.0
-        ∙ ap (λ l. Symbol RightParen ∷ l) (symbol_at RightBrace from (at + 6) (at + 7) (omega arith) n6.0
-        ∙ ap (λ l. Symbol RightBrace ∷ l) last)))))) }
+          let last : drop (at + 7) from ≡ [] = nothing_left (drop (at + 7) from) (omega (arith, length-drop (at + 7) from)) in
+          symbol_at RightParen from at (at + 1) refl n0.0
+          ∙ ap (λ l. Symbol RightParen ∷ l) (symbol_at Arrow from (at + 1) (at + 2) (omega arith) n1.0
+          ∙ ap (λ l. Symbol Arrow ∷ l) (received ∙ ap (λ n. Name b ∷ drop n from) (omega arith)
+          ∙ ap (λ l. Name b ∷ l) (symbol_at LeftParen from (at + 3) (at + 4) (omega arith) n3.0
+          ∙ ap (λ l. Symbol LeftParen ∷ l) (kept ∙ ap (λ n. Name x ∷ drop n from) (omega arith)
+          ∙ ap (λ l. Name x ∷ l) (symbol_at RightParen from (at + 5) (at + 6) (omega arith) n5.0
+          ∙ ap (λ l. Symbol RightParen ∷ l) (symbol_at RightBrace from (at + 6) (at + 7) (omega arith) n6.0
+          ∙ ap (λ l. Symbol RightBrace ∷ l) last))))));
+    }
   where
-  nothing_left : (l : List Lexeme) → length l ≡ 0 → l ≡ []
-  nothing_left [] e = refl
-  nothing_left (first ∷ others) e = absurd (omega arith)
+    nothing_left : (l : List Lexeme) → length l ≡ 0 → l ≡ []
+    nothing_left [] e = refl
+    nothing_left (first ∷ others) e = absurd (omega arith)
 
 -- all of a bundle's lexemes up to what is sent
 opening_is : (found : List Lexeme) (b : Bundle) (is : IsBundle found b)
@@ -135,11 +138,30 @@ pub makes : (text : List Lexeme) (at : ℕ) (b : Bundle) (o x : List ℕ) (a c :
     → drop (at + 2) text ≡ Name c.0 ∷ drop (at + 2 + 1) text → drop (at + 4) text ≡ Name x ∷ drop (at + 4 + 1) text
     → term b.choreo ≡ Com (mark_at 0) o a (Const v) c x → IsPlain b → IsBundle text b
 makes text at b o x a c v head sent tail end op sender receiver variable is plain = record {
-    inside = drop 2 text; behind = Symbol RightBrace ∷ [];
-    begins = (head_is text o a.0 head op sender).0;
-    choreo = record {
-      operation = o; sender = a.0; receiver = c.0; variable = x; value = v; sent = drop 6 text; received = drop at text;
-      begins = (head_is text o a.0 head op sender).1; sends = sent;
-      ends = (tail_is text at tail).closes c.0 x receiver variable end; is_com = is };
-    ends = refl; version = plain.version; cast = plain.cast; rules = plain.rules; opening = plain.opening; env = plain.env; inputs = plain.inputs;
-    script = plain.script; entries = plain.entries; last = plain.last }
+  inside = drop 2 text;
+  behind = Symbol RightBrace ∷ [];
+  begins = (head_is text o a.0 head op sender).0;
+  choreo = record {
+    operation = o;
+    sender = a.0;
+    receiver = c.0;
+    variable = x;
+    value = v;
+    sent = drop 6 text;
+    received = drop at text;
+    begins = (head_is text o a.0 head op sender).1;
+    sends = sent;
+    ends = (tail_is text at tail).closes c.0 x receiver variable end;
+    is_com = is;
+  };
+  ends = refl;
+  version = plain.version;
+  cast = plain.cast;
+  rules = plain.rules;
+  opening = plain.opening;
+  env = plain.env;
+  inputs = plain.inputs;
+  script = plain.script;
+  entries = plain.entries;
+  last = plain.last;
+}

@@ -53,11 +53,11 @@ not_found : (bytes : List ℕ) (words : List Word) → find (λ word. bytes_eq b
 not_found bytes [] h = refl
 not_found bytes (word ∷ words) h = by_test (bytes_eq bytes (word_spelling word)) refl (λ g. not_found bytes words g)
   where
-  by_test : (t : Bool) → bytes_eq bytes (word_spelling word) ≡ t → (find (λ w. bytes_eq bytes (word_spelling w)) words ≡ None → list_any (bytes_eq bytes) (map word_spelling words) ≡ false)
-      → (bytes_eq bytes (word_spelling word) || list_any (bytes_eq bytes) (map word_spelling words)) ≡ false
-  by_test true e others = absurd (some_none word (sym (ap (λ t. cond t (Some word) (find (λ w. bytes_eq bytes (word_spelling w)) words)) e) ∙ h))
-  by_test false e others = ap (λ t. t || list_any (bytes_eq bytes) (map word_spelling words)) e
-    ∙ others (sym (ap (λ t. cond t (Some word) (find (λ w. bytes_eq bytes (word_spelling w)) words)) e) ∙ h)
+    by_test : (t : Bool) → bytes_eq bytes (word_spelling word) ≡ t → (find (λ w. bytes_eq bytes (word_spelling w)) words ≡ None → list_any (bytes_eq bytes) (map word_spelling words) ≡ false)
+        → (bytes_eq bytes (word_spelling word) || list_any (bytes_eq bytes) (map word_spelling words)) ≡ false
+    by_test true e others = absurd (some_none word (sym (ap (λ t. cond t (Some word) (find (λ w. bytes_eq bytes (word_spelling w)) words)) e) ∙ h))
+    by_test false e others = ap (λ t. t || list_any (bytes_eq bytes) (map word_spelling words)) e
+        ∙ others (sym (ap (λ t. cond t (Some word) (find (λ w. bytes_eq bytes (word_spelling w)) words)) e) ∙ h)
 
 not_reserved : (bytes : List ℕ) → word_of bytes ≡ None → is_reserved bytes ≡ false
 unfolding word_of is_reserved names.reserved_words
@@ -101,15 +101,15 @@ numbered : (make : ℕ → Value) (most : ℕ) (digits : List ℕ) (rest to : Li
     → option_map (λ n. before rest (make n)) (number_up_to most digits) ≡ Some (v, to) → IsValid v to
 numbered make most digits rest to v valid others h = by_test (nat_le (digits_value 10 digits) most) refl
   where
-  by_test : (t : Bool) → nat_le (digits_value 10 digits) most ≡ t → IsValid v to
-  by_test true small =
-      read_as (option_map (λ n. before rest (make n)) (number_up_to most digits)) v (make (digits_value 10 digits)) to rest
+    by_test : (t : Bool) → nat_le (digits_value 10 digits) most ≡ t → IsValid v to
+    by_test true small =
+        read_as (option_map (λ n. before rest (make n)) (number_up_to most digits)) v (make (digits_value 10 digits)) to rest
         (ap (λ t. option_map (λ n. before rest (make n)) (cond t (Some (digits_value 10 digits)) None)) small) h
         (valid (digits_value 10 digits) (leb-true (digits_value 10 digits) most small), others)
-  by_test false great = absurd (none_is (sym (ap (λ t. option_map (λ n. before rest (make n)) (cond t (Some (digits_value 10 digits)) None)) great) ∙ h))
-    where
-    none_is : ◌≡◌ {A = Option (Value × List Lexeme)} None (Some (v, to)) → ⊥
-    none_is e = cc
+    by_test false great = absurd (none_is (sym (ap (λ t. option_map (λ n. before rest (make n)) (cond t (Some (digits_value 10 digits)) None)) great) ∙ h))
+      where
+        none_is : ◌≡◌ {A = Option (Value × List Lexeme)} None (Some (v, to)) → ⊥
+        none_is e = cc
 
 positive_valid : (n : ℕ) → n ≤ 9223372036854775807 → is_constant (positive n) ≡ true
 positive_valid n h = le-leb n 9223372036854775807 h
@@ -131,9 +131,10 @@ constant_valid _ v to valid e = cc
 interaction_formed : (o a c x : List ℕ) (v : Value) → is_identifier o ≡ true → is_identifier a ≡ true → is_identifier c ≡ true → is_identifier x ≡ true → is_constant v ≡ true
     → IsFormedTerm (Com (mark_at 0) o (role a) (Const v) (role c) x)
 interaction_formed o a c x v op sender receiver variable constant = record {
-    marks = refl;
-    parts = λ j. op j && sender j && (constant j && true) && receiver j && variable j;
-    depth = omega arith }
+  marks = refl;
+  parts = λ j. op j && sender j && (constant j && true) && receiver j && variable j;
+  depth = omega arith;
+}
 
 pub bundle_formed : (found : List Lexeme) (b : Bundle) → AllByRecursion CanBeWritten found → IsBundle found b → IsFormed b
 bundle_formed found b valid is =
@@ -144,7 +145,7 @@ bundle_formed found b valid is =
       version = inl (is.version, ap names_no_roles is.choreo.is_com, ap (list_all has_no_priority) is.rules);
       cast = is.cast;
       choreo = subst IsFormedTerm (sym is.choreo.is_com)
-        (interaction_formed is.choreo.operation is.choreo.sender is.choreo.receiver is.choreo.variable is.choreo.value
+          (interaction_formed is.choreo.operation is.choreo.sender is.choreo.receiver is.choreo.variable is.choreo.value
           (identifier_valid is.choreo.operation (opening.1.1.0 (λ e. cc))) (identifier_valid is.choreo.sender (opening.1.1.1.1.0 (λ e. cc)))
           (identifier_valid is.choreo.receiver (closing.1.1.0 (λ e. cc))) (identifier_valid is.choreo.variable (closing.1.1.1.1.0 (λ e. cc))) read.0);
       rules = subst (All IsFormedRule) (sym is.rules) (λ k d h. absurd (omega (arith, h)));
@@ -154,11 +155,17 @@ bundle_formed found b valid is =
       inputs = ap (list_all is_formed_inputs) is.inputs;
       script = ap (list_all is_formed_timed) is.script;
       trace = ap (list_all is_formed_entry) is.entries;
-      last = ap is_formed_last is.last }
+      last = ap is_formed_last is.last;
+    }
 
 pub bundle_supported : (found : List Lexeme) (b : Bundle) → IsBundle found b → IsSupported b
 bundle_supported found b is = record {
-    choreo = ap is_one_interaction is.choreo.is_com; cast = is.cast; rules = is.rules; inputs = is.inputs; script = is.script }
+  choreo = ap is_one_interaction is.choreo.is_com;
+  cast = is.cast;
+  rules = is.rules;
+  inputs = is.inputs;
+  script = is.script;
+}
 
 pub read_formed : (bytes : List ℕ) (found : List Lexeme) (b : Bundle) → HasLexemes bytes found → IsBundle found b → IsFormed b
 read_formed bytes found b lexemes is = bundle_formed found b (recursion_from_All CanBeWritten found (read_spelling bytes found lexemes)) is

@@ -33,7 +33,7 @@ one_interaction n from c d to end a b =
     let found : ◌≡◌ {A = Option (Value × List Lexeme)} (Some (a.value, a.received)) (Some (b.value, b.received)) = sym a.sends ∙ ap constant sent ∙ b.sends in
     let received : a.received ≡ b.received = ap behind found in
     let tail : Symbol RightParen ∷ Symbol Arrow ∷ Name a.receiver ∷ Symbol LeftParen ∷ Name a.variable ∷ Symbol RightParen ∷ to
-          ≡ Symbol RightParen ∷ Symbol Arrow ∷ Name b.receiver ∷ Symbol LeftParen ∷ Name b.variable ∷ Symbol RightParen ∷ end = sym a.ends ∙ received ∙ b.ends in
+    ≡ Symbol RightParen ∷ Symbol Arrow ∷ Name b.receiver ∷ Symbol LeftParen ∷ Name b.variable ∷ Symbol RightParen ∷ end = sym a.ends ∙ received ∙ b.ends in
     let operation : a.operation ≡ b.operation = cc in
     let sender : a.sender ≡ b.sender = cc in
     let value : a.value ≡ b.value = ap front found in
@@ -47,8 +47,8 @@ one_bundle bytes b other first second =
     let heads : Reserved Aioc ∷ Symbol LeftBrace ∷ first.bundle.inside ≡ Reserved Aioc ∷ Symbol LeftBrace ∷ second.bundle.inside = sym first.bundle.begins ∙ found ∙ second.bundle.begins in
     let inside : first.bundle.inside ≡ second.bundle.inside = cc in
     let choreo : term b.choreo ≡ term other.choreo =
-          (one_interaction 0 second.bundle.inside (term b.choreo) (term other.choreo) first.bundle.behind second.bundle.behind
-            (subst (λ from. IsInteraction 0 from (term b.choreo) first.bundle.behind) inside first.bundle.choreo) second.bundle.choreo).0 in
+    (one_interaction 0 second.bundle.inside (term b.choreo) (term other.choreo) first.bundle.behind second.bundle.behind
+    (subst (λ from. IsInteraction 0 from (term b.choreo) first.bundle.behind) inside first.bundle.choreo) second.bundle.choreo).0 in
     record {
       version = first.bundle.version ∙ sym second.bundle.version;
       cast = first.bundle.cast ∙ ap cast_of choreo ∙ sym second.bundle.cast;
@@ -58,4 +58,5 @@ one_bundle bytes b other first second =
       env = first.bundle.env ∙ sym second.bundle.env;
       inputs = first.bundle.inputs ∙ sym second.bundle.inputs;
       script = first.bundle.script ∙ sym second.bundle.script;
-      trace = λ j. record { entries = (first.bundle.entries ∙ sym second.bundle.entries) j; last = (first.bundle.last ∙ sym second.bundle.last) j } }
+      trace = λ j. record { entries = (first.bundle.entries ∙ sym second.bundle.entries) j; last = (first.bundle.last ∙ sym second.bundle.last) j };
+    }

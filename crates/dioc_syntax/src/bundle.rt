@@ -10,9 +10,7 @@ ghost use Rattle.dioc_syntax.specs.Grammar.{IsBundle, Spells, SpellsNone};
 
 use crate::names::{name_at, role_at};
 use aioc_tokens::{Lexed, Mark, Sort, TokenFault, Word, place, tokens};
-use dioc_terms::{
-    Bundle, Choreo, Expr, Index, Items, Memory, SyntaxFault, Trace, Value, roles,
-};
+use dioc_terms::{Bundle, Choreo, Expr, Index, Items, Memory, SyntaxFault, Trace, Value, roles};
 use expr_syntax::constant_at;
 use std::alloc::Global;
 
@@ -98,12 +96,7 @@ fn bundle_at(alloc: Global, text: &Lexed<'_>) -> Result<Bundle, Stop>
 }
 
 // The bundle of the interaction that stands in the text, with what it sends and the place behind that.
-fn interaction(
-    alloc: Global,
-    text: &Lexed<'_>,
-    value: Value,
-    at: usize,
-) -> Result<Bundle, Stop>
+fn interaction(alloc: Global, text: &Lexed<'_>, value: Value, at: usize) -> Result<Bundle, Stop>
     requires head { Begins HEAD text.now }
     requires sent { constant (drop 6 text.now) ≡ Some (value, drop at text.now) }
     requires tail { Begins TAIL (drop at text.now) }

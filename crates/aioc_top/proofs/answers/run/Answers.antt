@@ -10,6 +10,6 @@ use Rattle.aioc_top.proofs.answers.run.Goals as goal
 pub returns : goal.returns
 returns c =
     let written : c.write_visible.new.out.items ≡ text (visible c.run_to_end.new.net.history) (last_line_of c.in_ok-finish.finish (length c.run_to_end.new.net.history)) =
-          grind (arith, common_steps, c.in_ok-write_visible.ensures.ok) in
+    grind (arith, common_steps, c.in_ok-write_visible.ensures.ok) in
     prints c.args.bundle.now c.in_ok-net.net c.run_to_end.new.net c.in_ok-finish.finish
-      (record { text = c.write_visible.new.out; finish = c.in_ok-finish.finish }) c.in_ok-net.ensures.history c.in_ok-net.ensures.limit c.in_ok-finish.ensures refl written
+    (record { text = c.write_visible.new.out; finish = c.in_ok-finish.finish }) c.in_ok-net.ensures.history c.in_ok-net.ensures.limit c.in_ok-finish.ensures refl written

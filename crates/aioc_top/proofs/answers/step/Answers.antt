@@ -12,4 +12,4 @@ told f byte says is = says (λ e. cc)
 pub returns-in-Err-Syntax-clause-fault : goal.returns-in-Err-Syntax-clause-fault
 returns-in-Err-Syntax-clause-fault c =
     syntax_is c.args.bytes.now c.in-Err-Syntax.byte c.syntax_fault.result
-      (told c.in-Err-Syntax.field-0 c.in-Err-Syntax.byte c.in-Err-Syntax.ensures.syntax c.in-Err-Syntax.field-0-is) c.syntax_fault.ensures
+    (told c.in-Err-Syntax.field-0 c.in-Err-Syntax.byte c.in-Err-Syntax.ensures.syntax c.in-Err-Syntax.field-0-is) c.syntax_fault.ensures
