@@ -20,7 +20,7 @@ use Rattle.dpoc_process.specs.Steps.{Deed, Puts, Takes, Sets, Inputs, Picks, Cho
 use Rattle.global_steps.specs.Follow.{answer_of}
 use Rattle.marked_laws.specs.Laws.{IsSound, HasStep}
 use Rattle.marked_laws.specs.Network.{Network, Outcome, decision, given_at, pending_at, act_step, network_start, network_run, network_ended}
-use Rattle.marked_laws.proofs.Acts.{step_act}
+use Rattle.dpoc_process.proofs.Lemmas.{steps-show_their_acts}
 use Rattle.marked_laws.proofs.Choices.{cast_unique, sound_answers}
 use Rattle.marked_laws.proofs.Equality.{role_same, act_same, act_itself}
 use Rattle.marked_laws.proofs.Found.{found}
@@ -206,7 +206,7 @@ module _ (known : Known) (b : Bundle) (sound : IsSound b) where
           deed = did.0;
           entry = did.3;
           who = here.3;
-          act = step_act q (N.stores q) (N.processes q) a (given_at b N q a) did.2;
+          act = steps-show_their_acts q (N.stores q) (N.processes q) a (given_at b N q a) did.0 did.1 did.2;
           mail = mail_fits b.cast N.stores (answers_in b N) N.updates here.1 marks.fine;
         }
 
