@@ -1,3 +1,4 @@
 pub mod Constants
 pub mod Levels
 pub mod Grammar
+pub mod Readers
