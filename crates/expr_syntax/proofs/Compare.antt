@@ -1,16 +1,15 @@
 -- Two expressions that stand at one place: they are the same, or behind the shorter one stands a token that can go on.
-use Rattle.std.proofs.Common.{◌≡◌, ℕ, suc, ◌+◌, ◌<◌, ◌≤◌, Bool, true, false, List, [], ◌∷◌, length, drop, Option, Some, None, refl, ap, sym, ◌∙◌, subst, arith, length-drop}
+use Rattle.std.proofs.Common.{◌≡◌, ℕ, ◌<◌, true, false, List, ◌∷◌, length, drop, Some, refl, ap, sym, ◌∙◌, arith}
 use Rattle.dioc_terms.specs.declared.expressions.Oper.{Oper}
 use Rattle.dioc_terms.specs.Expressions.{Expression, Not, Neg, Bin}
 use Rattle.aioc_tokens.specs.declared.words.Word.TheVariants as word
 use Rattle.aioc_tokens.specs.declared.words.Mark.TheVariants as mark
-use Rattle.aioc_tokens.specs.declared.words.Sort.TheVariants as sorts
 use Rattle.aioc_tokens.specs.Lexemes.{Lexeme, Reserved, Symbol, sort_of}
-use Rattle.expr_syntax.specs.Levels.{is_chain, tighter, operator}
+use Rattle.expr_syntax.specs.Levels.{tighter, operator}
 use Rattle.expr_syntax.specs.Grammar.{Reads, Follows, chain, denied, not_denied, alone, compared, single, negated, bracketed, ended, more, leaf, and_left, begins_with_number}
 use Rattle.expr_syntax.specs.declared.levels.ExprKind.{ExprKind}
 use Rattle.expr_syntax.specs.declared.levels.Level.{Level}
-use Rattle.expr_syntax.specs.declared.levels.Level.TheVariants.{Disjunction, Conjunction, Negation, Comparison, Sum, Product, Unary}
+use Rattle.expr_syntax.specs.declared.levels.Level.TheVariants.{Disjunction, Negation, Comparison, Sum, Unary}
 use Rattle.expr_syntax.proofs.LeafFacts.{same_pair, no_minus, no_paren, no_not}
 use Rattle.expr_syntax.proofs.Tables.{goes, goes_tighter, operator_goes, operator_stops, is_inside, inside_tighter}
 use Rattle.expr_syntax.proofs.Shorter.{drop_shorter, reads_shorter, follows_shorter}

@@ -1,8 +1,8 @@
 -- What the readers of the levels find, by what they find of the parts.
-use Rattle.std.proofs.Common.{◌≡◌, ◌≢◌, ℕ, suc, ◌+◌, ◌-◌, ◌<◌, ◌≤◌, Bool, true, false, List, [], ◌∷◌, length, drop, max, Option, Some, None, refl, ap, sym, ◌∙◌, subst, arith, drop-drop}
+use Rattle.std.proofs.Common.{◌≡◌, ◌≢◌, ℕ, suc, ◌+◌, ◌-◌, ◌<◌, ◌≤◌, true, false, List, ◌∷◌, length, drop, max, Option, Some, None, ap, sym, ◌∙◌, subst, arith}
 use Rattle.dioc_terms.specs.declared.expressions.Oper.{Oper}
 use Rattle.dioc_terms.specs.declared.expressions.Expr.{Expr}
-use Rattle.dioc_terms.specs.Expressions.{Expression, Not, Neg, Bin, expression, expression_depth}
+use Rattle.dioc_terms.specs.Expressions.{Not, Neg, Bin, expression, expression_depth}
 use Rattle.aioc_tokens.specs.declared.words.Word.TheVariants as word
 use Rattle.aioc_tokens.specs.declared.words.Mark.TheVariants as mark
 use Rattle.aioc_tokens.specs.declared.words.Sort.TheVariants as sorts
@@ -10,14 +10,14 @@ use Rattle.aioc_tokens.specs.Lexemes.{Lexeme, Reserved, Symbol, sort_of}
 use Rattle.aioc_tokens.specs.Fronts.{Longest, NoFront}
 use Rattle.aioc_tokens.proofs.Places.{one_more}
 use Rattle.expr_syntax.specs.Levels.{is_chain, tighter, operator}
-use Rattle.expr_syntax.specs.Grammar.{leaf, and_left, begins_with_number, IsShallow}
+use Rattle.expr_syntax.specs.Grammar.{begins_with_number, IsShallow}
 use Rattle.expr_syntax.specs.Readers.{LeafAt, IsNoted, Finds, FoundAt, FollowsShallow, Grows}
 use Rattle.expr_syntax.specs.declared.readers.Found.{Found}
 use Rattle.expr_syntax.specs.declared.levels.ExprKind.{ExprKind}
 use Rattle.expr_syntax.specs.declared.levels.Level.{Level}
-use Rattle.expr_syntax.specs.declared.levels.Level.TheVariants.{Disjunction, Conjunction, Negation, Comparison, Sum, Product, Unary}
+use Rattle.expr_syntax.specs.declared.levels.Level.TheVariants.{Disjunction, Negation, Comparison, Sum, Unary}
 use Rattle.expr_syntax.proofs.LeafFacts.{leaf_depth}
-use Rattle.expr_syntax.proofs.Fronts.{NoOperand, no_operator, no_depth, no_second, chain_front, chain_none, follow_ended, follow_joined, comparison_none, comparison_alone, comparison_joined, nothing_shallow, negation_inside, negation_none, negation_plain, negation_plain_none, minus_front, minus_none, bracket_front, bracket_room, bracket_none, bracket_open, leaf_front, leaf_none}
+use Rattle.expr_syntax.proofs.Fronts.{NoOperand, chain_front, chain_none, follow_ended, follow_joined, comparison_alone, comparison_joined, negation_inside, negation_plain, negation_plain_none, minus_front, bracket_front, leaf_front, leaf_none}
 
 -- the depth that is noted
 pub noted_depth : {deep : ℕ} {text : List Lexeme} {found : Found} → IsNoted deep text found → expression_depth (expression found.expr) ≤ deep

@@ -1,7 +1,7 @@
 -- The longest expression at a place, by the longest of its parts.
-use Rattle.std.proofs.Common.{◌≡◌, ◌≢◌, ℕ, suc, ◌+◌, ◌-◌, ◌<◌, ◌≤◌, Bool, true, false, List, [], ◌∷◌, length, drop, max, Option, Some, None, refl, ap, sym, ◌∙◌, subst, arith, length-drop}
+use Rattle.std.proofs.Common.{◌≡◌, ◌≢◌, ℕ, suc, ◌-◌, ◌<◌, ◌≤◌, true, false, List, ◌∷◌, length, drop, Some, None, refl, ap, sym, ◌∙◌, subst, arith}
 use Rattle.dioc_terms.specs.declared.expressions.Oper.{Oper}
-use Rattle.dioc_terms.specs.Expressions.{Expression, Const, Var, Prop, Env, Not, Neg, Bin, expression_depth}
+use Rattle.dioc_terms.specs.Expressions.{Expression, Not, Neg, Bin, expression_depth}
 use Rattle.aioc_tokens.specs.declared.words.Word.TheVariants as word
 use Rattle.aioc_tokens.specs.declared.words.Mark.TheVariants as mark
 use Rattle.aioc_tokens.specs.declared.words.Sort.TheVariants as sorts
@@ -12,9 +12,8 @@ use Rattle.expr_syntax.specs.Grammar.{Reads, Follows, chain, denied, not_denied,
 use Rattle.expr_syntax.specs.Readers.{FollowsShallow}
 use Rattle.expr_syntax.specs.declared.levels.ExprKind.{ExprKind}
 use Rattle.expr_syntax.specs.declared.levels.Level.{Level}
-use Rattle.expr_syntax.specs.declared.levels.Level.TheVariants.{Disjunction, Conjunction, Negation, Comparison, Sum, Product, Unary}
-use Rattle.expr_syntax.proofs.LeafFacts.{same_pair, no_minus, no_paren, no_not}
-use Rattle.expr_syntax.proofs.Tables.{goes, goes_tighter, operator_goes, operator_stops, is_inside}
+use Rattle.expr_syntax.specs.declared.levels.Level.TheVariants.{Disjunction, Negation, Comparison, Sum, Unary}
+use Rattle.expr_syntax.proofs.Tables.{goes, operator_stops}
 use Rattle.expr_syntax.proofs.Shorter.{drop_shorter, reads_shorter, follows_shorter}
 use Rattle.expr_syntax.proofs.Compare.{Compared, same, further, nearer, compare, not_inside, paren_stops, no_single_negated, no_single_bracketed}
 

@@ -1,8 +1,8 @@
 -- What the leaves of the grammar take of the list, and what begins none.
-use Rattle.std.proofs.Common.{◌≡◌, ◌≢◌, Result, Ok, Err, IfOk, ℕ, suc, add_assoc, ◌+◌, ◌<◌, ◌≤◌, Bool, true, false, List, [], ◌∷◌, length, drop, Option, Some, None, refl, ap, sym, ◌∙◌, arith, length-drop}
+use Rattle.std.proofs.Common.{◌≡◌, ◌≢◌, Result, Ok, Err, IfOk, ℕ, add_assoc, ◌+◌, ◌<◌, ◌≤◌, false, List, [], ◌∷◌, length, drop, Option, Some, None, refl, ap, sym, ◌∙◌, arith, length-drop}
 use Rattle.std.specs.Option.{option_map}
 use Rattle.dioc_terms.specs.declared.expressions.Expr.{Expr}
-use Rattle.dioc_terms.specs.Expressions.{Expression, Const, Var, Prop, Env, expression, expression_depth}
+use Rattle.dioc_terms.specs.Expressions.{Expression, Prop, Env, expression, expression_depth}
 use Rattle.aioc_tokens.specs.declared.words.Sort.TheVariants as sorts
 use Rattle.dioc_terms.specs.declared.values.Value.{Value}
 use Rattle.aioc_tokens.specs.declared.words.Word.{Word}

@@ -1,6 +1,6 @@
 -- What is written is read again.
-use Rattle.std.proofs.Common.{◌≡◌, ◌≢◌, ℕ, zero, suc, ◌+◌, ◌-◌, ◌^◌, ◌<◌, ◌≤◌, Bool, true, false, ◌&&◌, not, ◌||◌, List, [], ◌∷◌, length, drop, map, max, Option, Some, None, ℤ, pos, negsuc, refl, ap, sym, ◌∙◌, subst, arith, decimal, nat_le, cond, ◌==◌}
-use Rattle.std.specs.Option.{option_map, is_some}
+use Rattle.std.proofs.Common.{◌≡◌, ℕ, suc, ◌-◌, ◌^◌, ◌<◌, ◌≤◌, Bool, true, false, ◌&&◌, not, ◌||◌, List, [], ◌∷◌, length, map, Some, None, pos, negsuc, refl, ap, ◌∙◌, arith, decimal, nat_le, cond, ◌==◌}
+use Rattle.std.specs.Option.{option_map}
 use Rattle.std.specs.Str.{all_ascii_digits, bytes_eq}
 use Rattle.std.specs.Str.Parse.{digits_value}
 use Rattle.std.proofs.lemmas.Str.Parse.{tells_all_ascii_digits, numerals_by_value}
@@ -17,26 +17,24 @@ use Rattle.dioc_terms.specs.Bundles.{is_constant, is_step_expression, is_conditi
 use Rattle.aioc_tokens.specs.declared.words.Word.TheVariants as word
 use Rattle.aioc_tokens.specs.declared.words.Mark.TheVariants as mark
 use Rattle.aioc_tokens.specs.Lexemes.{Lexeme, Name, Number, Text, Reserved, Symbol, sort_of, HasSpelling, HasLexemes}
-use Rattle.aioc_tokens.specs.Fronts.{Longest, NoFront}
+use Rattle.aioc_tokens.specs.Fronts.{Longest}
 use Rattle.std.specs.Int.{is_in_range}
 use Rattle.std.proofs.lemmas.Fmt.{decimal_nonempty, digits_decimal}
 use Rattle.aioc_tokens.specs.Spelling.{spelled}
 use Rattle.aioc_tokens.proofs.Written.{spelled_lexemes}
 use Rattle.expr_syntax.proofs.ConstantFacts.{digits_tested}
 use Rattle.std.specs.List.{find, list_any, list_all, AllByRecursion}
-use Rattle.dioc_terms.specs.Names.{is_letter, is_digit, is_word, is_name, is_reserved, reserved_words, is_text, is_printable}
+use Rattle.dioc_terms.specs.Names.{is_letter, is_word, is_name, is_reserved, reserved_words, is_text, is_printable}
 use Rattle.aioc_tokens.specs.declared.words.Word.{Word}
 use Rattle.aioc_tokens.specs.Words.{word_spelling, word_of}
 use Rattle.aioc_tokens.specs.Words as words
 use Rattle.aioc_tokens.specs.Tokens.{is_name_byte}
 use Rattle.expr_syntax.specs.Constants.{greatest, greatest_negated, number_up_to, positive, negative, before, constant}
-use Rattle.expr_syntax.specs.Levels.{operator}
-use Rattle.expr_syntax.specs.Grammar.{Reads, Follows, chain, denied, not_denied, alone, compared, single, negated, bracketed, ended, more, leaf, and_left, const_before, IsShallow, IsExpression}
-use Rattle.expr_syntax.specs.Writing.{is_compound, operator_lexeme, written_integer, written_value, opened, closed, written}
+use Rattle.expr_syntax.specs.Grammar.{Reads, chain, denied, not_denied, alone, compared, single, negated, bracketed, ended, more, leaf, and_left, const_before, IsExpression}
+use Rattle.expr_syntax.specs.Writing.{is_compound, operator_lexeme, written_value, opened, closed, written}
 use Rattle.expr_syntax.specs.Laws.{is_formed, NoOperatorFirst}
 use Rattle.expr_syntax.specs.declared.levels.ExprKind.{ExprKind}
 use Rattle.expr_syntax.specs.declared.levels.ExprKind.TheVariants.{Step, Condition}
-use Rattle.expr_syntax.specs.declared.levels.Level.{Level}
 use Rattle.expr_syntax.specs.declared.levels.Level.TheVariants.{Disjunction, Conjunction, Negation, Comparison, Sum, Product, Unary}
 use Rattle.expr_syntax.proofs.Tables.{goes}
 use Rattle.expr_syntax.proofs.Fronts.{some_depth}
@@ -204,7 +202,7 @@ whole_reads kind (Not e) room others is deep =
     let inner = of_not kind e is in
     let some = some_depth e in
     let r = operand_reads kind room (is_compound e) e others (whole_reads kind e room others inner (omega arith)).simple
-        (λ compound. (room - 1, omega arith, (whole_reads kind e (room - 1) (Symbol mark.RightParen ∷ others) inner (omega arith)).full)) in
+    (λ compound. (room - 1, omega arith, (whole_reads kind e (room - 1) (Symbol mark.RightParen ∷ others) inner (omega arith)).full)) in
     record { simple = λ other. absurd cc; full = as_disjunction (as_conjunction (denied refl (unary_negation r))) }
 whole_reads kind (Neg e) room others is deep =
     let inner = of_neg kind e is in
@@ -217,9 +215,9 @@ whole_reads kind (Bin oper a b) room others is deep =
     let some_b = some_depth b in
     let rest = opened (is_compound b) (written b (closed (is_compound b) others)) in
     let r = operand_reads kind room (is_compound a) a (operator_lexeme oper ∷ rest) (whole_reads kind a room (operator_lexeme oper ∷ rest) parts.left_is (omega arith)).simple
-        (λ compound. (room - 1, omega arith, (whole_reads kind a (room - 1) (Symbol mark.RightParen ∷ operator_lexeme oper ∷ rest) parts.left_is (omega arith)).full)) in
+    (λ compound. (room - 1, omega arith, (whole_reads kind a (room - 1) (Symbol mark.RightParen ∷ operator_lexeme oper ∷ rest) parts.left_is (omega arith)).full)) in
     let s = operand_reads kind room (is_compound b) b others (whole_reads kind b room others parts.right_is (omega arith)).simple
-        (λ compound. (room - 1, omega arith, (whole_reads kind b (room - 1) (Symbol mark.RightParen ∷ others) parts.right_is (omega arith)).full)) in
+    (λ compound. (room - 1, omega arith, (whole_reads kind b (room - 1) (Symbol mark.RightParen ∷ others) parts.right_is (omega arith)).full)) in
     record { simple = λ other. absurd cc; full = binary_reads kind room oper a b (opened (is_compound a) (written a (closed (is_compound a) (operator_lexeme oper ∷ rest)))) rest others parts.joined r s }
 
 -- the lexemes of what is written can be spelled

@@ -1,16 +1,10 @@
 -- An expression takes at least one lexeme.
-use Rattle.std.proofs.Common.{◌≡◌, ℕ, suc, ◌+◌, ◌<◌, ◌≤◌, List, [], ◌∷◌, length, drop, Option, Some, None, refl, ap, sym, arith, length-drop}
-use Rattle.dioc_terms.specs.Expressions.{Expression, Prop, Env}
-use Rattle.aioc_tokens.specs.declared.words.Word.TheVariants as word
-use Rattle.aioc_tokens.specs.declared.words.Mark.TheVariants as mark
-use Rattle.aioc_tokens.specs.Lexemes.{Lexeme, Name, Long, Number, Text, Reserved, Symbol, sort_of}
-use Rattle.dioc_terms.specs.declared.values.Value.{Value}
-use Rattle.expr_syntax.specs.Constants.{greatest, greatest_negated, number_up_to, constant}
-use Rattle.expr_syntax.specs.Levels.{operator}
+use Rattle.std.proofs.Common.{ℕ, ◌<◌, ◌≤◌, List, length, drop, ap, arith, length-drop}
+use Rattle.dioc_terms.specs.Expressions.{Expression}
+use Rattle.aioc_tokens.specs.Lexemes.{Lexeme}
 use Rattle.expr_syntax.specs.Grammar.{Reads, Follows, chain, denied, not_denied, alone, compared, single, negated, bracketed, ended, more}
 use Rattle.expr_syntax.proofs.LeafFacts.{leaf_shorter}
 use Rattle.expr_syntax.specs.declared.levels.ExprKind.{ExprKind}
-use Rattle.expr_syntax.specs.declared.levels.ExprKind.TheVariants.{Step, Condition}
 use Rattle.expr_syntax.specs.declared.levels.Level.{Level}
 
 pub drop_shorter : (from : List Lexeme) → length (drop 1 from) ≤ length from

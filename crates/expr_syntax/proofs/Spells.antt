@@ -1,5 +1,5 @@
 -- The bytes of an expression are the spelling of its lexemes.
-use Rattle.std.proofs.Common.{◌≡◌, ℕ, suc, ◌<◌, Bool, true, false, List, [], ◌∷◌, ◌++◌, ℤ, pos, negsuc, refl, ap, sym, ◌∙◌, append_assoc, append-nil, codes, decimal, length, arith}
+use Rattle.std.proofs.Common.{◌≡◌, ℕ, suc, ◌<◌, Bool, true, false, List, [], ◌∷◌, ◌++◌, pos, negsuc, refl, ap, sym, ◌∙◌, append_assoc, append-nil, decimal, length, arith}
 use Rattle.dioc_terms.specs.declared.values.Value.{Value}
 use Rattle.dioc_terms.specs.declared.values.Value.TheVariants as value
 use Rattle.dioc_terms.specs.Expressions.{Expression, Const, Var, Prop, Env, Not, Neg, Bin}
@@ -7,8 +7,8 @@ use Rattle.aioc_tokens.specs.declared.words.Word.TheVariants as word
 use Rattle.aioc_tokens.specs.declared.words.Mark.TheVariants as mark
 use Rattle.aioc_tokens.specs.Lexemes.{Lexeme, Name, Number, Text, Reserved, Symbol}
 use Rattle.aioc_tokens.specs.Spelling.{spelling, spelled}
-use Rattle.expr_syntax.specs.Writing.{is_compound, operator_lexeme, written_integer, written_truth, written_value, opened, closed, written}
-use Rattle.expr_syntax.specs.Pieces.{integer_text, truth_text, value_text, opening_text, closing_text, expression_text}
+use Rattle.expr_syntax.specs.Writing.{is_compound, operator_lexeme, written_value, opened, closed, written}
+use Rattle.expr_syntax.specs.Pieces.{value_text, opening_text, closing_text, expression_text}
 
 -- what follows, with a space before it
 abbrev pub behind : List Lexeme → List ℕ
@@ -94,8 +94,8 @@ written_spelled (Bin oper a b) others =
     let rest = operator_lexeme oper ∷ right in
     operand_spelled a rest (written_spelled a (closed (is_compound a) rest))
     ∙ ap (λ more. opening_text (is_compound a) ++ (expression_text a ++ (closing_text (is_compound a) ++ 32 ∷ more)))
-      (spelled_first (operator_lexeme oper) right
-      ∙ ap (λ more. spelling (operator_lexeme oper) ++ more) (behind_some right (operand_some b others) ∙ ap (λ more. 32 ∷ more) (operand_spelled b others (written_spelled b (closed (is_compound b) others)))))
+    (spelled_first (operator_lexeme oper) right
+    ∙ ap (λ more. spelling (operator_lexeme oper) ++ more) (behind_some right (operand_some b others) ∙ ap (λ more. 32 ∷ more) (operand_spelled b others (written_spelled b (closed (is_compound b) others)))))
     ∙ simp append_assoc
 
 -- the text of an expression alone

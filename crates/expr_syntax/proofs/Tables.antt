@@ -1,5 +1,5 @@
 -- Which tokens can go on behind an expression of a level.
-use Rattle.std.proofs.Common.{◌≡◌, Bool, true, false, ◌||◌, Option, Some, None, refl, ap}
+use Rattle.std.proofs.Common.{◌≡◌, Bool, true, false, ◌||◌, Some, refl, ap}
 use Rattle.std.specs.Option.{is_some}
 use Rattle.dioc_terms.specs.declared.expressions.Oper.{Oper}
 use Rattle.aioc_tokens.specs.declared.words.Word.{Word}
@@ -8,9 +8,8 @@ use Rattle.aioc_tokens.specs.declared.words.Mark.{Mark}
 use Rattle.aioc_tokens.specs.declared.words.Mark.TheVariants as mark
 use Rattle.aioc_tokens.specs.declared.words.Sort.{Sort}
 use Rattle.aioc_tokens.specs.declared.words.Sort.TheVariants as sorts
-use Rattle.expr_syntax.specs.Levels.{is_chain, tighter, disjunction, conjunction, comparison, joining, addition, multiplication, operator}
+use Rattle.expr_syntax.specs.Levels.{tighter, disjunction, conjunction, comparison, addition, operator}
 use Rattle.expr_syntax.specs.declared.levels.ExprKind.{ExprKind}
-use Rattle.expr_syntax.specs.declared.levels.ExprKind.TheVariants.{Step, Condition}
 use Rattle.expr_syntax.specs.declared.levels.Level.{Level}
 use Rattle.expr_syntax.specs.declared.levels.Level.TheVariants.{Disjunction, Conjunction, Negation, Comparison, Sum, Product, Unary}
 

@@ -1,5 +1,5 @@
 -- How expressions are written.
-use Rattle.std.specs.Prelude.{◌≡◌, ℕ, suc, Bool, true, false, List, [], ◌∷◌, ◌++◌, length, take, codes, decimal, flat_map, if◌then◌else◌, ℤ, pos, negsuc}
+use Rattle.std.specs.Prelude.{suc, Bool, true, false, List, ◌∷◌, decimal, ℤ, pos, negsuc}
 use Rattle.dioc_terms.specs.declared.values.Value.{Value}
 use Rattle.dioc_terms.specs.declared.values.Value.TheVariants as value
 use Rattle.dioc_terms.specs.declared.expressions.Oper.{Oper}
@@ -7,9 +7,7 @@ use Rattle.dioc_terms.specs.declared.expressions.Oper.TheVariants.{Add, Sub, Mul
 use Rattle.dioc_terms.specs.Expressions.{Expression, Const, Var, Prop, Env, Not, Neg, Bin}
 use Rattle.aioc_tokens.specs.declared.words.Word.TheVariants as word
 use Rattle.aioc_tokens.specs.declared.words.Mark.TheVariants as mark
-use Rattle.aioc_tokens.specs.Tokens.{quoted}
 use Rattle.aioc_tokens.specs.Lexemes.{Lexeme, Name, Number, Text, Reserved, Symbol}
-use Rattle.aioc_tokens.specs.Spelling.{spelling}
 
 -- an operand of `not` and of a two-sided operator stands in brackets where it is one of these
 abbrev pub is_compound : Expression → Bool

@@ -7,6 +7,8 @@ pub mod laws;
 mod leaves;
 mod levels;
 mod readers;
+#[cfg(test)]
+mod tests;
 mod writers;
 
 pub use constants::{GREATEST, GREATEST_NEGATED, constant_at, number_at};

@@ -117,7 +117,12 @@ fn operator_bytes(oper: Oper) -> &'static [u8]
 }
 
 /// What stands between two operands: the operator between two spaces, and the brackets beside it.
-fn write_between(left_compound: bool, oper: Oper, right_compound: bool, out: &mut Vec<u8>) -> Result<(), Memory>
+fn write_between(
+    left_compound: bool,
+    oper: Oper,
+    right_compound: bool,
+    out: &mut Vec<u8>,
+) -> Result<(), Memory>
     ensures ok { OnOk result (out.new.items ≡ out.old.items ++ (closing_text left_compound ++ codes " " ++ spelling (operator_lexeme oper) ++ codes " " ++ opening_text right_compound)) }
     ensures memory { OnErr result (KeepsFront out.old.items out.new.items) }
 {

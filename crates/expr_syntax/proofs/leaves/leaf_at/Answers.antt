@@ -1,4 +1,4 @@
-use Rattle.std.proofs.Common.{◌≡◌, sym, ◌∙◌, refl}
+use Rattle.std.proofs.Common.{◌∙◌}
 use Rattle.expr_syntax.proofs.LeafFacts.{other_default}
 use Rattle.expr_syntax.proofs.leaves.leaf_at.Goals as goal
 

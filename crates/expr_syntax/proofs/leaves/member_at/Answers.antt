@@ -1,7 +1,7 @@
-use Rattle.std.proofs.Common.{◌≡◌, ◌+◌, sym, ◌∙◌, refl, [], ◌∷◌, true, false}
+use Rattle.std.proofs.Common.{◌+◌, sym, refl, [], ◌∷◌}
 use Rattle.aioc_tokens.specs.declared.words.Mark.TheVariants as mark
 use Rattle.aioc_tokens.specs.declared.words.Sort.TheVariants as sorts
-use Rattle.aioc_tokens.proofs.Places.{begins_here, begins_after, symbol_at}
+use Rattle.aioc_tokens.proofs.Places.{begins_here, symbol_at}
 use Rattle.expr_syntax.proofs.LeafFacts.{member_taken, member_none}
 use Rattle.expr_syntax.proofs.leaves.member_at.Goals as goal
 

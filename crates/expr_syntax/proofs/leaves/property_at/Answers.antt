@@ -1,4 +1,4 @@
-use Rattle.std.proofs.Common.{◌≡◌, ◌+◌, Some, None, sym, refl, subst}
+use Rattle.std.proofs.Common.{◌+◌, Some, None, sym, refl, subst}
 use Rattle.dioc_terms.specs.declared.expressions.Expr as expr
 use Rattle.dioc_terms.specs.Expressions.{Prop}
 use Rattle.aioc_tokens.specs.declared.words.Word.TheVariants as word

@@ -1,4 +1,4 @@
-use Rattle.std.proofs.Common.{◌≡◌, sym, refl}
+use Rattle.std.proofs.Common.{sym, refl}
 use Rattle.aioc_tokens.proofs.Places.{reserved_at}
 use Rattle.expr_syntax.proofs.LeafFacts.{word_default}
 use Rattle.expr_syntax.proofs.leaves.word_leaf_at.Goals as goal

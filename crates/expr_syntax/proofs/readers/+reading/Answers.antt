@@ -1,14 +1,14 @@
-use Rattle.std.proofs.Common.{◌≡◌, ◌+◌, ◌-◌, Some, None, refl, sym, ◌∙◌, ap, subst, arith, IfOk, drop}
+use Rattle.std.proofs.Common.{◌+◌, ◌-◌, refl, sym, ◌∙◌, ap, subst, arith, drop}
 use Rattle.aioc_tokens.specs.Fronts.{NoFront}
 use Rattle.aioc_tokens.specs.declared.words.Word.TheVariants as word
 use Rattle.aioc_tokens.specs.declared.words.Mark.TheVariants as mark
 use Rattle.aioc_tokens.proofs.Places.{one_more, symbol_at, reserved_at}
-use Rattle.expr_syntax.specs.Readers.{FoundAt, Grows, Finds}
+use Rattle.expr_syntax.specs.Readers.{FoundAt, Finds}
 use Rattle.expr_syntax.specs.Grammar.{IsShallow}
 use Rattle.expr_syntax.specs.Levels.{tighter, operator}
 use Rattle.expr_syntax.specs.declared.levels.Level.TheVariants.{Disjunction, Negation, Comparison, Sum, Unary}
 use Rattle.expr_syntax.proofs.LeafFacts.{if_ok}
-use Rattle.expr_syntax.proofs.Fronts.{no_operator, no_depth, no_second, nothing_shallow, comparison_none, negation_none, negation_plain, minus_none, bracket_none, bracket_open}
+use Rattle.expr_syntax.proofs.Fronts.{no_operator, no_depth, no_second, nothing_shallow, negation_none, minus_none, bracket_none, bracket_open}
 use Rattle.expr_syntax.proofs.Findings.{whole_found, whole_missing, side_found, comparison_found, denied_found, negated_found, bracket_found, follow_stays, follow_more, plain_at}
 use Rattle.expr_syntax.proofs.readers.+reading.Goals as goal
 

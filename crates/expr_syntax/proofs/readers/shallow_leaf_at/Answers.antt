@@ -1,4 +1,4 @@
-use Rattle.std.proofs.Common.{◌≡◌, Some, None, subst, arith}
+use Rattle.std.proofs.Common.{subst, arith}
 use Rattle.expr_syntax.specs.Readers.{LeafAt}
 use Rattle.expr_syntax.proofs.Fronts.{nothing_shallow}
 use Rattle.expr_syntax.proofs.Findings.{leaf_found, leaf_missing}

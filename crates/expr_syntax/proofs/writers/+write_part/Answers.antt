@@ -1,4 +1,3 @@
-use Rattle.std.proofs.Common.{◌≡◌, ◌++◌}
 use Rattle.expr_syntax.proofs.KeptFronts.{err_front}
 use Rattle.expr_syntax.proofs.writers.+write_part.Goals as goal
 
