@@ -21,7 +21,7 @@ use Rattle.aioc_tokens.specs.Lexemes.{Lexeme, Long, Number, Symbol, sort_of}
 use Rattle.aioc_tokens.proofs.Places.{number_at}
 use Rattle.expr_syntax.specs.Constants.{greatest, greatest_negated, number_up_to, number, positive, negative, before, constant, ConstantAt}
 
-digits_tested : (digits : List ℕ) → list_all is_ascii_digit digits ≡ all_ascii_digits digits
+pub digits_tested : (digits : List ℕ) → list_all is_ascii_digit digits ≡ all_ascii_digits digits
 digits_tested [] = refl
 digits_tested (digit ∷ others) = ap (λ tested. is_ascii_digit digit && tested) (digits_tested others)
 

@@ -1,5 +1,5 @@
 -- The grammar of expressions: what a list of lexemes reads as, from its front on.
-use Rattle.std.specs.Prelude.{◌≡◌, ℕ, suc, ◌<◌, ◌≤◌, Bool, true, false, List, [], ◌∷◌, length, drop, Option, Some, None, option_map}
+use Rattle.std.specs.Prelude.{◌≡◌, ℕ, suc, ◌<◌, ◌≤◌, Bool, true, false, List, ◌∷◌, length, drop, Option, Some, None, option_map}
 use Rattle.dioc_terms.specs.declared.values.Value.{Value}
 use Rattle.dioc_terms.specs.declared.expressions.Oper.{Oper}
 use Rattle.dioc_terms.specs.declared.expressions.Expr.{Expr}
@@ -11,9 +11,9 @@ use Rattle.aioc_tokens.specs.Fronts.{Longest, NoFront}
 use Rattle.expr_syntax.specs.Constants.{constant}
 use Rattle.expr_syntax.specs.Levels.{is_chain, tighter, operator}
 use Rattle.expr_syntax.specs.declared.levels.ExprKind.{ExprKind}
-use Rattle.expr_syntax.specs.declared.levels.ExprKind.TheVariants.{Step, Condition}
+use Rattle.expr_syntax.specs.declared.levels.ExprKind.TheVariants.{Condition}
 use Rattle.expr_syntax.specs.declared.levels.Level.{Level}
-use Rattle.expr_syntax.specs.declared.levels.Level.TheVariants.{Disjunction, Conjunction, Negation, Comparison, Sum, Product, Unary}
+use Rattle.expr_syntax.specs.declared.levels.Level.TheVariants.{Disjunction, Negation, Comparison, Sum, Unary}
 
 abbrev pub const_before : Value × List Lexeme → Expression × List Lexeme
 const_before read = (Const read.0, read.1)

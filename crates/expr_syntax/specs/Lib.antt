@@ -1,3 +1,7 @@
 pub mod Constants
 pub mod Levels
 pub mod Grammar
+pub mod Readers
+pub mod Writing
+pub mod Pieces
+pub mod Laws

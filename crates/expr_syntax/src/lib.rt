@@ -2,7 +2,17 @@
 #![tactic(auto)]
 
 mod constants;
+mod expressions;
+pub mod laws;
+mod leaves;
 mod levels;
+mod readers;
+#[cfg(test)]
+mod tests;
+mod writers;
 
 pub use constants::{GREATEST, GREATEST_NEGATED, constant_at, number_at};
+pub use expressions::{BRACKET_LIMIT, DEPTH_LIMIT, expr_at, read_expr};
+pub use leaves::name_at;
 pub use levels::ExprKind;
+pub use writers::write_expr;

@@ -1,0 +1,125 @@
+-- What the readers of the levels find, by what they find of the parts.
+use Rattle.std.proofs.Common.{◌≡◌, ◌≢◌, ℕ, suc, ◌+◌, ◌-◌, ◌<◌, ◌≤◌, true, false, List, ◌∷◌, length, drop, max, Option, Some, None, ap, sym, ◌∙◌, subst, arith}
+use Rattle.dioc_terms.specs.declared.expressions.Oper.{Oper}
+use Rattle.dioc_terms.specs.declared.expressions.Expr.{Expr}
+use Rattle.dioc_terms.specs.Expressions.{Not, Neg, Bin, expression, expression_depth}
+use Rattle.aioc_tokens.specs.declared.words.Word.TheVariants as word
+use Rattle.aioc_tokens.specs.declared.words.Mark.TheVariants as mark
+use Rattle.aioc_tokens.specs.declared.words.Sort.TheVariants as sorts
+use Rattle.aioc_tokens.specs.Lexemes.{Lexeme, Reserved, Symbol, sort_of}
+use Rattle.aioc_tokens.specs.Fronts.{Longest, NoFront}
+use Rattle.aioc_tokens.proofs.Places.{one_more}
+use Rattle.expr_syntax.specs.Levels.{is_chain, tighter, operator}
+use Rattle.expr_syntax.specs.Grammar.{begins_with_number, IsShallow}
+use Rattle.expr_syntax.specs.Readers.{LeafAt, IsNoted, Finds, FoundAt, FollowsShallow, Grows}
+use Rattle.expr_syntax.specs.declared.readers.Found.{Found}
+use Rattle.expr_syntax.specs.declared.levels.ExprKind.{ExprKind}
+use Rattle.expr_syntax.specs.declared.levels.Level.{Level}
+use Rattle.expr_syntax.specs.declared.levels.Level.TheVariants.{Disjunction, Negation, Comparison, Sum, Unary}
+use Rattle.expr_syntax.proofs.LeafFacts.{leaf_depth}
+use Rattle.expr_syntax.proofs.Fronts.{NoOperand, chain_front, chain_none, follow_ended, follow_joined, comparison_alone, comparison_joined, negation_inside, negation_plain, negation_plain_none, minus_front, bracket_front, leaf_front, leaf_none}
+
+-- the depth that is noted
+pub noted_depth : {deep : ℕ} {text : List Lexeme} {found : Found} → IsNoted deep text found → expression_depth (expression found.expr) ≤ deep
+noted_depth noted = let depth = noted.depth in let shallow = noted.shallow in omega arith
+
+module _ (kind : ExprKind) (room deep : ℕ) (text : List Lexeme) (at : ℕ) where
+  pub leaf_found : (expr : Expr) (next : ℕ) → 0 < deep → LeafAt kind text at (Some (expr, next)) → Finds kind Unary room deep text at (record { expr = expr; depth = 1; at = next })
+  leaf_found expr next some is =
+      let one = leaf_depth kind (drop at text) (drop next text) (expression expr) is.0 in
+      let bounds = is.1 in
+      record {
+        front = leaf_front (omega arith) is.0;
+        noted = record { depth = sym one; shallow = omega arith; within = omega arith };
+        after = omega arith;
+      }
+
+  pub leaf_missing : (sort_of (drop at text) ≡ sorts.Symbol mark.Minus → begins_with_number (drop (at + 1) text) ≡ true) → sort_of (drop at text) ≢ sorts.Symbol mark.LeftParen → LeafAt kind text at None → NoFront (IsShallow kind Unary room deep (drop at text))
+  leaf_missing minus paren is = leaf_none (λ sort. ap begins_with_number (one_more text at) ∙ minus sort) paren is.0
+
+  pub whole_found : (level : Level) (first whole : Found) → is_chain level ≡ true → Finds kind (tighter level) room deep text at first → Grows kind level room deep text first whole → Finds kind level room deep text at whole
+  whole_found level first whole chains one rest = record {
+    front = chain_front chains one.front rest.front;
+    noted = rest.noted;
+    after = (let before = one.after in let more = rest.after in omega arith);
+  }
+
+  pub whole_missing : (level : Level) → is_chain level ≡ true → NoFront (IsShallow kind (tighter level) room deep (drop at text)) → NoFront (IsShallow kind level room deep (drop at text))
+  whole_missing level chains none = chain_none chains none
+
+  -- a comparison with no operand behind its left side
+  pub side_found : (left : Found) → Finds kind Sum room deep text at left → NoOperand kind Comparison Sum room deep (expression left.expr) (drop left.at text) → Finds kind Comparison room deep text at left
+  side_found left one none = record { front = comparison_alone one.front none; noted = one.noted; after = one.after }
+
+  pub comparison_found : (oper : Oper) (left right both : Found) → Some oper ≡ operator kind Comparison (sort_of (drop left.at text)) → left.depth ≢ deep → Finds kind Sum room deep text at left → Finds kind Sum room (deep - 1) text (left.at + 1) right
+      → expression both.expr ≡ Bin oper (expression left.expr) (expression right.expr) → both.depth ≡ suc (max left.depth right.depth) → both.at ≡ right.at → Finds kind Comparison room deep text at both
+  comparison_found oper left right both found deeper one two joins depth place =
+      let depth1 = one.noted.depth in
+      let depth2 = two.noted.depth in
+      let shallow1 = one.noted.shallow in
+      let shallow2 = two.noted.shallow in
+      record {
+        front = rw (joins, place) (comparison_joined oper (sym found) (omega arith) one.front (subst (λ rest. Longest (IsShallow kind Sum room (deep - 1) rest) (expression right.expr) (drop right.at text)) (sym (one_more text left.at)) two.front));
+        noted = record { depth = depth ∙ omega arith ∙ sym (ap expression_depth joins); shallow = omega arith; within = (let inside = two.noted.within in omega arith) };
+        after = (let before = one.after in let more = two.after in omega arith);
+      }
+
+  pub denied_found : (inner whole : Found) → 0 < deep → drop at text ≡ Reserved word.Not ∷ drop (at + 1) text → Finds kind Negation room (deep - 1) text (at + 1) inner
+      → expression whole.expr ≡ Not (expression inner.expr) → whole.depth ≡ suc inner.depth → whole.at ≡ inner.at → Finds kind Negation room deep text at whole
+  denied_found inner whole some begins one denies depth place =
+      let depth1 = one.noted.depth in
+      let shallow1 = one.noted.shallow in
+      record {
+        front = rw (denies, place) (negation_inside some begins one.front);
+        noted = record { depth = depth ∙ omega arith ∙ sym (ap expression_depth denies); shallow = omega arith; within = (let inside = one.noted.within in omega arith) };
+        after = (let before = one.after in omega arith);
+      }
+
+  -- no `not` stands there
+  pub plain_at : sort_of (drop at text) ≢ sorts.Reserved word.Not → (found : Option Found) → FoundAt kind Comparison room deep text at found → FoundAt kind Negation room deep text at found
+  plain_at other None none = negation_plain_none other none
+  plain_at other (Some found) one = record { front = negation_plain other one.front; noted = one.noted; after = one.after }
+
+  pub negated_found : (inner whole : Found) → 0 < deep → drop at text ≡ Symbol mark.Minus ∷ drop (at + 1) text → begins_with_number (drop (at + 1) text) ≡ false → Finds kind Unary room (deep - 1) text (at + 1) inner
+      → expression whole.expr ≡ Neg (expression inner.expr) → whole.depth ≡ suc inner.depth → whole.at ≡ inner.at → Finds kind Unary room deep text at whole
+  negated_found inner whole some begins minus one negates depth place =
+      let depth1 = one.noted.depth in
+      let shallow1 = one.noted.shallow in
+      record {
+        front = rw (negates, place) (minus_front some begins minus one.front);
+        noted = record { depth = depth ∙ omega arith ∙ sym (ap expression_depth negates); shallow = omega arith; within = (let inside = one.noted.within in omega arith) };
+        after = (let before = one.after in omega arith);
+      }
+
+  pub bracket_found : (inner : Found) → 0 < room → drop at text ≡ Symbol mark.LeftParen ∷ drop (at + 1) text → Finds kind Disjunction (room - 1) deep text (at + 1) inner → drop inner.at text ≡ Symbol mark.RightParen ∷ drop (inner.at + 1) text → inner.at < length text
+      → Finds kind Unary room deep text at (record { expr = inner.expr; depth = inner.depth; at = inner.at + 1 })
+  bracket_found inner some begins one ends within = record {
+    front = bracket_front some begins one.front ends;
+    noted = record { depth = one.noted.depth; shallow = one.noted.shallow; within = omega arith };
+    after = (let before = one.after in omega arith);
+  }
+
+-- behind an expression
+module _ (kind : ExprKind) (level : Level) (room deep : ℕ) (text : List Lexeme) where
+  pub follow_stays : (first : Found) → IsNoted deep text first → NoOperand kind level (tighter level) room deep (expression first.expr) (drop first.at text) → Grows kind level room deep text first first
+  follow_stays first noted none = record { front = follow_ended (noted_depth noted) none; noted = noted; after = omega arith }
+
+  pub follow_more : (oper : Oper) (first second both whole : Found) → IsNoted deep text first → Some oper ≡ operator kind level (sort_of (drop first.at text)) → Finds kind (tighter level) room (deep - 1) text (first.at + 1) second
+      → expression both.expr ≡ Bin oper (expression first.expr) (expression second.expr) → both.at ≡ second.at → Grows kind level room deep text both whole → Grows kind level room deep text first whole
+  follow_more oper first second both whole noted found two joins place rest = record {
+    front = follow_joined oper (sym found) (subst (λ others. Longest (IsShallow kind (tighter level) room (deep - 1) others) (expression second.expr) (drop second.at text)) (sym (one_more text first.at)) two.front)
+        (subst (λ operand. Longest (FollowsShallow kind level room deep operand (drop second.at text)) (expression whole.expr) (drop whole.at text)) joins
+        (subst (λ next. Longest (FollowsShallow kind level room deep (expression both.expr) (drop next text)) (expression whole.expr) (drop whole.at text)) place rest.front));
+    noted = rest.noted;
+    after = (let before = two.after in let more = rest.after in omega arith);
+  }
+
+  -- both operands together are noted
+  pub both_noted : (oper : Oper) (first second both : Found) → first.depth ≢ deep → IsNoted deep text first → Finds kind (tighter level) room (deep - 1) text (first.at + 1) second
+      → expression both.expr ≡ Bin oper (expression first.expr) (expression second.expr) → both.depth ≡ suc (max first.depth second.depth) → both.at ≡ second.at → IsNoted deep text both
+  both_noted oper first second both deeper noted two joins depth place =
+      let depth1 = noted.depth in
+      let depth2 = two.noted.depth in
+      let shallow1 = noted.shallow in
+      let shallow2 = two.noted.shallow in
+      record { depth = depth ∙ omega arith ∙ sym (ap expression_depth joins); shallow = omega arith; within = (let inside = two.noted.within in omega arith) }

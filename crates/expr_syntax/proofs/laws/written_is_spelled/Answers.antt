@@ -1,0 +1,5 @@
+use Rattle.expr_syntax.proofs.RoundTrip.{written_lexemes}
+use Rattle.expr_syntax.proofs.laws.written_is_spelled.Goals as goal
+
+pub returns : goal.returns
+returns c = written_lexemes

@@ -1,0 +1,124 @@
+use Rattle.std.proofs.Common.{◌+◌, ◌-◌, refl, sym, ◌∙◌, ap, subst, arith, drop}
+use Rattle.aioc_tokens.specs.Fronts.{NoFront}
+use Rattle.aioc_tokens.specs.declared.words.Word.TheVariants as word
+use Rattle.aioc_tokens.specs.declared.words.Mark.TheVariants as mark
+use Rattle.aioc_tokens.proofs.Places.{one_more, symbol_at, reserved_at}
+use Rattle.expr_syntax.specs.Readers.{FoundAt, Finds}
+use Rattle.expr_syntax.specs.Grammar.{IsShallow}
+use Rattle.expr_syntax.specs.Levels.{tighter, operator}
+use Rattle.expr_syntax.specs.declared.levels.Level.TheVariants.{Disjunction, Negation, Comparison, Sum, Unary}
+use Rattle.expr_syntax.proofs.LeafFacts.{if_ok}
+use Rattle.expr_syntax.proofs.Fronts.{no_operator, no_depth, no_second, nothing_shallow, negation_none, minus_none, bracket_none, bracket_open}
+use Rattle.expr_syntax.proofs.Findings.{whole_found, whole_missing, side_found, comparison_found, denied_found, negated_found, bracket_found, follow_stays, follow_more, plain_at}
+use Rattle.expr_syntax.proofs.readers.+reading.Goals as goal
+
+pub bracket_at-returns-in-None : goal.bracket_at-returns-in-None
+bracket_at-returns-in-None t c =
+    let begins = symbol_at c.args.text.now c.args.at mark.LeftParen mark.LeftParen (sym c.requires.sort) refl in
+    bracket_none (drop (c.args.at + 1) c.args.text.now) begins (subst (FoundAt c.args.kind Disjunction (c.args.room - 1) c.args.deep c.args.text.now (c.args.at + 1)) c.in-None.is c.in_ok-inner.ensures)
+
+pub bracket_at-returns-then-stands : goal.bracket_at-returns-then-stands
+bracket_at-returns-then-stands t c =
+    let begins = symbol_at c.args.text.now c.args.at mark.LeftParen mark.LeftParen (sym c.requires.sort) refl in
+    bracket_found c.args.kind c.args.room c.args.deep c.args.text.now c.args.at c.in-Some.inner (omega arith) begins
+    (subst (FoundAt c.args.kind Disjunction (c.args.room - 1) c.args.deep c.args.text.now (c.args.at + 1)) c.in-Some.is c.in_ok-inner.ensures)
+    (symbol_at c.args.text.now c.in-Some.inner.at mark.RightParen mark.RightParen (c.stands.ensures.value.0 c.if-stands.true) refl) (c.stands.ensures.within c.if-stands.true (λ same. cc))
+
+pub bracket_at-returns-else-stands : goal.bracket_at-returns-else-stands
+bracket_at-returns-else-stands t c =
+    let begins = symbol_at c.args.text.now c.args.at mark.LeftParen mark.LeftParen (sym c.requires.sort) refl in
+    let inner = subst (FoundAt c.args.kind Disjunction (c.args.room - 1) c.args.deep c.args.text.now (c.args.at + 1)) c.in-Some.is c.in_ok-inner.ensures in
+    subst (FoundAt c.args.kind Unary c.args.room c.args.deep c.args.text.now c.args.at) (sym c.refused.ensures)
+    (bracket_open begins inner.front (λ is. let found = c.stands.ensures.value.1 (sym is) in let missed = c.if-stands.false in cc))
+
+pub chain_at-returns-in_ok-whole-in-Some : goal.chain_at-returns-in_ok-whole-in-Some
+chain_at-returns-in_ok-whole-in-Some t c =
+    whole_found c.args.kind c.args.room c.args.deep c.args.text.now c.args.at c.args.level c.in-Some.first c.in_ok-whole-in-Some.whole c.requires
+    (subst (λ level. Finds c.args.kind level c.args.room c.args.deep c.args.text.now c.args.at c.in-Some.first) c.tighter.ensures
+    (subst (FoundAt c.args.kind c.tighter.result c.args.room c.args.deep c.args.text.now c.args.at) c.in-Some.is c.in_ok-first.ensures))
+    c.in_ok-whole-in-Some.ensures
+
+pub chain_at-returns-in-None : goal.chain_at-returns-in-None
+chain_at-returns-in-None t c =
+    whole_missing c.args.kind c.args.room c.args.deep c.args.text.now c.args.at c.args.level c.requires
+    (subst (λ level. NoFront (IsShallow c.args.kind level c.args.room c.args.deep (drop c.args.at c.args.text.now))) c.tighter.ensures
+    (subst (FoundAt c.args.kind c.tighter.result c.args.room c.args.deep c.args.text.now c.args.at) c.in-None.is c.in_ok-first.ensures))
+
+pub comparison_at-returns-in-None-operator : goal.comparison_at-returns-in-None-operator
+comparison_at-returns-in-None-operator t c =
+    side_found c.args.kind c.args.room c.args.deep c.args.text.now c.args.at c.in-Some.left (subst (FoundAt c.args.kind Sum c.args.room c.args.deep c.args.text.now c.args.at) c.in-Some.is c.in_ok-left.ensures) (no_operator (c.in-None-operator.ensures ∙ ap (operator c.args.kind Comparison) c.sort.ensures.value))
+
+pub comparison_at-returns-then-left-deep : goal.comparison_at-returns-then-left-deep
+comparison_at-returns-then-left-deep t c =
+    let left = subst (FoundAt c.args.kind Sum c.args.room c.args.deep c.args.text.now c.args.at) c.in-Some.is c.in_ok-left.ensures in
+    side_found c.args.kind c.args.room c.args.deep c.args.text.now c.args.at c.in-Some.left left (no_depth (sym left.noted.depth ∙ c.if-left-deep.true))
+
+pub comparison_at-returns-in_ok-both-in-Ok-Some : goal.comparison_at-returns-in_ok-both-in-Ok-Some
+comparison_at-returns-in_ok-both-in-Ok-Some t c =
+    let left = subst (FoundAt c.args.kind Sum c.args.room c.args.deep c.args.text.now c.args.at) c.in-Some.is c.in_ok-left.ensures in
+    let right = subst (FoundAt c.args.kind Sum c.args.room (c.args.deep - 1) c.args.text.now (c.in-Some.left.at + 1)) c.in-Ok-Some.field-0-is c.in-Ok-Some.ensures in
+    let here = c.in_ok-both-in-Ok-Some in
+    comparison_found c.args.kind c.args.room c.args.deep c.args.text.now c.args.at c.in-Some-operator.oper c.in-Some.left c.in-Ok-Some.right here.both
+    (c.in-Some-operator.ensures ∙ ap (operator c.args.kind Comparison) c.sort.ensures.value) c.if-left-deep.false left right here.ensures.expr here.ensures.depth here.ensures.at
+
+pub comparison_at-returns-in-Ok-None : goal.comparison_at-returns-in-Ok-None
+comparison_at-returns-in-Ok-None t c =
+    let left = subst (FoundAt c.args.kind Sum c.args.room c.args.deep c.args.text.now c.args.at) c.in-Some.is c.in_ok-left.ensures in
+    let none = subst (FoundAt c.args.kind Sum c.args.room (c.args.deep - 1) c.args.text.now (c.in-Some.left.at + 1)) c.in-Ok-None.field-0-is c.in-Ok-None.ensures in
+    side_found c.args.kind c.args.room c.args.deep c.args.text.now c.args.at c.in-Some.left left
+    (no_second (subst (λ rest. NoFront (IsShallow c.args.kind Sum c.args.room (c.args.deep - 1) rest)) (sym (one_more c.args.text.now c.in-Some.left.at)) none))
+
+pub follow-returns-in-None : goal.follow-returns-in-None
+follow-returns-in-None t c =
+    follow_stays c.args.kind c.args.level c.args.room c.args.deep c.args.text.now c.args.first c.requires (no_operator (c.in-None.ensures ∙ ap (operator c.args.kind c.args.level) c.sort.ensures.value))
+
+pub follow-returns-then-first-deep : goal.follow-returns-then-first-deep
+follow-returns-then-first-deep t c = follow_stays c.args.kind c.args.level c.args.room c.args.deep c.args.text.now c.args.first c.requires (no_depth (sym c.requires.depth ∙ c.if-first-deep.true))
+
+pub follow-returns-in_ok-both-in-Ok-Some : goal.follow-returns-in_ok-both-in-Ok-Some
+follow-returns-in_ok-both-in-Ok-Some t c =
+    let second = subst (FoundAt c.args.kind c.tighter.result c.args.room (c.args.deep - 1) c.args.text.now (c.args.first.at + 1)) c.in-Ok-Some.field-0-is c.in-Ok-Some.ensures in
+    let here = subst (λ level. Finds c.args.kind level c.args.room (c.args.deep - 1) c.args.text.now (c.args.first.at + 1) c.in-Ok-Some.second) c.tighter.ensures second in
+    let joins = c.in_ok-both-in-Ok-Some in
+    if_ok c.follow.result (λ found grows. follow_more c.args.kind c.args.level c.args.room c.args.deep c.args.text.now c.in-Some.oper c.args.first c.in-Ok-Some.second joins.both found c.requires
+    (c.in-Some.ensures ∙ ap (operator c.args.kind c.args.level) c.sort.ensures.value) here joins.ensures.expr joins.ensures.at grows) c.follow.ensures
+
+pub follow-returns-in-Ok-None : goal.follow-returns-in-Ok-None
+follow-returns-in-Ok-None t c =
+    let none = subst (FoundAt c.args.kind c.tighter.result c.args.room (c.args.deep - 1) c.args.text.now (c.args.first.at + 1)) c.in-Ok-None.field-0-is c.in-Ok-None.ensures in
+    let here = subst (λ level. NoFront (IsShallow c.args.kind level c.args.room (c.args.deep - 1) (drop (c.args.first.at + 1) c.args.text.now))) c.tighter.ensures none in
+    follow_stays c.args.kind c.args.level c.args.room c.args.deep c.args.text.now c.args.first c.requires
+    (no_second (subst (λ rest. NoFront (IsShallow c.args.kind (tighter c.args.level) c.args.room (c.args.deep - 1) rest)) (sym (one_more c.args.text.now c.args.first.at)) here))
+
+pub minus_at-returns-in_ok-whole-in-Some : goal.minus_at-returns-in_ok-whole-in-Some
+minus_at-returns-in_ok-whole-in-Some t c =
+    let begins = symbol_at c.args.text.now c.args.at mark.Minus mark.Minus (sym c.requires.sort) refl in
+    let here = c.in_ok-whole-in-Some in
+    negated_found c.args.kind c.args.room c.args.deep c.args.text.now c.args.at c.in-Some.inner here.whole (omega arith) begins (sym c.is_number.ensures ∙ c.if-is_number.false)
+    (subst (FoundAt c.args.kind Unary c.args.room (c.args.deep - 1) c.args.text.now (c.args.at + 1)) c.in-Some.is c.in_ok-inner.ensures) here.ensures.expr here.ensures.depth here.ensures.at
+
+pub minus_at-returns-in-None : goal.minus_at-returns-in-None
+minus_at-returns-in-None t c =
+    let begins = symbol_at c.args.text.now c.args.at mark.Minus mark.Minus (sym c.requires.sort) refl in
+    minus_none (drop (c.args.at + 1) c.args.text.now) begins (sym c.is_number.ensures ∙ c.if-is_number.false)
+    (subst (FoundAt c.args.kind Unary c.args.room (c.args.deep - 1) c.args.text.now (c.args.at + 1)) c.in-None.is c.in_ok-inner.ensures)
+
+pub negation_at-returns-then-deep-eq0 : goal.negation_at-returns-then-deep-eq0
+negation_at-returns-then-deep-eq0 t c = nothing_shallow c.if-deep-eq0.true
+
+pub negation_at-returns-in_ok-whole-in-Some : goal.negation_at-returns-in_ok-whole-in-Some
+negation_at-returns-in_ok-whole-in-Some t c =
+    let begins = reserved_at c.args.text.now c.args.at word.Not word.Not (c.stands.ensures.value.0 c.if-not-stands.false) refl in
+    let here = c.in_ok-whole-in-Some in
+    denied_found c.args.kind c.args.room c.args.deep c.args.text.now c.args.at c.in-Some.inner here.whole (omega arith) begins
+    (subst (FoundAt c.args.kind Negation c.args.room (c.args.deep - 1) c.args.text.now (c.args.at + 1)) c.in-Some.is c.in_ok-inner.ensures) here.ensures.expr here.ensures.depth here.ensures.at
+
+pub negation_at-returns-in-None : goal.negation_at-returns-in-None
+negation_at-returns-in-None t c =
+    let begins = reserved_at c.args.text.now c.args.at word.Not word.Not (c.stands.ensures.value.0 c.if-not-stands.false) refl in
+    negation_none (drop (c.args.at + 1) c.args.text.now) begins
+    (subst (FoundAt c.args.kind Negation c.args.room (c.args.deep - 1) c.args.text.now (c.args.at + 1)) c.in-None.is c.in_ok-inner.ensures)
+
+pub negation_at-returns-then-not-stands : goal.negation_at-returns-then-not-stands
+negation_at-returns-then-not-stands t c =
+    if_ok c.comparison_at.result (plain_at c.args.kind c.args.room c.args.deep c.args.text.now c.args.at (λ is. let found = c.stands.ensures.value.1 (sym is) in let missed = c.if-not-stands.true in cc)) c.comparison_at.ensures

@@ -1,0 +1,138 @@
+//! The leaves of the grammar.
+
+ghost use Rattle.std.specs.Prelude.{◌≡◌, ◌∷◌, ◌+◌, ◌<◌, ◌≤◌, ◌^◌, drop, length, IfOk};
+ghost use Rattle.dioc_terms.specs.Expressions.{expression};
+ghost use Rattle.aioc_tokens.specs.declared.words.Sort.{Sort};
+ghost use Rattle.aioc_tokens.specs.declared.words.Word.{Word};
+ghost use Rattle.aioc_tokens.specs.Lexemes.{Lexeme, HasSpelling, sort_of};
+ghost use Rattle.expr_syntax.specs.Grammar.{begins_with_number};
+ghost use Rattle.expr_syntax.specs.declared.levels.ExprKind.{ExprKind};
+ghost use Rattle.expr_syntax.specs.Readers.{LeafAt, ConstantLeafAt, MemberAt};
+
+use crate::constants::constant_at;
+use crate::levels::ExprKind;
+use aioc_tokens::{Lexed, Mark, Sort, Word};
+use dioc_terms::{Expr, Memory, Name, NameFault};
+use std::alloc::Global;
+
+/// The name at a place of the text, which the caller knows to be one. The error says that memory ran out.
+pub fn name_at(alloc: Global, text: &Lexed<'_>, at: usize) -> Result<Name, Memory>
+    requires { sort_of (drop at text.now) ≡ Sort.Name }
+    ensures value { IfOk result (λ name. drop at text.now ≡ Lexeme.Name name ∷ drop (at + 1) text.now) }
+    ensures valid { IfOk result (λ name. HasSpelling (Lexeme.Name name)) }
+{
+    match Name::read(alloc, text.name(at)) {
+        Ok(name) => Ok(name),
+        Err(NameFault::Memory) => Err(Memory),
+        Err(NameFault::NotAName) => unreachable!(),
+    }
+}
+
+/// Whether a number stands at a place of the text.
+pub fn is_number(text: &Lexed<'_>, at: usize) -> bool
+    ensures { result ≡ begins_with_number (drop at text.now) }
+{
+    matches!(text.sort(at), Sort::Number)
+}
+
+fn variable_at(
+    alloc: Global,
+    text: &Lexed<'_>,
+    kind: ExprKind,
+    at: usize,
+) -> Result<Option<(Expr, usize)>, Memory>
+    requires sort { sort_of (drop at text.now) ≡ Sort.Name }
+    requires within { at < length text.now }
+    requires small { length text.now < 2 ^ 63 }
+    ensures { IfOk result (λ found. LeafAt kind text.now at found) }
+{
+    let name = name_at(alloc, text, at)?;
+    Ok(Some((Expr::Var(name), at + 1)))
+}
+
+/// Behind `N` or `E`: the name at a place of the text with a `.` before it, and the place behind it.
+fn member_at(alloc: Global, text: &Lexed<'_>, at: usize) -> Result<Option<(Name, usize)>, Memory>
+    requires { at < 2 ^ 63 }
+    ensures { IfOk result (λ found. MemberAt text.now at found) }
+{
+    if !text.begins(at, &[Sort::Symbol(Mark::Dot), Sort::Name]) {
+        return Ok(None);
+    }
+    let name = name_at(alloc, text, at + 1)?;
+    Ok(Some((name, at + 2)))
+}
+
+fn property_at(alloc: Global, text: &Lexed<'_>, at: usize) -> Result<Option<(Expr, usize)>, Memory>
+    requires sort { sort_of (drop at text.now) ≡ Sort.Reserved Word.N }
+    requires within { at < length text.now }
+    requires small { length text.now < 2 ^ 63 }
+    ensures { IfOk result (λ found. LeafAt ExprKind.Condition text.now at found) }
+{
+    match member_at(alloc, text, at + 1)? {
+        Some((name, next)) => Ok(Some((Expr::Prop(name), next))),
+        None => Ok(None),
+    }
+}
+
+fn key_at(alloc: Global, text: &Lexed<'_>, at: usize) -> Result<Option<(Expr, usize)>, Memory>
+    requires sort { sort_of (drop at text.now) ≡ Sort.Reserved Word.E }
+    requires within { at < length text.now }
+    requires small { length text.now < 2 ^ 63 }
+    ensures { IfOk result (λ found. LeafAt ExprKind.Condition text.now at found) }
+{
+    match member_at(alloc, text, at + 1)? {
+        Some((name, next)) => Ok(Some((Expr::Env(name), next))),
+        None => Ok(None),
+    }
+}
+
+fn constant_leaf_at(
+    alloc: Global,
+    text: &Lexed<'_>,
+    at: usize,
+) -> Result<Option<(Expr, usize)>, Memory>
+    ensures { IfOk result (λ found. ConstantLeafAt text.now at found) }
+{
+    match constant_at(alloc, text, at)? {
+        Some((value, next)) => Ok(Some((Expr::Const(value), next))),
+        None => Ok(None),
+    }
+}
+
+/// The leaf at a place of the text of a condition where a reserved word stands.
+fn word_leaf_at(
+    alloc: Global,
+    text: &Lexed<'_>,
+    at: usize,
+    word: Word,
+) -> Result<Option<(Expr, usize)>, Memory>
+    requires sort { sort_of (drop at text.now) ≡ Sort.Reserved word }
+    requires within { at < length text.now }
+    requires small { length text.now < 2 ^ 63 }
+    ensures { IfOk result (λ found. LeafAt ExprKind.Condition text.now at found) }
+{
+    match word {
+        Word::N => property_at(alloc, text, at),
+        Word::E => key_at(alloc, text, at),
+        _ => constant_leaf_at(alloc, text, at),
+    }
+}
+
+/// The leaf at a place of the text, and the place behind it, or `None` where no leaf stands there.
+pub fn leaf_at(
+    alloc: Global,
+    text: &Lexed<'_>,
+    kind: ExprKind,
+    at: usize,
+) -> Result<Option<(Expr, usize)>, Memory>
+    ensures { IfOk result (λ found. LeafAt kind text.now at found) }
+{
+    match text.sort(at) {
+        Sort::Name => variable_at(alloc, text, kind, at),
+        Sort::Reserved(word) => match kind {
+            ExprKind::Step => constant_leaf_at(alloc, text, at),
+            ExprKind::Condition => word_leaf_at(alloc, text, at, word),
+        },
+        _ => constant_leaf_at(alloc, text, at),
+    }
+}

@@ -1,0 +1,104 @@
+use super::*;
+use aioc_tokens::{TokenFault, tokens};
+use dioc_terms::{Memory, SyntaxFault};
+use std::alloc::Global;
+use std::process::Abort;
+use std::test::Fail;
+
+/// What is read at the front of a text, as it is written again, and the place behind it: 0 where no front is an expression.
+fn reading(alloc: Global, kind: ExprKind, text: &[u8]) -> Result<(Vec<u8>, usize), Memory> {
+    let mut out = Vec::new(alloc);
+    let found = match tokens(alloc, text) {
+        Ok(found) => found,
+        Err(TokenFault::Memory) => return Err(Memory),
+        Err(TokenFault::BadByte(_)) => return Ok((out, 0)),
+    };
+    match read_expr(alloc, text, &found, 0, kind) {
+        Ok((expr, next)) => {
+            write_expr(&expr, &mut out)?;
+            Ok((out, next))
+        }
+        Err(SyntaxFault::Memory) => Err(Memory),
+        Err(SyntaxFault::Syntax(_)) => Ok((out, 0)),
+    }
+}
+
+const STEPS: [(&str, &str, usize); 22] = [
+    ("1 + 2 * 3", "1 + ( 2 * 3 )", 5),
+    ("10 - 3 - 2", "( 10 - 3 ) - 2", 5),
+    ("x or y and z", "x or ( y and z )", 5),
+    ("not 1 == 2", "not ( 1 == 2 )", 4),
+    ("1 == 2 == 3", "1 == 2", 3),
+    ("1 + not x", "1", 1),
+    ("1 + (2", "1", 1),
+    ("1 ///2", "1", 1),
+    ("-5", "- 5", 2),
+    ("- 5", "- 5", 2),
+    ("- - 5", "- ( - 5 )", 3),
+    ("-(5)", "- ( 5 )", 4),
+    ("1 - 9223372036854775808", "1", 1),
+    ("-9223372036854775808", "- 9223372036854775808", 2),
+    ("-9223372036854775809", "", 0),
+    ("9223372036854775807", "9223372036854775807", 1),
+    ("9223372036854775808", "", 0),
+    ("007", "7", 1),
+    ("nil == true", "nil == true", 3),
+    ("\"a\\\"b\" ++ x", "\"a\\\"b\" ++ x", 3),
+    ("((x) + y) % z }", "( x + y ) % z", 9),
+    ("N.k", "", 0),
+];
+
+#[test]
+fn steps(rt: HostRuntime) -> Result<(), Fail> {
+    for (text, written, place) in STEPS {
+        let (out, next) = reading(rt.alloc(), ExprKind::Step, text.as_bytes())?;
+        assert_eq!(&rt; out.as_slice(), written.as_bytes());
+        assert_eq!(&rt; next, place);
+    }
+    Ok(())
+}
+
+const CONDITIONS: [(&str, &str, usize); 3] = [
+    ("N.k == E.e", "N . k == E . e", 7),
+    ("x ++ y", "x", 1),
+    ("E. 1", "", 0),
+];
+
+#[test]
+fn conditions(rt: HostRuntime) -> Result<(), Fail> {
+    for (text, written, place) in CONDITIONS {
+        let (out, next) = reading(rt.alloc(), ExprKind::Condition, text.as_bytes())?;
+        assert_eq!(&rt; out.as_slice(), written.as_bytes());
+        assert_eq!(&rt; next, place);
+    }
+    Ok(())
+}
+
+/// A variable with so many words before and behind it.
+fn nested(alloc: Global, before: &[u8], behind: &[u8], count: usize) -> Result<Vec<u8>, Memory> {
+    let mut text = Vec::new(alloc);
+    for _ in 0..count {
+        text.extend_from_slice(before)?;
+    }
+    text.extend_from_slice(b"x")?;
+    for _ in 0..count {
+        text.extend_from_slice(behind)?;
+    }
+    Ok(text)
+}
+
+#[test]
+fn limits(rt: HostRuntime) -> Result<(), Fail> {
+    let alloc = rt.alloc();
+    let depth = nested(alloc, b"not ", b"", 63)?;
+    assert_eq!(&rt; reading(alloc, ExprKind::Step, &depth)?.1, 64);
+    let too_deep = nested(alloc, b"not ", b"", 64)?;
+    assert_eq!(&rt; reading(alloc, ExprKind::Step, &too_deep)?.1, 0);
+    let sum = nested(alloc, b"", b"+x", 64)?;
+    assert_eq!(&rt; reading(alloc, ExprKind::Step, &sum)?.1, 127);
+    let brackets = nested(alloc, b"(", b")", 512)?;
+    assert_eq!(&rt; reading(alloc, ExprKind::Step, &brackets)?.1, 1025);
+    let too_many = nested(alloc, b"(", b")", 513)?;
+    assert_eq!(&rt; reading(alloc, ExprKind::Step, &too_many)?.1, 0);
+    Ok(())
+}

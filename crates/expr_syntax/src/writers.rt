@@ -1,0 +1,196 @@
+//! Expressions as they are written.
+
+ghost use Rattle.std.specs.Prelude.{◌≡◌, ◌++◌, [], codes, decimal, OnOk, OnErr};
+ghost use Rattle.dioc_terms.specs.Expressions.{expression};
+ghost use Rattle.aioc_tokens.specs.Tokens.{escaped, quoted};
+ghost use Rattle.aioc_tokens.specs.Spelling.{spelling, spelled};
+ghost use Rattle.expr_syntax.specs.Writing.{is_compound, operator_lexeme, written};
+ghost use Rattle.expr_syntax.specs.Pieces.{KeepsFront, integer_text, truth_text, value_text, opening_text, closing_text, expression_text};
+
+use dioc_terms::{Expr, Memory, Oper, Value};
+use itoa::Buffer;
+
+/// Appends the text of an expression: its tokens with one space between two. A `-` stands before an operand in brackets. An
+/// operand of `not` and of an operator between two is in brackets where it has an operator itself. A negative constant is `-`
+/// and its digits.
+///
+/// Where memory runs out, `out` is as it was.
+pub fn write_expr(expr: &Expr, out: &mut Vec<u8>) -> Result<(), Memory>
+    ensures ok { OnOk result (out.new.items ≡ out.old.items ++ spelled (written (expression expr.now) [])) }
+    ensures memory { OnErr result (out.new.items ≡ out.old.items) }
+{
+    let start = out.len();
+    let result = write_part(expr, out);
+    if result.is_err() {
+        out.truncate(start);
+    }
+    result
+}
+
+fn write_part(expr: &Expr, out: &mut Vec<u8>) -> Result<(), Memory>
+    ensures ok { OnOk result (out.new.items ≡ out.old.items ++ expression_text (expression expr.now)) }
+    ensures memory { OnErr result (KeepsFront out.old.items out.new.items) }
+{
+    match expr {
+        Expr::Const(value) => write_value(value, out),
+        Expr::Var(name) => write_bytes(name.bytes(), out),
+        Expr::Prop(name) => {
+            write_bytes(b"N . ", out)?;
+            write_bytes(name.bytes(), out)
+        }
+        Expr::Env(name) => {
+            write_bytes(b"E . ", out)?;
+            write_bytes(name.bytes(), out)
+        }
+        Expr::Not(inner) => {
+            let compound = is_compound(inner);
+            write_bytes(b"not ", out)?;
+            write_opening(compound, out)?;
+            write_part(inner, out)?;
+            write_closing(compound, out)
+        }
+        Expr::Neg(inner) => {
+            write_bytes(b"- ( ", out)?;
+            write_part(inner, out)?;
+            write_bytes(b" )", out)
+        }
+        Expr::Bin(oper, left, right) => {
+            let left_compound = is_compound(left);
+            let right_compound = is_compound(right);
+            write_opening(left_compound, out)?;
+            write_part(left, out)?;
+            write_between(left_compound, *oper, right_compound, out)?;
+            write_part(right, out)?;
+            write_closing(right_compound, out)
+        }
+    }
+}
+
+/// Whether an operand stands in brackets.
+fn is_compound(expr: &Expr) -> bool
+    ensures { result ≡ is_compound (expression expr.now) }
+{
+    matches!(expr, Expr::Not(_) | Expr::Neg(_) | Expr::Bin(_, _, _))
+}
+
+fn write_opening(compound: bool, out: &mut Vec<u8>) -> Result<(), Memory>
+    ensures ok { OnOk result (out.new.items ≡ out.old.items ++ opening_text compound) }
+    ensures memory { OnErr result (KeepsFront out.old.items out.new.items) }
+{
+    if compound {
+        write_bytes(b"( ", out)
+    } else {
+        Ok(())
+    }
+}
+
+fn write_closing(compound: bool, out: &mut Vec<u8>) -> Result<(), Memory>
+    ensures ok { OnOk result (out.new.items ≡ out.old.items ++ closing_text compound) }
+    ensures memory { OnErr result (KeepsFront out.old.items out.new.items) }
+{
+    if compound {
+        write_bytes(b" )", out)
+    } else {
+        Ok(())
+    }
+}
+
+fn operator_bytes(oper: Oper) -> &'static [u8]
+    ensures { result.now ≡ spelling (operator_lexeme oper) }
+{
+    match oper {
+        Oper::Add => b"+",
+        Oper::Sub => b"-",
+        Oper::Mul => b"*",
+        Oper::Div => b"/",
+        Oper::Rem => b"%",
+        Oper::Join => b"++",
+        Oper::Eq => b"==",
+        Oper::Ne => b"!=",
+        Oper::Lt => b"<",
+        Oper::Le => b"<=",
+        Oper::Gt => b">",
+        Oper::Ge => b">=",
+        Oper::And => b"and",
+        Oper::Or => b"or",
+    }
+}
+
+/// What stands between two operands: the operator between two spaces, and the brackets beside it.
+fn write_between(
+    left_compound: bool,
+    oper: Oper,
+    right_compound: bool,
+    out: &mut Vec<u8>,
+) -> Result<(), Memory>
+    ensures ok { OnOk result (out.new.items ≡ out.old.items ++ (closing_text left_compound ++ codes " " ++ spelling (operator_lexeme oper) ++ codes " " ++ opening_text right_compound)) }
+    ensures memory { OnErr result (KeepsFront out.old.items out.new.items) }
+{
+    write_closing(left_compound, out)?;
+    write_bytes(b" ", out)?;
+    write_bytes(operator_bytes(oper), out)?;
+    write_bytes(b" ", out)?;
+    write_opening(right_compound, out)
+}
+
+fn write_value(value: &Value, out: &mut Vec<u8>) -> Result<(), Memory>
+    ensures ok { OnOk result (out.new.items ≡ out.old.items ++ value_text value.now) }
+    ensures memory { OnErr result (KeepsFront out.old.items out.new.items) }
+{
+    match value {
+        Value::Nil => write_bytes(b"nil", out),
+        Value::Bool(true) => write_bytes(b"true", out),
+        Value::Bool(false) => write_bytes(b"false", out),
+        Value::Int(number) => write_integer(*number, out),
+        Value::Text(text) => write_quoted(text.bytes(), out),
+    }
+}
+
+fn write_integer(number: i64, out: &mut Vec<u8>) -> Result<(), Memory>
+    ensures ok { OnOk result (out.new.items ≡ out.old.items ++ integer_text number) }
+    ensures memory { OnErr result (KeepsFront out.old.items out.new.items) }
+{
+    if number < 0 {
+        write_bytes(b"- ", out)?;
+    }
+    write_number(number.unsigned_abs(), out)
+}
+
+fn write_number(number: u64, out: &mut Vec<u8>) -> Result<(), Memory>
+    ensures ok { OnOk result (out.new.items ≡ out.old.items ++ decimal number) }
+    ensures memory { OnErr result (KeepsFront out.old.items out.new.items) }
+{
+    let mut digits = Buffer::new();
+    write_bytes(digits.format(number).as_bytes(), out)
+}
+
+fn write_escaped(byte: u8, out: &mut Vec<u8>) -> Result<(), Memory>
+    ensures ok { OnOk result (out.new.items ≡ out.old.items ++ escaped byte) }
+    ensures memory { OnErr result (KeepsFront out.old.items out.new.items) }
+{
+    if byte == b'"' || byte == b'\\' {
+        write_bytes(&[b'\\', byte], out)
+    } else {
+        write_bytes(&[byte], out)
+    }
+}
+
+#[tactic(auto, using(crate::proofs::KeptFronts::front_of_front))]
+fn write_quoted(bytes: &[u8], out: &mut Vec<u8>) -> Result<(), Memory>
+    ensures ok { OnOk result (out.new.items ≡ out.old.items ++ quoted bytes.now) }
+    ensures memory { OnErr result (KeepsFront out.old.items out.new.items) }
+{
+    write_bytes(b"\"", out)?;
+    for byte in bytes {
+        write_escaped(*byte, out)?;
+    }
+    write_bytes(b"\"", out)
+}
+
+fn write_bytes(bytes: &[u8], out: &mut Vec<u8>) -> Result<(), Memory>
+    ensures ok { OnOk result (out.new.items ≡ out.old.items ++ bytes.now) }
+    ensures memory { OnErr result (KeepsFront out.old.items out.new.items) }
+{
+    out.extend_from_slice(bytes)?;
+    Ok(())
+}
