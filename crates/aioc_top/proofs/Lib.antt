@@ -1,3 +1,4 @@
 pub mod FaultLemmas
+pub mod Outcomes
 pub mod Pieces
 pub mod Printing

@@ -1,5 +1,5 @@
 -- One piece appended after another.
-use Rattle.std.proofs.Common.{◌≡◌, ℕ, List, ◌++◌, refl, sym, ap, ◌∙◌, append_assoc}
+use Rattle.std.proofs.Common.{◌≡◌, ℕ, List, ◌++◌, ap, ◌∙◌, append_assoc}
 
 pub three_pieces : (start first second third one two all : List ℕ) → one ≡ start ++ first → two ≡ one ++ second → all ≡ two ++ third
     → all ≡ start ++ (first ++ second ++ third)

@@ -1,7 +1,6 @@
 -- The text of a run that has finished is that of the schedule's run.
-use Rattle.std.proofs.Common.{◌≡◌, ℕ, ◌-◌, List, [], ◌∷◌, ◌++◌, length, Option, Some, None, true, refl, sym, ap, ◌∙◌, subst, rules}
+use Rattle.std.proofs.Common.{◌≡◌, ◌-◌, [], ◌++◌, length, Some, None, refl, sym, ap, ◌∙◌, subst}
 use Rattle.std.specs.Prelude.{unwrap_or, false, ◌↔◌}
-use Rattle.dioc_terms.specs.declared.entries.Entry.{Entry}
 use Rattle.dioc_terms.specs.declared.bundles.Bundle.{Bundle}
 use Rattle.dioc_terms.specs.Messages.{visible}
 use Rattle.trace_text.specs.Lines.{text}
@@ -10,12 +9,12 @@ use Rattle.net_core.specs.declared.moves.Finish.{Finish}
 use Rattle.net_core.specs.declared.moves.Finish.TheVariants as finish
 use Rattle.net_core.specs.Net.{NetState, IsNetOf, network_of}
 use Rattle.net_core.specs.Runs.{Finishes, run_of}
-use Rattle.net_core.specs.Schedule.{continued, sched}
+use Rattle.net_core.specs.Schedule.{continued}
 use Rattle.net_core.proofs.Interaction.{computes}
 use Rattle.net_core.proofs.NetLemmas.{network_is, runs_at}
 use Rattle.aioc_top.specs.declared.answers.Answer.{Answer}
 use Rattle.aioc_top.specs.Answers.{PrintsRun}
-use Rattle.aioc_top.specs.Serve.{history_of, entry_limit, last_line_of, printed_text, RunFinishes}
+use Rattle.aioc_top.specs.Serve.{history_of, entry_limit, last_line_of, RunFinishes}
 
 network_runs : (b : Bundle) (net : NetState) → IsNetOf b net → network_run b net.history ≡ Some (network_of b net)
 network_runs b net is = ap (network_run b) is.history ∙ runs_at b net (computes b net is) net.stage ∙ ap Some (sym (network_is b net is))

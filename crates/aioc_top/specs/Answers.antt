@@ -9,7 +9,7 @@ use Rattle.aioc_top.specs.declared.answers.Answer.{Answer}
 use Rattle.aioc_top.specs.declared.faults.Fault.{Fault}
 use Rattle.aioc_top.specs.declared.faults.Fault.TheVariants as fault
 use Rattle.aioc_top.specs.Messages.{refusal_line, syntax_line}
-use Rattle.aioc_top.specs.Serve.{RunFinishes, Refuses, printed_text, byte_limit}
+use Rattle.aioc_top.specs.Serve.{RunFinishes, Refuses, printed_text}
 
 -- the answer has the text of the bundle's run, and how it finished
 pub record PrintsRun (b : Bundle) (answer : Answer) : Type 0 where

@@ -1,6 +1,6 @@
 -- What the top call prints, and when each status comes.
-use Rattle.std.specs.Prelude.{◌≡◌, ◌↔◌, ◌⊎◌, ◌<◌, ◌≤◌, ℕ, List, [], ◌∷◌, ◌++◌, length, take, Bool, true, false, Option, Some, None, IfSome, IsSome}
-use Rattle.std.specs.Io.KnownBytes.{Appends, Keeps, IsAtEnd}
+use Rattle.std.specs.Prelude.{◌≡◌, ◌↔◌, ◌⊎◌, ◌<◌, ◌≤◌, ℕ, List, length, true, false, Option, Some, None, IfSome, IsSome}
+use Rattle.std.specs.Io.KnownBytes.{Appends, IsAtEnd}
 use Rattle.dioc_terms.specs.declared.entries.Entry.{Entry}
 use Rattle.dioc_terms.specs.declared.bundles.Last.{Last}
 use Rattle.dioc_terms.specs.declared.bundles.Last.TheVariants as last
@@ -70,13 +70,8 @@ Cause status.Syntax bytes = (length bytes ≤ byte_limit) × SpellsNone bytes
 Cause status.Refused bytes = (why : Refusal) × Refuses bytes why
 Cause _ bytes = ⊥
 
--- what a call of `serve` sees of its words, its source and its sinks, before it and after
-pub record Seen : Type 0 where
-  pub command : Option Command
-  pub left : Option (List ℕ)
-  pub left_after : Option (List ℕ)
-  pub faults : ℕ
-  pub faults_after : ℕ
+-- what the sinks of texts and of faults took before and after, and their counts of faults
+pub record Sinks : Type 0 where
   pub taken : Option (List ℕ)
   pub taken_after : Option (List ℕ)
   pub out_faults : ℕ
@@ -86,6 +81,15 @@ pub record Seen : Type 0 where
   pub err_faults : ℕ
   pub err_faults_after : ℕ
 
+-- what a call of `serve` sees of its words, its source and its sinks
+pub record Seen : Type 0 where
+  pub command : Option Command
+  pub left : Option (List ℕ)
+  pub left_after : Option (List ℕ)
+  pub faults : ℕ
+  pub faults_after : ℕ
+  pub sinks : Sinks
+
 -- nothing was read
 pub record ReadNothing (w : Seen) : Type 0 where
   pub left : w.left_after ≡ w.left
@@ -93,35 +97,44 @@ pub record ReadNothing (w : Seen) : Type 0 where
 
 -- nothing was written to `out`
 pub record WroteNothing (w : Seen) : Type 0 where
-  pub taken : w.taken_after ≡ w.taken
-  pub faults : w.out_faults_after ≡ w.out_faults
+  pub taken : w.sinks.taken_after ≡ w.sinks.taken
+  pub faults : w.sinks.out_faults_after ≡ w.sinks.out_faults
+
+-- a sink took the bytes, or its count of faults rose and it took a part of them
+abbrev pub Told : Option (List ℕ) → Option (List ℕ) → ℕ → ℕ → List ℕ → Type 0
+Told before after count next bytes = Appends before after bytes ⊎ (Rose count next × TakesPart before after bytes)
 
 -- `err` took the line, or its count of faults rose and it took a part of it
 abbrev pub Says : Seen → List ℕ → Type 0
-Says w line = Appends w.said w.said_after line ⊎ (Rose w.err_faults w.err_faults_after × TakesPart w.said w.said_after line)
+Says w line = Told w.sinks.said w.sinks.said_after w.sinks.err_faults w.sinks.err_faults_after line
 
 -- `err` took nothing
 abbrev pub SaysNothing : Seen → Type 0
-SaysNothing w = w.said_after ≡ w.said
+SaysNothing w = w.sinks.said_after ≡ w.sinks.said
 
 -- the source's bytes, where it tells them, spell an accepted bundle whose run finishes so, and `out` took all its text
 abbrev pub Prints : Seen → Finish → Type 0
-Prints w how = IfSome w.left (λ bytes. (a : Answers bytes how) × Appends w.taken w.taken_after (printed_text a.bundle how))
+Prints w how = IfSome w.left (λ bytes. (a : Answers bytes how) × Appends w.sinks.taken w.sinks.taken_after (printed_text a.bundle how))
 
 -- or a part of the text
 abbrev pub PrintsPart : Seen → Type 0
-PrintsPart w = IfSome w.left (λ bytes. (how : Finish) × (a : Answers bytes how) × TakesPart w.taken w.taken_after (printed_text a.bundle how))
+PrintsPart w = IfSome w.left (λ bytes. (how : Finish) × (a : Answers bytes how) × TakesPart w.sinks.taken w.sinks.taken_after (printed_text a.bundle how))
 
 -- what each status says of a call
 abbrev pub Outcome : Seen → Status → Type 0
 Outcome w status.Done = IsSome w.command × IsAtEnd w.left_after × Prints w finish.Ended × SaysNothing w
 Outcome w status.Limit = IsSome w.command × IsAtEnd w.left_after × Prints w finish.Limit × SaysNothing w
-Outcome w status.WriteFault = IsSome w.command × IsAtEnd w.left_after × Rose w.out_faults w.out_faults_after × PrintsPart w × Says w write_fault_line
+Outcome w status.WriteFault = IsSome w.command × IsAtEnd w.left_after × Rose w.sinks.out_faults w.sinks.out_faults_after × PrintsPart w × Says w write_fault_line
 Outcome w status.Usage = (w.command ≡ None) × ReadNothing w × WroteNothing w × Says w usage_line
 Outcome w status.ReadFault = IsSome w.command × Rose w.faults w.faults_after × WroteNothing w × Says w read_fault_line
 Outcome w status.TooLong = IsSome w.command × IfSome w.left (Cause status.TooLong) × WroteNothing w × Says w too_long_line
-Outcome w status.Syntax = IsSome w.command × IsAtEnd w.left_after × IfSome w.left (Cause status.Syntax) × WroteNothing w × ((byte : ℕ) × Says w (syntax_line byte))
+Outcome w status.Syntax = IsSome w.command × IsAtEnd w.left_after × WroteNothing w
+    × IfSome w.left (λ bytes. SpellsNone bytes × ((byte : ℕ) × Says w (syntax_line byte)))
 Outcome w status.Refused = IsSome w.command × IsAtEnd w.left_after × WroteNothing w
-    × ((why : Refusal) × IfSome w.left (λ bytes. Refuses bytes why) × Says w (refusal_line why))
+    × IfSome w.left (λ bytes. (why : Refusal) × Refuses bytes why × Says w (refusal_line why))
 Outcome w status.Memory = IsSome w.command × WroteNothing w × Says w memory_line
 Outcome w status.No = ⊥
+
+abbrev pub status_of_finish : Finish → Status
+status_of_finish finish.Ended = status.Done
+status_of_finish finish.Limit = status.Limit

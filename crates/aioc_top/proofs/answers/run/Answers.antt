@@ -1,5 +1,5 @@
 -- The text is that of the schedule's run.
-use Rattle.std.proofs.Common.{◌≡◌, ◌++◌, length, refl, ap, ◌∙◌, arith, rules}
+use Rattle.std.proofs.Common.{◌≡◌, length, refl, arith}
 use Rattle.std.proofs.lemmas.Grind.{common_steps}
 use Rattle.dioc_terms.specs.Messages.{visible}
 use Rattle.trace_text.specs.Lines.{text}
