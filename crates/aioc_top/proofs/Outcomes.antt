@@ -13,7 +13,8 @@ use Rattle.aioc_top.specs.Answers.{IsAnswer}
 use Rattle.aioc_top.specs.Faults.{line_of, status_of}
 use Rattle.aioc_top.specs.Printing.{PrintsAnswer}
 use Rattle.aioc_top.specs.Reading.{StopsReading}
-use Rattle.aioc_top.specs.Serve.{Answers, Outcome, Says, Seen, WroteNothing, printed_text}
+use Rattle.aioc_top.specs.Outcomes.{Outcome, SaysLine, Seen, WroteNothing}
+use Rattle.aioc_top.specs.Serve.{Answers, printed_text}
 
 mapped : {A : Type 0} {P Q : A → Type 0} → ((x : A) → P x → Q x) → (o : Option A) → IfSome o P → IfSome o Q
 mapped f None h = h
@@ -50,14 +51,14 @@ printed_outcome w answer status.Refused command end is h = absurd h
 printed_outcome w answer status.No command end is h = absurd h
 printed_outcome w answer status.Memory command end is h = absurd h
 
-pub stopped_outcome : (w : Seen) (f : Fault) → StopsReading w.command w.left w.left_after w.faults w.faults_after f → WroteNothing w → Says w (line_of f)
+pub stopped_outcome : (w : Seen) (f : Fault) → StopsReading w.command w.left w.left_after w.faults w.faults_after f → WroteNothing w → SaysLine w (line_of f)
     → Outcome w (status_of f)
 stopped_outcome w fault.Usage h quiet said = (h.0, record { left = h.1; faults = h.2 }, quiet, said)
 stopped_outcome w fault.ReadFault h quiet said = (h.0, h.1, quiet, said)
 stopped_outcome w fault.WriteFault h quiet said = absurd h
 stopped_outcome w fault.TooLong h quiet said = (h.0, h.1, quiet, said)
 stopped_outcome w (fault.Syntax line) h quiet said =
-    (h.0, h.1, quiet, mapped (λ bytes is. (is.0, (is.1.0, subst (Says w) is.1.1 said))) w.left h.2)
+    (h.0, h.1, quiet, h.2, (h.3.0, subst (SaysLine w) h.3.1 said))
 stopped_outcome w (fault.Refused line) h quiet said =
-    (h.0, h.1, quiet, mapped (λ bytes is. (is.0, is.1, subst (Says w) is.2 said)) w.left h.2)
+    (h.0, h.1, quiet, (h.2.0, h.2.1, subst (SaysLine w) h.2.2 said))
 stopped_outcome w fault.Memory h quiet said = (h, quiet, said)

@@ -1,6 +1,7 @@
 pub mod Answers
 pub mod Faults
 pub mod Messages
+pub mod Outcomes
 pub mod Printing
 pub mod Reading
 pub mod Serve

@@ -8,7 +8,8 @@ use Rattle.aioc_top.specs.declared.answers.Answer.{Answer}
 use Rattle.aioc_top.specs.declared.status.Status.{Status}
 use Rattle.aioc_top.specs.declared.status.Status.TheVariants as status
 use Rattle.aioc_top.specs.Messages.{write_fault_line}
-use Rattle.aioc_top.specs.Serve.{Sinks, Told}
+use Rattle.aioc_top.specs.Outcomes.{Sinks}
+use Rattle.aioc_top.specs.Serve.{Told}
 
 -- all of the answer's text was taken and nothing said, or a part of it and the fault was said
 abbrev pub PrintsAnswer : Answer → Sinks → Status → Type 0

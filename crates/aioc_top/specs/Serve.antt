@@ -1,4 +1,4 @@
--- What the top call prints, and when each status comes.
+-- What `serve` prints, and when each status comes.
 use Rattle.std.specs.Prelude.{◌≡◌, ◌↔◌, ◌⊎◌, ◌<◌, ◌≤◌, ℕ, List, length, true, false, Option, Some, None, IfSome, IsSome}
 use Rattle.std.specs.Io.KnownBytes.{Appends, IsAtEnd}
 use Rattle.dioc_terms.specs.declared.entries.Entry.{Entry}
@@ -14,6 +14,7 @@ use Rattle.marked_laws.specs.Network.{Network, network_run, network_ended}
 use Rattle.net_core.specs.declared.refusals.Refusal.{Refusal}
 use Rattle.net_core.specs.declared.moves.Finish.{Finish}
 use Rattle.net_core.specs.declared.moves.Finish.TheVariants as finish
+use Rattle.net_core.specs.Headline.{Headline}
 use Rattle.net_core.specs.Refusals.{IsAccepted, refusal}
 use Rattle.net_core.specs.Schedule.{sched}
 use Rattle.aioc_top.specs.declared.status.Status.{Status}
@@ -70,71 +71,84 @@ Cause status.Syntax bytes = (length bytes ≤ byte_limit) × SpellsNone bytes
 Cause status.Refused bytes = (why : Refusal) × Refuses bytes why
 Cause _ bytes = ⊥
 
--- what the sinks of texts and of faults took before and after, and their counts of faults
-pub record Sinks : Type 0 where
-  pub taken : Option (List ℕ)
-  pub taken_after : Option (List ℕ)
-  pub out_faults : ℕ
-  pub out_faults_after : ℕ
-  pub said : Option (List ℕ)
-  pub said_after : Option (List ℕ)
-  pub err_faults : ℕ
-  pub err_faults_after : ℕ
+abbrev pub status_of_finish : Finish → Status
+status_of_finish finish.Ended = status.Done
+status_of_finish finish.Limit = status.Limit
 
--- what a call of `serve` sees of its words, its source and its sinks
-pub record Seen : Type 0 where
-  pub command : Option Command
-  pub left : Option (List ℕ)
-  pub left_after : Option (List ℕ)
-  pub faults : ℕ
-  pub faults_after : ℕ
-  pub sinks : Sinks
+-- memory ran out, or a device failed: nothing in the bytes makes it come
+abbrev pub GivesUp : Status → Type 0
+GivesUp status.Memory = Unit {0}
+GivesUp status.ReadFault = Unit {0}
+GivesUp status.WriteFault = Unit {0}
+GivesUp _ = ⊥
 
--- nothing was read
-pub record ReadNothing (w : Seen) : Type 0 where
-  pub left : w.left_after ≡ w.left
-  pub faults : w.faults_after ≡ w.faults
+-- With words that are a command a status comes exactly where its cause is in the bytes of the source, where the source tells them;
+-- only want of memory and a fault of a device stand before it.
+pub record ComesExactly (wanted result : Status) (command : Option Command) (left : Option (List ℕ)) : Type 0 where
+  pub only : result ≡ wanted → IsSome command × IfSome left (Cause wanted)
+  pub always : IsSome command → IfSome left (λ bytes. Cause wanted bytes → (result ≡ wanted) ⊎ GivesUp result)
 
--- nothing was written to `out`
-pub record WroteNothing (w : Seen) : Type 0 where
-  pub taken : w.sinks.taken_after ≡ w.sinks.taken
-  pub faults : w.sinks.out_faults_after ≡ w.sinks.out_faults
+-- nothing was read with words that are no command; what a text was read for comes after its end
+abbrev pub ReadsAll : Status → Option (List ℕ) → Option (List ℕ) → ℕ → ℕ → Type 0
+ReadsAll status.Usage left left_after faults faults_after = (left_after ≡ left) × (faults_after ≡ faults)
+ReadsAll status.Done left left_after faults faults_after = IsAtEnd left_after
+ReadsAll status.Limit left left_after faults faults_after = IsAtEnd left_after
+ReadsAll status.Syntax left left_after faults faults_after = IsAtEnd left_after
+ReadsAll status.Refused left left_after faults faults_after = IsAtEnd left_after
+ReadsAll status.WriteFault left left_after faults faults_after = IsAtEnd left_after
+ReadsAll _ left left_after faults faults_after = Unit {0}
+
+-- each bundle that the bytes spell has this text when its run has finished so, and `out` took it all
+abbrev pub TookText : Finish → Option (List ℕ) → Option (List ℕ) → Option (List ℕ) → Type 0
+TookText how left taken taken_after = IfSome left (λ bytes. (b : Bundle) → Spells bytes b → Appends taken taken_after (printed_text b how))
+
+-- the text of `step`
+abbrev pub StepText : Status → Option (List ℕ) → Option (List ℕ) → Option (List ℕ) → Type 0
+StepText status.Done left taken taken_after = TookText finish.Ended left taken taken_after
+StepText status.Limit left taken taken_after = TookText finish.Limit left taken taken_after
+StepText _ left taken taken_after = Unit {0}
+
+-- The headline holds of the history behind the text of each bundle that the bytes spell, and it finished so.
+abbrev pub HeadlineOf : Finish → Bundle → Type 0
+HeadlineOf finish.Ended b = (N : Network) × Headline b (history_of b) N × (network_ended b N ≡ true)
+HeadlineOf finish.Limit b = (N : Network) × Headline b (history_of b) N × (network_ended b N ≡ false) × (length (history_of b) ≡ entry_limit)
+
+abbrev pub HeadlineHolds : Status → Option (List ℕ) → Type 0
+HeadlineHolds status.Done left = IfSome left (λ bytes. (b : Bundle) → Spells bytes b → HeadlineOf finish.Ended b)
+HeadlineHolds status.Limit left = IfSome left (λ bytes. (b : Bundle) → Spells bytes b → HeadlineOf finish.Limit b)
+HeadlineHolds _ left = Unit {0}
+
+-- `out` was not called before a refusal; with a fault of `out` it took a part of the text of a bundle that the bytes spell
+abbrev pub Silent : Status → Option (List ℕ) → Option (List ℕ) → Option (List ℕ) → ℕ → ℕ → Type 0
+Silent status.Done left taken taken_after count next = Unit {0}
+Silent status.Limit left taken taken_after count next = Unit {0}
+Silent status.WriteFault left taken taken_after count next =
+    IfSome left (λ bytes. (how : Finish) × (a : Answers bytes how) × TakesPart taken taken_after (printed_text a.bundle how))
+Silent _ left taken taken_after count next = (taken_after ≡ taken) × (next ≡ count)
 
 -- a sink took the bytes, or its count of faults rose and it took a part of them
 abbrev pub Told : Option (List ℕ) → Option (List ℕ) → ℕ → ℕ → List ℕ → Type 0
 Told before after count next bytes = Appends before after bytes ⊎ (Rose count next × TakesPart before after bytes)
 
--- `err` took the line, or its count of faults rose and it took a part of it
-abbrev pub Says : Seen → List ℕ → Type 0
-Says w line = Told w.sinks.said w.sinks.said_after w.sinks.err_faults w.sinks.err_faults_after line
+-- what `err` took, by what it had taken and its counts of faults: nothing where `out` took the whole text, and else the line of the status
+abbrev pub Says : Status → Option (List ℕ) → Option (List ℕ) → Option (List ℕ) → ℕ → ℕ → Type 0
+Says status.Done left said said_after count next = said_after ≡ said
+Says status.Limit left said said_after count next = said_after ≡ said
+Says status.Usage left said said_after count next = Told said said_after count next usage_line
+Says status.ReadFault left said said_after count next = Told said said_after count next read_fault_line
+Says status.WriteFault left said said_after count next = Told said said_after count next write_fault_line
+Says status.TooLong left said said_after count next = Told said said_after count next too_long_line
+Says status.Syntax left said said_after count next = (byte : ℕ) × Told said said_after count next (syntax_line byte)
+Says status.Refused left said said_after count next = (why : Refusal) × Told said said_after count next (refusal_line why)
+    × IfSome left (λ bytes. (b : Bundle) → Spells bytes b → refusal b ≡ Some why)
+Says status.Memory left said said_after count next = Told said said_after count next memory_line
+Says status.No left said said_after count next = ⊥
 
--- `err` took nothing
-abbrev pub SaysNothing : Seen → Type 0
-SaysNothing w = w.sinks.said_after ≡ w.sinks.said
+-- the answer of an accepted bundle
+abbrev pub IsAnswered : Status → Type 0
+IsAnswered result = (result ≡ status.Done) ⊎ (result ≡ status.Limit) ⊎ (result ≡ status.Memory)
 
--- the source's bytes, where it tells them, spell an accepted bundle whose run finishes so, and `out` took all its text
-abbrev pub Prints : Seen → Finish → Type 0
-Prints w how = IfSome w.left (λ bytes. (a : Answers bytes how) × Appends w.sinks.taken w.sinks.taken_after (printed_text a.bundle how))
-
--- or a part of the text
-abbrev pub PrintsPart : Seen → Type 0
-PrintsPart w = IfSome w.left (λ bytes. (how : Finish) × (a : Answers bytes how) × TakesPart w.sinks.taken w.sinks.taken_after (printed_text a.bundle how))
-
--- what each status says of a call
-abbrev pub Outcome : Seen → Status → Type 0
-Outcome w status.Done = IsSome w.command × IsAtEnd w.left_after × Prints w finish.Ended × SaysNothing w
-Outcome w status.Limit = IsSome w.command × IsAtEnd w.left_after × Prints w finish.Limit × SaysNothing w
-Outcome w status.WriteFault = IsSome w.command × IsAtEnd w.left_after × Rose w.sinks.out_faults w.sinks.out_faults_after × PrintsPart w × Says w write_fault_line
-Outcome w status.Usage = (w.command ≡ None) × ReadNothing w × WroteNothing w × Says w usage_line
-Outcome w status.ReadFault = IsSome w.command × Rose w.faults w.faults_after × WroteNothing w × Says w read_fault_line
-Outcome w status.TooLong = IsSome w.command × IfSome w.left (Cause status.TooLong) × WroteNothing w × Says w too_long_line
-Outcome w status.Syntax = IsSome w.command × IsAtEnd w.left_after × WroteNothing w
-    × IfSome w.left (λ bytes. SpellsNone bytes × ((byte : ℕ) × Says w (syntax_line byte)))
-Outcome w status.Refused = IsSome w.command × IsAtEnd w.left_after × WroteNothing w
-    × IfSome w.left (λ bytes. (why : Refusal) × Refuses bytes why × Says w (refusal_line why))
-Outcome w status.Memory = IsSome w.command × WroteNothing w × Says w memory_line
-Outcome w status.No = ⊥
-
-abbrev pub status_of_finish : Finish → Status
-status_of_finish finish.Ended = status.Done
-status_of_finish finish.Limit = status.Limit
+-- with a command and devices whose counts of faults don't rise an accepted bundle is answered
+abbrev pub Complete : Status → Option Command → Option (List ℕ) → Type 0 → Type 0 → Type 0
+Complete result command left read_fault write_fault = IsSome command → (read_fault → ⊥) → (write_fault → ⊥)
+    → IfSome left (λ bytes. (b : Bundle) → Spells bytes b → IsAccepted b → IsAnswered result)

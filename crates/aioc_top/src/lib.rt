@@ -8,9 +8,8 @@ mod service;
 mod status;
 mod words;
 
-pub use answers::{Answer, step};
-pub use faults::{Fault, make_refusal_line, make_syntax_line};
-pub use reading::answer_words;
 pub use service::serve;
 pub use status::Status;
-pub use words::{Command, read_command};
+
+#[cfg(test)]
+mod tests;

@@ -3,6 +3,7 @@ use Rattle.std.specs.Prelude.{◌≡◌, ◌≤◌, ℕ, List, [], ◌∷◌, le
 use Rattle.dioc_terms.specs.declared.names.Role.{Role}
 use Rattle.dioc_terms.specs.declared.values.Value.{Value}
 use Rattle.dioc_terms.specs.declared.bundles.Bundle.{Bundle}
+use Rattle.dioc_terms.specs.Bundles.{IsFormed}
 use Rattle.dioc_terms.specs.Expressions.{Const}
 use Rattle.dioc_terms.specs.Terms.{Term, Com, term, cast_of, mark_at}
 use Rattle.aioc_tokens.specs.declared.words.Word.TheVariants.{Aioc}
@@ -72,3 +73,7 @@ pub record SameBundle (b other : Bundle) : Type 0 where
 -- a text spells at most one bundle
 abbrev pub OneBundle : Type 0
 OneBundle = (bytes : List ℕ) (b other : Bundle) → Spells bytes b → Spells bytes other → SameBundle b other
+
+-- what a text spells is formed
+abbrev pub SpelledAreFormed : Type 0
+SpelledAreFormed = (bytes : List ℕ) (b : Bundle) → Spells bytes b → IsFormed b

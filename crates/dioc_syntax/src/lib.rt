@@ -8,4 +8,4 @@ mod laws;
 mod names;
 
 pub use bundle::{LONGEST, read_bundle};
-pub use laws::one_bundle;
+pub use laws::{one_bundle, spelled_are_formed};

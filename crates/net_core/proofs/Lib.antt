@@ -1,6 +1,7 @@
 pub mod Accepted
 mod ExampleRuns
 pub mod Examples
+pub mod HeadlineLemmas
 pub mod Interaction
 pub mod Loads
 pub mod MoveLemmas

@@ -3,6 +3,7 @@
 
 ghost use Rattle.connectedness.specs.Laws.{RolesAtEnds, StampedConnected};
 ghost use Rattle.dioc_terms.specs.TermLaws.{MentionsAreRoles, CastsAreRoles, StampedBodies};
+ghost use Rattle.net_core.specs.Headline.{EveryRun};
 ghost use Rattle.net_core.specs.Laws.{AcceptedIsSound, MovesAreSteps, RunsAreSound};
 
 /// What the crates below prove of terms, together.
@@ -50,4 +51,19 @@ pub fn runs_are_sound()
     marked_laws::progress();
     marked_laws::simulation();
     dpoc_process::offers_are_steps();
+}
+
+/// A law, the headline: every run of the network of an accepted bundle, under every interleaving and every live change, is played
+/// by the choreography itself with the same changes at the same places; no two pending messages can be confused; and nothing
+/// gets stuck. It does nothing.
+pub fn every_run()
+    ensures { EveryRun }
+{
+    accepted_is_sound();
+    marked_laws::simulation();
+    marked_laws::settlement();
+    marked_laws::unique_keys();
+    marked_laws::progress();
+    marked_laws::nothing_left();
+    marked_laws::runs_extend();
 }

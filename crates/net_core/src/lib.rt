@@ -7,7 +7,7 @@ mod network;
 mod refusals;
 mod runs;
 
-pub use laws::{accepted_is_sound, moves_are_steps, runs_are_sound};
+pub use laws::{accepted_is_sound, every_run, moves_are_steps, runs_are_sound};
 pub use moves::{Finish, Move, StepFault};
 pub use network::Net;
 pub use refusals::{Refusal, Where, Which, accept};

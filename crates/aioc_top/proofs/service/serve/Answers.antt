@@ -1,16 +1,41 @@
--- What the call did, from the answer of the words and the writing of its text or of its line.
-use Rattle.std.proofs.Common.{refl, sym, subst}
-use Rattle.aioc_top.specs.Serve.{Outcome}
-use Rattle.aioc_top.specs.Words.{command_of, spelled}
-use Rattle.aioc_top.proofs.Outcomes.{printed_outcome, stopped_outcome}
+-- Each clause, from what the call did and from what the crates below prove.
+use Rattle.aioc_top.specs.declared.status.Status.TheVariants as status
+use Rattle.aioc_top.proofs.Clauses as clauses
 use Rattle.aioc_top.proofs.service.serve.Goals as goal
 
-pub returns-in-Ok-clause-outcome : goal.returns-in-Ok-clause-outcome
-returns-in-Ok-clause-outcome g c =
-    printed_outcome (record { command = command_of (spelled c.args.words.now); left = g.S.Source.left c.args.source.now; left_after = g.S.Source.left c.answer_words.new.source; faults = g.S.Source.faults c.args.source.now; faults_after = g.S.Source.faults c.answer_words.new.source; sinks = record { taken = g.O.Sink.taken c.args.out.now; taken_after = g.O.Sink.taken c.print.new.out; out_faults = g.O.Sink.faults c.args.out.now; out_faults_after = g.O.Sink.faults c.print.new.out; said = g.E.Sink.taken c.args.err.now; said_after = g.E.Sink.taken c.print.new.err; err_faults = g.E.Sink.faults c.args.err.now; err_faults_after = g.E.Sink.faults c.print.new.err } })
-    c.in-Ok.answer c.print.result c.in-Ok.ensures.command c.in-Ok.ensures.end c.in-Ok.ensures.answer c.print.ensures
+pub returns-clause-step_text : goal.returns-clause-step_text
+returns-clause-step_text g c = clauses.step_text c.know_laws.ensures.one _ c.do_words.result c.do_words.ensures
 
-pub returns-in-Err-clause-outcome : goal.returns-in-Err-clause-outcome
-returns-in-Err-clause-outcome g c =
-    subst (Outcome (record { command = command_of (spelled c.args.words.now); left = g.S.Source.left c.args.source.now; left_after = g.S.Source.left c.answer_words.new.source; faults = g.S.Source.faults c.args.source.now; faults_after = g.S.Source.faults c.answer_words.new.source; sinks = record { taken = g.O.Sink.taken c.args.out.now; taken_after = g.O.Sink.taken c.args.out.now; out_faults = g.O.Sink.faults c.args.out.now; out_faults_after = g.O.Sink.faults c.args.out.now; said = g.E.Sink.taken c.args.err.now; said_after = g.E.Sink.taken c.report.new.err; err_faults = g.E.Sink.faults c.args.err.now; err_faults_after = g.E.Sink.faults c.report.new.err } })) (sym c.report.ensures.status)
-    (stopped_outcome (record { command = command_of (spelled c.args.words.now); left = g.S.Source.left c.args.source.now; left_after = g.S.Source.left c.answer_words.new.source; faults = g.S.Source.faults c.args.source.now; faults_after = g.S.Source.faults c.answer_words.new.source; sinks = record { taken = g.O.Sink.taken c.args.out.now; taken_after = g.O.Sink.taken c.args.out.now; out_faults = g.O.Sink.faults c.args.out.now; out_faults_after = g.O.Sink.faults c.args.out.now; said = g.E.Sink.taken c.args.err.now; said_after = g.E.Sink.taken c.report.new.err; err_faults = g.E.Sink.faults c.args.err.now; err_faults_after = g.E.Sink.faults c.report.new.err } }) c.in-Err.fault c.in-Err.ensures.fault (record { taken = refl; faults = refl }) c.report.ensures.line)
+pub returns-clause-headline : goal.returns-clause-headline
+returns-clause-headline g c =
+    clauses.headline c.know_laws.ensures.one _ c.know_laws.ensures.formed c.know_laws.ensures.every_run c.do_words.result c.do_words.ensures
+
+pub returns-clause-done : goal.returns-clause-done
+returns-clause-done g c = clauses.comes_exactly c.know_laws.ensures.one _ status.Done c.do_words.result (λ h. h, λ e. cc) c.do_words.ensures
+
+pub returns-clause-limit : goal.returns-clause-limit
+returns-clause-limit g c = clauses.comes_exactly c.know_laws.ensures.one _ status.Limit c.do_words.result (λ h. h, λ e. cc) c.do_words.ensures
+
+pub returns-clause-too_long : goal.returns-clause-too_long
+returns-clause-too_long g c = clauses.comes_exactly c.know_laws.ensures.one _ status.TooLong c.do_words.result (λ h. h, λ e. cc) c.do_words.ensures
+
+pub returns-clause-syntax : goal.returns-clause-syntax
+returns-clause-syntax g c = clauses.comes_exactly c.know_laws.ensures.one _ status.Syntax c.do_words.result (λ h. h, λ e. cc) c.do_words.ensures
+
+pub returns-clause-refused : goal.returns-clause-refused
+returns-clause-refused g c = clauses.comes_exactly c.know_laws.ensures.one _ status.Refused c.do_words.result (λ h. h, λ e. cc) c.do_words.ensures
+
+pub returns-clause-usage : goal.returns-clause-usage
+returns-clause-usage g c = clauses.usage _ c.do_words.result c.do_words.ensures
+
+pub returns-clause-complete : goal.returns-clause-complete
+returns-clause-complete g c = clauses.complete c.know_laws.ensures.one _ c.do_words.result c.do_words.ensures
+
+pub returns-clause-reads_all : goal.returns-clause-reads_all
+returns-clause-reads_all g c = clauses.reads_all _ c.do_words.result c.do_words.ensures
+
+pub returns-clause-silent : goal.returns-clause-silent
+returns-clause-silent g c = clauses.silent _ c.do_words.result c.do_words.ensures
+
+pub returns-clause-says : goal.returns-clause-says
+returns-clause-says g c = clauses.says c.know_laws.ensures.one _ c.do_words.result c.do_words.ensures
