@@ -138,7 +138,7 @@ fn a_failing_source_prints_nothing(rt: HostRuntime) -> Result<(), Fail> {
 // The greeting with spaces behind it, up to so many bytes.
 fn pad_greeting(alloc: Global, length: usize) -> Result<Vec<u8>, AllocError> {
     let mut text = GREETING.as_bytes().to_vec(alloc)?;
-    while text.len() < length {
+    for _ in text.len()..length {
         text.push(b' ')?;
     }
     Ok(text)
