@@ -1,5 +1,5 @@
 -- Two terms that stand at one place in one form: they are the same, or behind the shorter one stands a token that can go on.
-use Rattle.std.proofs.Common.{◌≡◌, ℕ, suc, ◌+◌, ◌<◌, Bool, true, false, List, [], ◌∷◌, length, drop, Some, None, refl, ap, sym, ◌∙◌, arith}
+use Rattle.std.proofs.Common.{◌≡◌, ℕ, suc, ◌+◌, ◌<◌, Bool, true, false, List, [], ◌∷◌, length, drop, Some, refl, ap, sym, ◌∙◌, arith}
 use Rattle.dioc_terms.specs.declared.names.Role.{Role}
 use Rattle.dioc_terms.specs.declared.values.Value.{Value}
 use Rattle.dioc_terms.specs.Expressions.{Expression}
@@ -17,8 +17,8 @@ use Rattle.expr_syntax.specs.declared.levels.Level.TheVariants.{Disjunction}
 use Rattle.expr_syntax.proofs.LeafFacts.{same_pair}
 use Rattle.expr_syntax.proofs.Tables as expressions
 use Rattle.expr_syntax.proofs.Compare as expression
-use Rattle.dioc_syntax.specs.Choreographies.{role, NamesRoles, last_role, more_roles, HasRoles, no_roles, roles, GivesProperties, last_property, more_properties, HasProperties, no_properties, empty_properties, properties, Form, Choreography, Sequence, Step, Block, Otherwise, Stands, one_part, beside, one_step, last_step, in_turn, nothing, interaction, input, assignment, choice, loop, scope, group, block, no_else, otherwise}
-use Rattle.dioc_syntax.proofs.Shorter.{named_shorter, roles_shorter, given_shorter, properties_shorter, stands_shorter}
+use Rattle.dioc_syntax.specs.Choreographies.{role, NamesRoles, last_role, more_roles, HasRoles, no_roles, roles, GivesProperties, last_property, more_properties, HasProperties, no_properties, empty_properties, properties, Form, Choreography, Sequence, Step, Stands, one_part, beside, one_step, last_step, in_turn, nothing, interaction, input, assignment, choice, loop, scope, group, block, no_else, otherwise}
+use Rattle.dioc_syntax.proofs.Shorter.{named_shorter, given_shorter, properties_shorter, stands_shorter}
 use Rattle.dioc_syntax.proofs.Tables.{is_else, is_prop, is_name, is_comma, begins_step, step_goes, sequence_goes, choreography_goes, goes, else_step, prop_step, name_step, operator_step, step_sequence, first_sequence, sequence_choreography}
 
 -- how two values compare that are read up to these rests of the list

@@ -7,7 +7,7 @@ use Rattle.aioc_tokens.specs.declared.words.Mark.TheVariants as mark
 use Rattle.aioc_tokens.specs.declared.words.Sort.TheVariants as sorts
 use Rattle.aioc_tokens.specs.Lexemes.{Lexeme, Reserved, Symbol, sort_of}
 use Rattle.aioc_tokens.specs.Fronts.{Longest, NoFront}
-use Rattle.dioc_syntax.specs.Choreographies.{Form, Choreography, Sequence, Step, Block, Otherwise, Stands, one_part, beside, one_step, last_step, in_turn, nothing, interaction, input, assignment, choice, loop, scope, group, block, no_else, otherwise, IsShallow, IsChoreography}
+use Rattle.dioc_syntax.specs.Choreographies.{Form, Choreography, Sequence, Step, Block, Otherwise, Stands, one_part, beside, one_step, last_step, in_turn, block, no_else, otherwise, IsShallow, IsChoreography}
 use Rattle.dioc_syntax.proofs.Shorter.{stands_shorter}
 use Rattle.dioc_syntax.proofs.Tables.{step_goes, sequence_goes, choreography_goes, goes}
 use Rattle.dioc_syntax.proofs.Compare.{Compared, same, further, nearer, compare, behind_is}

@@ -6,3 +6,5 @@ pub mod Marks
 pub mod Tables
 pub mod Compare
 pub mod Fronts
+pub mod ScopeFronts
+pub mod StepFronts

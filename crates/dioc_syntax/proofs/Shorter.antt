@@ -1,12 +1,12 @@
 -- A choreography takes at least one lexeme, and at least one for each of its indexed constructs.
-use Rattle.std.proofs.Common.{ℕ, suc, ◌+◌, ◌<◌, ◌≤◌, List, length, ap, arith}
+use Rattle.std.proofs.Common.{ℕ, ◌+◌, ◌<◌, ◌≤◌, List, length, ap, arith}
 use Rattle.dioc_terms.specs.declared.names.Role.{Role}
 use Rattle.dioc_terms.specs.declared.values.Value.{Value}
 use Rattle.dioc_terms.specs.Terms.{Term, constructs}
 use Rattle.aioc_tokens.specs.Lexemes.{Lexeme}
 use Rattle.expr_syntax.proofs.LeafFacts.{constant_shorter}
 use Rattle.expr_syntax.proofs.Shorter.{reads_shorter}
-use Rattle.dioc_syntax.specs.Choreographies.{NamesRoles, last_role, more_roles, HasRoles, no_roles, roles, GivesProperties, last_property, more_properties, HasProperties, no_properties, empty_properties, properties, Form, Choreography, Sequence, Step, Block, Otherwise, Stands, one_part, beside, one_step, last_step, in_turn, nothing, interaction, input, assignment, choice, loop, scope, group, block, no_else, otherwise}
+use Rattle.dioc_syntax.specs.Choreographies.{NamesRoles, last_role, more_roles, HasRoles, no_roles, roles, GivesProperties, last_property, more_properties, HasProperties, no_properties, empty_properties, properties, Form, Otherwise, Stands, one_part, beside, one_step, last_step, in_turn, nothing, interaction, input, assignment, choice, loop, scope, group, block, no_else, otherwise}
 
 pub named_shorter : {from to : List Lexeme} {names : List Role} → NamesRoles from names to → length to < length from
 named_shorter (last_role begins) = omega (arith, ap length begins)
