@@ -8,3 +8,5 @@ pub mod Compare
 pub mod Fronts
 pub mod ScopeFronts
 pub mod StepFronts
+pub mod Spells
+pub mod RoundTrip

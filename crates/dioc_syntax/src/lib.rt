@@ -6,6 +6,8 @@
 mod bundle;
 mod laws;
 mod names;
+mod writer;
 
 pub use bundle::{LONGEST, read_bundle};
-pub use laws::{one_bundle, one_choreography, read_is_marked};
+pub use laws::{one_bundle, one_choreography, read_is_marked, written_is_read, written_is_spelled};
+pub use writer::write_choreo;
