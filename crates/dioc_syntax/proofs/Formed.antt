@@ -1,5 +1,5 @@
 -- What is read is formed, and it is one interaction.
-use Rattle.std.proofs.Common.{◌≡◌, ◌≢◌, ℕ, zero, suc, ◌-◌, ◌≤◌, List, [], ◌∷◌, ◌&&◌, Bool, true, false, cond, not, IsTrue, length, map, Option, Some, None, refl, sym, ap, ◌∙◌, subst, inl, arith, rules}
+use Rattle.std.proofs.Common.{◌≡◌, ◌≢◌, ℕ, zero, suc, ◌-◌, ◌≤◌, List, [], ◌∷◌, ◌&&◌, Bool, true, false, cond, not, length, map, Option, Some, None, refl, sym, ap, ◌∙◌, subst, inl, arith}
 use Rattle.std.proofs.lemmas.Bool.{le-leb, leb-true}
 use Rattle.std.proofs.lemmas.List.Elements.{recursion_from_All}
 use Rattle.std.specs.Int.{is_in_range}
@@ -27,7 +27,8 @@ use Rattle.aioc_tokens.specs.Tokens.{IsNameSpelling, is_name_byte}
 use Rattle.aioc_tokens.specs.Lexemes.{Lexeme, Name, Long, Number, Text, Reserved, Symbol, HasSpelling, HasLexemes}
 use Rattle.aioc_tokens.proofs.Readings.{read_spelling}
 use Rattle.expr_syntax.specs.Constants.{constant, before, positive, negative, greatest, greatest_negated, number_up_to}
-use Rattle.dioc_syntax.specs.Grammar.{role, IsBundle}
+use Rattle.dioc_syntax.specs.Choreographies.{role}
+use Rattle.dioc_syntax.specs.Grammar.{IsBundle}
 
 some_none : (word : Word) → Some word ≡ None → ⊥
 some_none word h = cc

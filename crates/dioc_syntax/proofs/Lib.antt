@@ -1,3 +1,12 @@
 pub mod Bundles
 pub mod Formed
 pub mod Unique
+pub mod Shorter
+pub mod Marks
+pub mod Tables
+pub mod Compare
+pub mod Fronts
+pub mod ScopeFronts
+pub mod StepFronts
+pub mod Spells
+pub mod RoundTrip

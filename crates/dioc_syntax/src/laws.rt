@@ -1,6 +1,7 @@
 //! What holds of every text.
 
 ghost use Rattle.dioc_syntax.specs.Grammar.{OneBundle, SpelledAreFormed};
+ghost use Rattle.dioc_syntax.specs.Laws.{OneChoreography, ReadIsMarked, WrittenIsSpelled, WrittenIsRead};
 
 /// A law: a text spells at most one bundle. It does nothing.
 pub fn one_bundle()
@@ -10,4 +11,25 @@ pub fn one_bundle()
 /// A law: a bundle that a text spells is formed. It does nothing.
 pub fn spelled_are_formed()
     ensures { SpelledAreFormed }
+{}
+
+/// A law: a place of a text has at most one longest choreography. It does nothing.
+pub fn one_choreography()
+    ensures { OneChoreography }
+{}
+
+/// A law: a choreography that stands in a text has the marks that the text gives it. It does nothing.
+pub fn read_is_marked()
+    ensures { ReadIsMarked }
+{}
+
+/// A law: the text that is written of a choreography has the tokens that were written. It does nothing.
+pub fn written_is_spelled()
+    ensures { WrittenIsSpelled }
+{}
+
+/// A law: what is written of a choreography within the limits is read as that choreography, whatever follows that closes it. By
+/// `one_choreography` it is read as no other. It does nothing.
+pub fn written_is_read()
+    ensures { WrittenIsRead }
 {}

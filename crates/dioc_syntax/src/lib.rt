@@ -6,6 +6,11 @@
 mod bundle;
 mod laws;
 mod names;
+mod writer;
 
 pub use bundle::{LONGEST, read_bundle};
-pub use laws::{one_bundle, spelled_are_formed};
+pub use laws::{
+    one_bundle, one_choreography, read_is_marked, spelled_are_formed, written_is_read,
+    written_is_spelled,
+};
+pub use writer::write_choreo;
