@@ -7,6 +7,8 @@ mod bundle;
 mod laws;
 mod names;
 mod writer;
+#[cfg(test)]
+mod writer_tests;
 
 pub use bundle::{LONGEST, read_bundle};
 pub use laws::{one_bundle, one_choreography, read_is_marked, written_is_read, written_is_spelled};
