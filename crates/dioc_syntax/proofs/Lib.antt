@@ -10,3 +10,4 @@ pub mod ScopeFronts
 pub mod StepFronts
 pub mod Spells
 pub mod RoundTrip
+pub mod FormedTerms

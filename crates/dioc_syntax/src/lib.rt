@@ -4,13 +4,17 @@
 #![tactic(auto)]
 
 mod bundle;
+#[cfg(test)]
+mod bundle_tests;
 mod laws;
 mod names;
 mod writer;
+#[cfg(test)]
+mod writer_tests;
 
 pub use bundle::{LONGEST, read_bundle};
 pub use laws::{
-    one_bundle, one_choreography, read_is_marked, spelled_are_formed, written_is_read,
-    written_is_spelled,
+    one_bundle, one_choreography, read_is_formed, read_is_marked, spelled_are_formed,
+    written_is_read, written_is_spelled,
 };
 pub use writer::write_choreo;
