@@ -20,7 +20,8 @@ use Rattle.aioc_tokens.proofs.Readings.{one_reading}
 use Rattle.aioc_tokens.proofs.Unique.{tokens_or_bad_byte}
 use Rattle.expr_syntax.specs.Constants.{constant, before, ConstantAt}
 use Rattle.dioc_syntax.specs.declared.bundle.TheConstants.{HEAD, TAIL}
-use Rattle.dioc_syntax.specs.Grammar.{role, IsInteraction, IsBundle, Spells, SpellsNone}
+use Rattle.dioc_syntax.specs.Choreographies.{role}
+use Rattle.dioc_syntax.specs.Grammar.{IsInteraction, IsBundle, Spells, SpellsNone}
 
 -- a bundle of a choreography alone
 pub record IsPlain (b : Bundle) : Type 0 where

@@ -27,7 +27,8 @@ use Rattle.aioc_tokens.specs.Tokens.{IsNameSpelling, is_name_byte}
 use Rattle.aioc_tokens.specs.Lexemes.{Lexeme, Name, Long, Number, Text, Reserved, Symbol, HasSpelling, HasLexemes}
 use Rattle.aioc_tokens.proofs.Readings.{read_spelling}
 use Rattle.expr_syntax.specs.Constants.{constant, before, positive, negative, greatest, greatest_negated, number_up_to}
-use Rattle.dioc_syntax.specs.Grammar.{role, IsBundle}
+use Rattle.dioc_syntax.specs.Choreographies.{role}
+use Rattle.dioc_syntax.specs.Grammar.{IsBundle}
 
 some_none : (word : Word) → Some word ≡ None → ⊥
 some_none word h = cc

@@ -10,7 +10,8 @@ use Rattle.aioc_tokens.specs.declared.words.Mark.TheVariants.{LeftBrace, RightBr
 use Rattle.aioc_tokens.specs.Lexemes.{Lexeme, Name, Reserved, Symbol, HasLexemes}
 use Rattle.aioc_tokens.proofs.Readings.{one_reading}
 use Rattle.expr_syntax.specs.Constants.{constant}
-use Rattle.dioc_syntax.specs.Grammar.{role, IsInteraction, IsBundle, Spells, SameBundle}
+use Rattle.dioc_syntax.specs.Choreographies.{role}
+use Rattle.dioc_syntax.specs.Grammar.{IsInteraction, IsBundle, Spells, SameBundle}
 
 -- two equations on one list
 both : {A : Type 0} {x y z : A} → x ≡ y → x ≡ z → y ≡ z

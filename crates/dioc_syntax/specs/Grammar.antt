@@ -1,6 +1,5 @@
 -- The grammar of a bundle, as far as it is read today.
 use Rattle.std.specs.Prelude.{◌≡◌, ◌≤◌, ℕ, List, [], ◌∷◌, length, Some, None}
-use Rattle.dioc_terms.specs.declared.names.Role.{Role}
 use Rattle.dioc_terms.specs.declared.values.Value.{Value}
 use Rattle.dioc_terms.specs.declared.bundles.Bundle.{Bundle}
 use Rattle.dioc_terms.specs.Expressions.{Const}
@@ -9,9 +8,7 @@ use Rattle.aioc_tokens.specs.declared.words.Word.TheVariants.{Aioc}
 use Rattle.aioc_tokens.specs.declared.words.Mark.TheVariants.{LeftBrace, RightBrace, LeftParen, RightParen, Colon, Arrow}
 use Rattle.aioc_tokens.specs.Lexemes.{Lexeme, Name, Reserved, Symbol, HasLexemes}
 use Rattle.expr_syntax.specs.Constants.{constant}
-
-abbrev pub role : List ℕ → Role
-role name = record { 0 = name }
+use Rattle.dioc_syntax.specs.Choreographies.{role}
 
 -- From one list of lexemes up to a rest of it stands an interaction, with so many indexed constructs before it:
 --   step = name ":" name "(" value ")" "->" name "(" name ")"

@@ -1,1 +1,3 @@
+pub mod Choreographies
+pub mod Laws
 pub mod Grammar
