@@ -1,27 +1,25 @@
 -- What the looks of the reader show: which lists of lexemes are a bundle, and which are none.
-use Rattle.std.proofs.Common.{◌≡◌, ◌≢◌, ℕ, suc, ◌+◌, ◌-◌, ◌<◌, ◌≤◌, List, [], ◌∷◌, drop, length, Option, Some, None, refl, sym, ap, ◌∙◌, subst, arith, rules, length-drop, drop-drop}
-use Rattle.std.specs.Prelude.{MatchOption, option_map}
+use Rattle.std.proofs.Common.{◌≡◌, ℕ, ◌+◌, ◌-◌, List, [], ◌∷◌, drop, length, Option, Some, None, refl, sym, ap, ◌∙◌, subst, arith, length-drop, drop-drop}
 use Rattle.dioc_terms.specs.declared.names.Role.{Role}
 use Rattle.dioc_terms.specs.declared.values.Value.{Value}
 use Rattle.dioc_terms.specs.declared.bundles.Bundle.{Bundle}
 use Rattle.dioc_terms.specs.Expressions.{Const}
-use Rattle.dioc_terms.specs.Terms.{Term, Com, term, cast_of, mark_at}
+use Rattle.dioc_terms.specs.Terms.{Com, term, cast_of, mark_at}
 use Rattle.aioc_tokens.specs.declared.words.Sort.{Sort}
 use Rattle.aioc_tokens.specs.declared.words.Sort.TheVariants as sorts
 use Rattle.aioc_tokens.specs.declared.words.Word.{Word}
 use Rattle.aioc_tokens.specs.declared.words.Word.TheVariants.{Aioc}
 use Rattle.aioc_tokens.specs.declared.words.Mark.{Mark}
 use Rattle.aioc_tokens.specs.declared.words.Mark.TheVariants.{LeftBrace, RightBrace, LeftParen, RightParen, Colon, Arrow}
-use Rattle.aioc_tokens.specs.Lexemes.{Lexeme, Name, Reserved, Symbol, HasLexemes, Begins, sort_of, lexemes}
+use Rattle.aioc_tokens.specs.Lexemes.{Lexeme, Name, Reserved, Symbol, Begins, sort_of, lexemes}
 use Rattle.aioc_tokens.specs.declared.kinds.Token.{Token}
 use Rattle.aioc_tokens.specs.Lexing.{Lexes, Breaks}
-use Rattle.aioc_tokens.proofs.Looks.{reserved_first, symbol_first, end_first}
+use Rattle.aioc_tokens.proofs.Looks.{reserved_first, symbol_first}
 use Rattle.aioc_tokens.proofs.Readings.{one_reading}
 use Rattle.aioc_tokens.proofs.Unique.{tokens_or_bad_byte}
-use Rattle.expr_syntax.specs.Constants.{constant, before, ConstantAt}
+use Rattle.expr_syntax.specs.Constants.{constant}
 use Rattle.dioc_syntax.specs.declared.bundle.TheConstants.{HEAD, TAIL}
-use Rattle.dioc_syntax.specs.Choreographies.{role}
-use Rattle.dioc_syntax.specs.Grammar.{IsInteraction, IsBundle, Spells, SpellsNone}
+use Rattle.dioc_syntax.specs.Grammar.{IsBundle, SpellsNone}
 
 -- a bundle of a choreography alone
 pub record IsPlain (b : Bundle) : Type 0 where

@@ -1,5 +1,5 @@
 -- What is read is formed, and it is one interaction.
-use Rattle.std.proofs.Common.{◌≡◌, ◌≢◌, ℕ, zero, suc, ◌-◌, ◌≤◌, List, [], ◌∷◌, ◌&&◌, Bool, true, false, cond, not, IsTrue, length, map, Option, Some, None, refl, sym, ap, ◌∙◌, subst, inl, arith, rules}
+use Rattle.std.proofs.Common.{◌≡◌, ◌≢◌, ℕ, zero, suc, ◌-◌, ◌≤◌, List, [], ◌∷◌, ◌&&◌, Bool, true, false, cond, not, length, map, Option, Some, None, refl, sym, ap, ◌∙◌, subst, inl, arith}
 use Rattle.std.proofs.lemmas.Bool.{le-leb, leb-true}
 use Rattle.std.proofs.lemmas.List.Elements.{recursion_from_All}
 use Rattle.std.specs.Int.{is_in_range}

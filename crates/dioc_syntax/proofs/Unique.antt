@@ -1,17 +1,17 @@
 -- A text spells at most one bundle.
-use Rattle.std.proofs.Common.{◌≡◌, ℕ, List, [], ◌∷◌, Option, Some, None, refl, sym, ap, ◌∙◌, subst, rules}
+use Rattle.std.proofs.Common.{◌≡◌, ℕ, List, [], ◌∷◌, Option, Some, None, sym, ap, ◌∙◌, subst}
 use Rattle.dioc_terms.specs.declared.values.Value.{Value}
 use Rattle.dioc_terms.specs.declared.values.Value.TheVariants.{Nil}
 use Rattle.dioc_terms.specs.declared.bundles.Bundle.{Bundle}
 use Rattle.dioc_terms.specs.Expressions.{Const}
 use Rattle.dioc_terms.specs.Terms.{Term, Com, term, cast_of, mark_at}
 use Rattle.aioc_tokens.specs.declared.words.Word.TheVariants.{Aioc}
-use Rattle.aioc_tokens.specs.declared.words.Mark.TheVariants.{LeftBrace, RightBrace, LeftParen, RightParen, Colon, Arrow}
-use Rattle.aioc_tokens.specs.Lexemes.{Lexeme, Name, Reserved, Symbol, HasLexemes}
+use Rattle.aioc_tokens.specs.declared.words.Mark.TheVariants.{LeftBrace, LeftParen, RightParen, Colon, Arrow}
+use Rattle.aioc_tokens.specs.Lexemes.{Lexeme, Name, Reserved, Symbol}
 use Rattle.aioc_tokens.proofs.Readings.{one_reading}
 use Rattle.expr_syntax.specs.Constants.{constant}
 use Rattle.dioc_syntax.specs.Choreographies.{role}
-use Rattle.dioc_syntax.specs.Grammar.{IsInteraction, IsBundle, Spells, SameBundle}
+use Rattle.dioc_syntax.specs.Grammar.{IsInteraction, Spells, SameBundle}
 
 -- two equations on one list
 both : {A : Type 0} {x y z : A} → x ≡ y → x ≡ z → y ≡ z

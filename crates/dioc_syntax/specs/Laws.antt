@@ -1,9 +1,15 @@
 -- What holds of every text of a choreography.
-use Rattle.std.specs.Prelude.{◌≡◌, ℕ, List}
+use Rattle.std.specs.Prelude.{◌≡◌, ℕ, ◌≤◌, ◌⊎◌, Bool, true, false, List, []}
 use Rattle.dioc_terms.specs.Terms.{Term, marked}
-use Rattle.aioc_tokens.specs.Lexemes.{Lexeme}
+use Rattle.dioc_terms.specs.Bundles.{has_formed_parts, names_no_roles, IsFormedTerm}
+use Rattle.aioc_tokens.specs.declared.words.Mark.TheVariants as mark
+use Rattle.aioc_tokens.specs.declared.words.Sort.{Sort}
+use Rattle.aioc_tokens.specs.declared.words.Sort.TheVariants as sorts
+use Rattle.aioc_tokens.specs.Lexemes.{Lexeme, sort_of, HasLexemes}
+use Rattle.aioc_tokens.specs.Spelling.{spelled}
 use Rattle.aioc_tokens.specs.Fronts.{Longest}
 use Rattle.dioc_syntax.specs.Choreographies.{IsChoreography}
+use Rattle.dioc_syntax.specs.Writing.{written}
 
 -- a place has one longest choreography
 abbrev pub OneChoreography : Type 0
@@ -13,3 +19,23 @@ OneChoreography = (version room : ℕ) (from to end : List Lexeme) (whole other 
 -- a choreography has the marks that its text gives it
 abbrev pub ReadIsMarked : Type 0
 ReadIsMarked = (version room : ℕ) (from to : List Lexeme) (whole : Term) → IsChoreography version room from whole to → whole ≡ marked whole
+
+-- version 2 alone names further roles of a scope
+abbrev pub FitsVersion : ℕ → Term → Type 0
+FitsVersion version whole = (version ≡ 2) ⊎ (names_no_roles whole ≡ true)
+
+-- what closes a choreography: the end, or a bracket
+abbrev pub closes : Sort → Bool
+closes sorts.End = true
+closes (sorts.Symbol mark.RightBrace) = true
+closes (sorts.Symbol mark.RightParen) = true
+closes _ = false
+
+-- the text that is written of a choreography has the lexemes that were written
+abbrev pub WrittenIsSpelled : Type 0
+WrittenIsSpelled = (whole : Term) → has_formed_parts whole ≡ true → HasLexemes (spelled (written whole [])) (written whole [])
+
+-- they read as that choreography, whatever follows that closes it; 319 open brackets suffice
+abbrev pub WrittenIsRead : Type 0
+WrittenIsRead = (version : ℕ) (whole : Term) (room : ℕ) (others : List Lexeme) → IsFormedTerm whole → FitsVersion version whole → 319 ≤ room → closes (sort_of others) ≡ true →
+    Longest (IsChoreography version room (written whole others)) whole others

@@ -1,3 +1,4 @@
 pub mod Choreographies
+pub mod Writing
 pub mod Laws
 pub mod Grammar

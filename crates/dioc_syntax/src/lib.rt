@@ -8,4 +8,4 @@ mod laws;
 mod names;
 
 pub use bundle::{LONGEST, read_bundle};
-pub use laws::one_bundle;
+pub use laws::{one_bundle, one_choreography, read_is_marked};

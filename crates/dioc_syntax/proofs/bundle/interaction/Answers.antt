@@ -1,7 +1,6 @@
 -- The lexemes of the text are those of the bundle that is built.
-use Rattle.std.proofs.Common.{refl, rules, arith}
-use Rattle.std.proofs.lemmas.Grind.{common_steps}
-use Rattle.dioc_syntax.proofs.Bundles.{head_is, tail_is, makes}
+use Rattle.std.proofs.Common.{refl, rules}
+use Rattle.dioc_syntax.proofs.Bundles.{tail_is, makes}
 use Rattle.dioc_syntax.proofs.bundle.interaction.Goals as goal
 
 pub role_at-requires-2 : goal.role_at-requires-2

@@ -1,5 +1,5 @@
 -- What the looks show, said of the bytes.
-use Rattle.std.proofs.Common.{◌≡◌, ◌≢◌, ℕ, List, Err, refl, subst, sym, ap, ◌∙◌}
+use Rattle.std.proofs.Common.{◌≡◌, ◌≢◌, ℕ, List, Err, refl, subst, ap, ◌∙◌}
 use Rattle.dioc_terms.specs.declared.bundles.Bundle.{Bundle}
 use Rattle.aioc_tokens.specs.Lexemes.{Lexeme, lexemes}
 use Rattle.dioc_syntax.specs.declared.bundle.Stop.{Stop}
