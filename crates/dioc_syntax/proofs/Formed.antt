@@ -73,7 +73,7 @@ pub identifier_valid : (bytes : List ℕ) → HasSpelling (Name bytes) → is_id
 identifier_valid bytes h = λ j. name_valid bytes h j && not (not_reserved bytes h.2 j)
 
 -- a lexeme that isn't too long has a spelling
-abbrev CanBeWritten : Lexeme → Type 0
+abbrev pub CanBeWritten : Lexeme → Type 0
 CanBeWritten lexeme = lexeme ≢ Long → HasSpelling lexeme
 
 same_printable : (bytes : List ℕ) → list_all tokens.is_printable bytes ≡ list_all names.is_printable bytes
@@ -92,7 +92,7 @@ rest_in None = []
 rest_in (Some found) = found.1
 
 -- what is read of a constant
-abbrev IsValid : Value → List Lexeme → Type 0
+abbrev pub IsValid : Value → List Lexeme → Type 0
 IsValid v to = (is_constant v ≡ true) × AllByRecursion CanBeWritten to
 
 read_as : (found : Option (Value × List Lexeme)) (v w : Value) (to rest : List Lexeme) → found ≡ Some (w, rest) → found ≡ Some (v, to) → IsValid w rest → IsValid v to

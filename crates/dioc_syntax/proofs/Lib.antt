@@ -8,3 +8,6 @@ pub mod Compare
 pub mod Fronts
 pub mod ScopeFronts
 pub mod StepFronts
+pub mod Spells
+pub mod RoundTrip
+pub mod FormedTerms

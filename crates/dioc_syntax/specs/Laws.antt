@@ -1,5 +1,5 @@
 -- What holds of every text of a choreography.
-use Rattle.std.specs.Prelude.{◌≡◌, ℕ, ◌≤◌, ◌⊎◌, Bool, true, false, List, []}
+use Rattle.std.specs.Prelude.{◌≡◌, ℕ, ◌≤◌, ◌⊎◌, Bool, true, false, List, [], drop}
 use Rattle.dioc_terms.specs.Terms.{Term, marked}
 use Rattle.dioc_terms.specs.Bundles.{has_formed_parts, names_no_roles, IsFormedTerm}
 use Rattle.aioc_tokens.specs.declared.words.Mark.TheVariants as mark
@@ -23,6 +23,11 @@ ReadIsMarked = (version room : ℕ) (from to : List Lexeme) (whole : Term) → I
 -- version 2 alone names further roles of a scope
 abbrev pub FitsVersion : ℕ → Term → Type 0
 FitsVersion version whole = (version ≡ 2) ⊎ (names_no_roles whole ≡ true)
+
+-- a choreography that is read of a text is formed and fits the version
+abbrev pub ReadIsFormed : Type 0
+ReadIsFormed = (bytes : List ℕ) (found : List Lexeme) (at version room : ℕ) (whole : Term) (to : List Lexeme) → HasLexemes bytes found → IsChoreography version room (drop at found) whole to →
+    IsFormedTerm whole × FitsVersion version whole
 
 -- what closes a choreography: the end, or a bracket
 abbrev pub closes : Sort → Bool

@@ -1,7 +1,7 @@
 //! What holds of every text.
 
 ghost use Rattle.dioc_syntax.specs.Grammar.{OneBundle};
-ghost use Rattle.dioc_syntax.specs.Laws.{OneChoreography, ReadIsMarked};
+ghost use Rattle.dioc_syntax.specs.Laws.{OneChoreography, ReadIsMarked, ReadIsFormed, WrittenIsSpelled, WrittenIsRead};
 
 /// A law: a text spells at most one bundle. It does nothing.
 pub fn one_bundle()
@@ -16,4 +16,21 @@ pub fn one_choreography()
 /// A law: a choreography that stands in a text has the marks that the text gives it. It does nothing.
 pub fn read_is_marked()
     ensures { ReadIsMarked }
+{}
+
+/// A law: a choreography that is read of a text of some bytes is formed, and names further roles of a scope only where version 2
+/// does. It does nothing.
+pub fn read_is_formed()
+    ensures { ReadIsFormed }
+{}
+
+/// A law: the text that is written of a choreography has the tokens that were written. It does nothing.
+pub fn written_is_spelled()
+    ensures { WrittenIsSpelled }
+{}
+
+/// A law: what is written of a choreography within the limits is read as that choreography, whatever follows that closes it. By
+/// `one_choreography` it is read as no other. It does nothing.
+pub fn written_is_read()
+    ensures { WrittenIsRead }
 {}

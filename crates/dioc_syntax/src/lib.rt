@@ -6,6 +6,13 @@
 mod bundle;
 mod laws;
 mod names;
+mod writer;
+#[cfg(test)]
+mod writer_tests;
 
 pub use bundle::{LONGEST, read_bundle};
-pub use laws::{one_bundle, one_choreography, read_is_marked};
+pub use laws::{
+    one_bundle, one_choreography, read_is_formed, read_is_marked, written_is_read,
+    written_is_spelled,
+};
+pub use writer::write_choreo;
