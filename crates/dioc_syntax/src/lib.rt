@@ -1,18 +1,30 @@
 //! From the bytes of a text to the bundle that it spells.
 //!
-//! Today a text has one `aioc` section with one interaction that sends a constant.
+//! Today a text has one `aioc` section with one interaction that sends a constant. Choreographies are read and written whole.
 #![tactic(auto)]
 
 mod bundle;
+mod choreographies;
+mod extras;
+mod found;
+mod guards;
+mod heads;
 mod laws;
 mod names;
+mod readers;
+mod steps;
 mod writer;
+#[cfg(test)]
+mod reader_tests;
 #[cfg(test)]
 mod writer_tests;
 
 pub use bundle::{LONGEST, read_bundle};
+pub use choreographies::{CHOREO_DEPTH_LIMIT, read_choreo};
+pub use found::FoundChoreo;
 pub use laws::{
     one_bundle, one_choreography, read_is_formed, read_is_marked, written_is_read,
     written_is_spelled,
 };
+pub use readers::choreo_at;
 pub use writer::write_choreo;
