@@ -11,3 +11,7 @@ pub mod StepFronts
 pub mod Spells
 pub mod RoundTrip
 pub mod FormedTerms
+pub mod HeadSorts
+pub mod StepFindings
+pub mod Lists
+pub mod Findings

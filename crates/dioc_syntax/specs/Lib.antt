@@ -1,4 +1,5 @@
 pub mod Choreographies
+pub mod Readers
 pub mod Writing
 pub mod Pieces
 pub mod Laws

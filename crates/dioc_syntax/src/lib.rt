@@ -1,20 +1,32 @@
 //! From the bytes of a text to the bundle that it spells.
 //!
-//! Today a text has one `aioc` section with one interaction that sends a constant.
+//! Today a text has one `aioc` section with one interaction that sends a constant. Choreographies are read and written whole.
 #![tactic(auto)]
 
 mod bundle;
 #[cfg(test)]
 mod bundle_tests;
+mod choreographies;
+mod extras;
+mod found;
+mod guards;
+mod heads;
 mod laws;
 mod names;
+#[cfg(test)]
+mod reader_tests;
+mod readers;
+mod steps;
 mod writer;
 #[cfg(test)]
 mod writer_tests;
 
 pub use bundle::{LONGEST, read_bundle};
+pub use choreographies::{CHOREO_DEPTH_LIMIT, read_choreo};
+pub use found::FoundChoreo;
 pub use laws::{
     one_bundle, one_choreography, read_is_formed, read_is_marked, spelled_are_formed,
     written_is_read, written_is_spelled,
 };
+pub use readers::choreo_at;
 pub use writer::write_choreo;

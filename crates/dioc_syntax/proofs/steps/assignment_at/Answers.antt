@@ -1,0 +1,15 @@
+use Rattle.std.proofs.Common.{◌+◌, subst}
+use Rattle.expr_syntax.specs.Grammar.{ExpressionAt}
+use Rattle.expr_syntax.specs.declared.levels.ExprKind.TheVariants as kind
+use Rattle.dioc_syntax.proofs.StepFindings.{assignment_found, assignment_missing}
+use Rattle.dioc_syntax.proofs.steps.assignment_at.Goals as goal
+
+pub returns-in-Some : goal.returns-in-Some
+returns-in-Some c =
+    assignment_found c.args.room c.args.earlier c.args.text.now c.args.at c.args.variable c.args.owner c.requires.head c.in-Some.expr c.in-Some.next c.requires.other
+    (subst (ExpressionAt kind.Step c.args.room c.args.text.now (c.args.at + 4)) c.in-Some.is c.in_ok-expr.ensures)
+
+pub returns-in-None : goal.returns-in-None
+returns-in-None c =
+    assignment_missing c.args.room c.args.earlier c.args.text.now c.args.at c.args.variable c.args.owner c.requires.head c.requires.other
+    (subst (ExpressionAt kind.Step c.args.room c.args.text.now (c.args.at + 4)) c.in-None.is c.in_ok-expr.ensures)

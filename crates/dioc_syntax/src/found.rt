@@ -1,0 +1,199 @@
+//! Choreographies that were read.
+
+ghost use Rattle.std.specs.Prelude.{◌≡◌, ◌+◌, ◌-◌, ◌<◌, ◌^◌, suc, max, None, Err, IfOk};
+ghost use Rattle.dioc_terms.specs.Expressions.{expression};
+ghost use Rattle.dioc_terms.specs.Terms.{term, mark_at, Seq, Par, If, While, Scope};
+
+use crate::guards::Guard;
+use dioc_terms::{Bindings, Choreo, Index, Memory, Role, Roles};
+use std::alloc::Global;
+
+/// A choreography that was read.
+#[derive(Debug, Drop)]
+pub struct FoundChoreo {
+    /// The choreography, marked as its text is.
+    pub choreo: Choreo,
+    /// The depth of its tree.
+    pub depth: usize,
+    /// The place behind it.
+    pub at: usize,
+    /// How many indexed constructs begin before what follows it.
+    pub next: u32,
+}
+
+/// The value in a box.
+fn boxed<T: Drop>(alloc: Global, value: T) -> Result<Box<T>, Memory>
+    ensures { IfOk result (λ made. made.value ≡ value) }
+{
+    Ok(Box::new(alloc, value)?)
+}
+
+/// Lets go of a value, for want of memory.
+pub fn lost<T: Drop, U: Drop>(_value: T, fault: Memory) -> Result<U, Memory>
+    ensures { result ≡ Err fault }
+{
+    Err(fault)
+}
+
+/// Lets go of what turned out to be no part of a choreography.
+pub fn refused<T: Drop>(_value: T) -> Option<FoundChoreo>
+    ensures { result ≡ None }
+{
+    None
+}
+
+/// Two sequences side by side.
+pub fn beside(alloc: Global, first: FoundChoreo, second: FoundChoreo) -> Result<FoundChoreo, Memory>
+    requires first { first.depth < 2 ^ 64 - 1 }
+    requires second { second.depth < 2 ^ 64 - 1 }
+    ensures choreo { IfOk result (λ found. term found.choreo ≡ Par (term first.choreo) (term second.choreo)) }
+    ensures depth { IfOk result (λ found. found.depth ≡ suc (max first.depth second.depth)) }
+    ensures at { IfOk result (λ found. found.at ≡ second.at) }
+    ensures next { IfOk result (λ found. found.next ≡ second.next) }
+{
+    let depth = first.depth.max(second.depth) + 1;
+    let (at, next) = (second.at, second.next);
+    let first = boxed(alloc, first.choreo)?;
+    let second = boxed(alloc, second.choreo)?;
+    Ok(FoundChoreo {
+        choreo: Choreo::Par(first, second),
+        depth,
+        at,
+        next,
+    })
+}
+
+/// A step and the sequence after it.
+pub fn in_turn(
+    alloc: Global,
+    first: FoundChoreo,
+    second: FoundChoreo,
+) -> Result<FoundChoreo, Memory>
+    requires first { first.depth < 2 ^ 64 - 1 }
+    requires second { second.depth < 2 ^ 64 - 1 }
+    ensures choreo { IfOk result (λ found. term found.choreo ≡ Seq (term first.choreo) (term second.choreo)) }
+    ensures depth { IfOk result (λ found. found.depth ≡ suc (max first.depth second.depth)) }
+    ensures at { IfOk result (λ found. found.at ≡ second.at) }
+    ensures next { IfOk result (λ found. found.next ≡ second.next) }
+{
+    let depth = first.depth.max(second.depth) + 1;
+    let (at, next) = (second.at, second.next);
+    let first = boxed(alloc, first.choreo)?;
+    let second = boxed(alloc, second.choreo)?;
+    Ok(FoundChoreo {
+        choreo: Choreo::Seq(first, second),
+        depth,
+        at,
+        next,
+    })
+}
+
+/// A choice between two branches.
+pub fn choice(
+    alloc: Global,
+    guard: Guard,
+    earlier: u32,
+    first: FoundChoreo,
+    second: FoundChoreo,
+) -> Result<FoundChoreo, Memory>
+    requires first { first.depth < 2 ^ 64 - 1 }
+    requires second { second.depth < 2 ^ 64 - 1 }
+    ensures choreo { IfOk result (λ found. term found.choreo ≡ If (mark_at earlier) guard.leader (expression guard.expr) (term first.choreo) (term second.choreo)) }
+    ensures depth { IfOk result (λ found. found.depth ≡ suc (max first.depth second.depth)) }
+    ensures at { IfOk result (λ found. found.at ≡ second.at) }
+    ensures next { IfOk result (λ found. found.next ≡ second.next) }
+{
+    let depth = first.depth.max(second.depth) + 1;
+    let (at, next) = (second.at, second.next);
+    let yes = boxed(alloc, first.choreo)?;
+    let no = boxed(alloc, second.choreo)?;
+    Ok(FoundChoreo {
+        choreo: Choreo::If {
+            index: Index {
+                epoch: 0,
+                place: earlier,
+            },
+            leader: guard.leader,
+            guard: guard.expr,
+            yes,
+            no,
+        },
+        depth,
+        at,
+        next,
+    })
+}
+
+/// A loop around its body.
+pub fn turns(
+    alloc: Global,
+    guard: Guard,
+    earlier: u32,
+    inner: FoundChoreo,
+) -> Result<FoundChoreo, Memory>
+    requires { inner.depth < 2 ^ 64 - 1 }
+    ensures choreo { IfOk result (λ found. term found.choreo ≡ While (mark_at earlier) guard.leader (expression guard.expr) (term inner.choreo)) }
+    ensures depth { IfOk result (λ found. found.depth ≡ suc inner.depth) }
+    ensures at { IfOk result (λ found. found.at ≡ inner.at) }
+    ensures next { IfOk result (λ found. found.next ≡ inner.next) }
+{
+    let (depth, at, next) = (inner.depth + 1, inner.at, inner.next);
+    let body = boxed(alloc, inner.choreo)?;
+    Ok(FoundChoreo {
+        choreo: Choreo::While {
+            index: Index {
+                epoch: 0,
+                place: earlier,
+            },
+            leader: guard.leader,
+            guard: guard.expr,
+            body,
+        },
+        depth,
+        at,
+        next,
+    })
+}
+
+/// What a scope has beside its body.
+#[derive(Debug, Drop)]
+pub struct ScopeParts {
+    pub leader: Role,
+    pub extra: Roles,
+    pub props: Bindings,
+    /// The place behind them.
+    pub at: usize,
+}
+
+/// A scope around its body.
+pub fn scoped(
+    alloc: Global,
+    parts: ScopeParts,
+    earlier: u32,
+    inner: FoundChoreo,
+) -> Result<FoundChoreo, Memory>
+    requires { inner.depth < 2 ^ 64 - 1 }
+    ensures choreo { IfOk result (λ found. term found.choreo ≡ Scope (mark_at earlier) parts.leader (term inner.choreo) parts.extra parts.props 0) }
+    ensures depth { IfOk result (λ found. found.depth ≡ suc inner.depth) }
+    ensures at { IfOk result (λ found. found.at ≡ parts.at) }
+    ensures next { IfOk result (λ found. found.next ≡ inner.next) }
+{
+    let (depth, next) = (inner.depth + 1, inner.next);
+    let body = boxed(alloc, inner.choreo)?;
+    Ok(FoundChoreo {
+        choreo: Choreo::Scope {
+            index: Index {
+                epoch: 0,
+                place: earlier,
+            },
+            leader: parts.leader,
+            body,
+            extra: parts.extra,
+            props: parts.props,
+            level: 0,
+        },
+        depth,
+        at: parts.at,
+        next,
+    })
+}
