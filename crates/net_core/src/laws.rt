@@ -3,7 +3,7 @@
 
 ghost use Rattle.connectedness.specs.Laws.{RolesAtEnds, StampedConnected};
 ghost use Rattle.dioc_terms.specs.TermLaws.{MentionsAreRoles, CastsAreRoles, StampedBodies};
-ghost use Rattle.net_core.specs.Laws.{AcceptedIsSound, MovesAreSteps, RunsAreSound};
+ghost use Rattle.net_core.specs.Laws.{AcceptedIsSound, MovesAreSteps, RunsAreSound, SchedulesArePrompt};
 
 /// What the crates below prove of terms, together.
 fn known()
@@ -51,3 +51,9 @@ pub fn runs_are_sound()
     marked_laws::simulation();
     dpoc_process::offers_are_steps();
 }
+
+/// A law: in the run of a schedule without a seed no entry of a role stands where the script's next change is due, whatever the
+/// bundle. It does nothing.
+pub fn schedules_are_prompt()
+    ensures { SchedulesArePrompt }
+{}
