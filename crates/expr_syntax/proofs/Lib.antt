@@ -7,5 +7,6 @@ pub mod Fronts
 pub mod Ranks
 pub mod Findings
 pub mod KeptFronts
+pub mod ReadFormed
 pub mod Spells
 pub mod RoundTrip

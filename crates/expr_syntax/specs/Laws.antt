@@ -1,5 +1,5 @@
 -- What is written is read again.
-use Rattle.std.specs.Prelude.{◌≡◌, ℕ, ◌≤◌, Bool, true, List, [], None}
+use Rattle.std.specs.Prelude.{◌≡◌, ℕ, ◌≤◌, Bool, true, List, [], drop, None}
 use Rattle.dioc_terms.specs.Expressions.{Expression}
 use Rattle.dioc_terms.specs.Bundles.{is_formed_step, is_formed_condition}
 use Rattle.aioc_tokens.specs.Lexemes.{Lexeme, sort_of, HasLexemes}
@@ -34,3 +34,8 @@ WrittenIsRead = (kind : ExprKind) (whole : Expression) (room : ℕ) (others : Li
 abbrev pub OneLongest : Type 0
 OneLongest = (kind : ExprKind) (room : ℕ) (from to end : List Lexeme) (whole other : Expression) → Longest (IsExpression kind room from) whole to →
     Longest (IsExpression kind room from) other end → (whole ≡ other) × (to ≡ end)
+
+-- What is read from a text is formed: a step's expression is one of a step, a condition one of a condition.
+abbrev pub ReadIsFormed : Type 0
+ReadIsFormed = (kind : ExprKind) (room : ℕ) (bytes : List ℕ) (found : List Lexeme) (at : ℕ) (whole : Expression) (to : List Lexeme) → HasLexemes bytes found →
+    IsExpression kind room (drop at found) whole to → is_formed kind whole ≡ true

@@ -1,5 +1,5 @@
 //! What is written is read again, as contracts of functions that do nothing.
-ghost use Rattle.expr_syntax.specs.Laws.{WrittenIsSpelled, WrittenIsRead, OneLongest};
+ghost use Rattle.expr_syntax.specs.Laws.{WrittenIsSpelled, WrittenIsRead, OneLongest, ReadIsFormed};
 
 /// The text that is written of an expression has the tokens that were written.
 pub fn written_is_spelled()
@@ -14,4 +14,9 @@ pub fn written_is_read()
 /// A place of a text has one longest expression.
 pub fn one_longest()
     ensures { OneLongest }
+{}
+
+/// What is read from a text is formed: a step's expression is one of a step, a condition one of a condition.
+pub fn read_is_formed()
+    ensures { ReadIsFormed }
 {}

@@ -23,7 +23,33 @@ fn reading(alloc: Global, kind: ExprKind, text: &[u8]) -> Result<(Vec<u8>, usize
     }
 }
 
-const STEPS: [(&str, &str, usize); 22] = [
+const STEPS: [(&str, &str, usize); 48] = [
+    ("nil", "nil", 1),
+    ("true", "true", 1),
+    ("false", "false", 1),
+    ("x", "x", 1),
+    ("\"\"", "\"\"", 1),
+    ("\"a\\\\b\"", "\"a\\\\b\"", 1),
+    ("1 != 2", "1 != 2", 3),
+    ("1 < 2 + 3", "1 < ( 2 + 3 )", 5),
+    ("1 <= 2", "1 <= 2", 3),
+    ("1 > 2", "1 > 2", 3),
+    ("1 >= 2", "1 >= 2", 3),
+    ("6 / 2", "6 / 2", 3),
+    ("6 / 2 % 4 * 5", "( ( 6 / 2 ) % 4 ) * 5", 7),
+    ("(1 + 2) * 3", "( 1 + 2 ) * 3", 7),
+    ("1 - 2 + 3", "( 1 - 2 ) + 3", 5),
+    ("x ++ y ++ z", "( x ++ y ) ++ z", 5),
+    ("x and y or z", "( x and y ) or z", 5),
+    ("x or y or z", "( x or y ) or z", 5),
+    ("not not x", "not ( not x )", 3),
+    ("-x", "- ( x )", 2),
+    ("1 - -2", "1 - - 2", 4),
+    ("// a\n1 // b\n+ // c\n2 // d", "1 + 2", 3),
+    ("1//2\n+3", "1 + 3", 3),
+    ("x @r", "x", 1),
+    ("1 or and 2", "1", 1),
+    ("if", "", 0),
     ("1 + 2 * 3", "1 + ( 2 * 3 )", 5),
     ("10 - 3 - 2", "( 10 - 3 ) - 2", 5),
     ("x or y and z", "x or ( y and z )", 5),
@@ -58,7 +84,17 @@ fn steps(rt: HostRuntime) -> Result<(), Fail> {
     Ok(())
 }
 
-const CONDITIONS: [(&str, &str, usize); 3] = [
+const CONDITIONS: [(&str, &str, usize); 9] = [
+    ("N.k", "N . k", 3),
+    ("not E.k", "not E . k", 4),
+    (
+        "N.name == \"offer\" and E.season == \"sale\"",
+        "( N . name == \"offer\" ) and ( E . season == \"sale\" )",
+        11,
+    ),
+    ("x - 1 < 2", "( x - 1 ) < 2", 5),
+    ("N", "", 0),
+    ("N.if", "", 0),
     ("N.k == E.e", "N . k == E . e", 7),
     ("x ++ y", "x", 1),
     ("E. 1", "", 0),
@@ -100,5 +136,28 @@ fn limits(rt: HostRuntime) -> Result<(), Fail> {
     assert_eq!(&rt; reading(alloc, ExprKind::Step, &brackets)?.1, 1025);
     let too_many = nested(alloc, b"(", b")", 513)?;
     assert_eq!(&rt; reading(alloc, ExprKind::Step, &too_many)?.1, 0);
+    Ok(())
+}
+
+/// A text of so many `x`.
+fn quoted(alloc: Global, count: usize) -> Result<Vec<u8>, Memory> {
+    let mut text = Vec::new(alloc);
+    text.push(b'"')?;
+    for _ in 0..count {
+        text.push(b'x')?;
+    }
+    text.push(b'"')?;
+    Ok(text)
+}
+
+#[test]
+fn limits_of_leaves(rt: HostRuntime) -> Result<(), Fail> {
+    let alloc = rt.alloc();
+    assert_eq!(&rt; reading(alloc, ExprKind::Step, &[b'x'; 64])?.1, 1);
+    assert_eq!(&rt; reading(alloc, ExprKind::Step, &[b'x'; 65])?.1, 0);
+    let longest = quoted(alloc, 1024)?;
+    assert_eq!(&rt; reading(alloc, ExprKind::Step, &longest)?.1, 1);
+    let too_long = quoted(alloc, 1025)?;
+    assert_eq!(&rt; reading(alloc, ExprKind::Step, &too_long)?.1, 0);
     Ok(())
 }

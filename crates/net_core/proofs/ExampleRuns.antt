@@ -109,12 +109,12 @@ self-refused : (p : Place) → refusal (program p (Com unmarked o (role a) (Cons
 self-refused p = refl
 
 -- a rule without priority
-abbrev rule_of : Place → List ℕ → ℕ → Expression → Term → Rule
+abbrev pub rule_of : Place → List ℕ → ℕ → Expression → Term → Rule
 rule_of p name priority condition body =
     record { name = name; priority = pos priority; cond = expr_at p condition; body = choreo_at p (marked body) }
 
 -- a program with rules, the first so many of them opening, an environment and a script
-abbrev program_with : Place → ℕ → Term → List Rule → ℕ → List (List ℕ × Value) → List Timed → Bundle
+abbrev pub program_with : Place → ℕ → Term → List Rule → ℕ → List (List ℕ × Value) → List Timed → Bundle
 program_with p version I rules opening env script = record {
   version = version;
   cast = cast_of I;
@@ -152,7 +152,7 @@ cheap p = rule_of p (codes "cheap") 0
     (Bin oper.And (Bin oper.Eq (Prop (codes "name")) (Const (value.Text (codes "offer")))) (Bin oper.Eq (Env (codes "season")) (Const (value.Text (codes "sale")))))
     (offer_of 80)
 
-abbrev trade_bundle : Place → Bundle
+abbrev pub trade_bundle : Place → Bundle
 trade_bundle p = program_with p 1 trade (cheap p ∷ []) 0 ((codes "season", value.Text (codes "sale")) ∷ []) (record { after = 6; change = change.Add 0 } ∷ [])
 
 abbrev trade_visible : List Entry
@@ -205,7 +205,7 @@ greatest-priority : (p : Place) → sched (program_with p 2 (Scope unmarked (rol
 greatest-priority p = refl
 
 -- side by side, and by a seed
-abbrev side_by_side : Term
+abbrev pub side_by_side : Term
 side_by_side = Par (Com unmarked (codes "p") (role a) (Const (int 1)) (role c) x) (Com unmarked (codes "q") (role b) (Const (int 2)) (role c) (codes "y"))
 
 seeded : (p : Place) → sched (program p side_by_side) (Some 1) 20000 ≡

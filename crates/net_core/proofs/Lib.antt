@@ -1,12 +1,15 @@
 pub mod Accepted
-mod ExampleRuns
+mod ExampleConstructs
+pub mod ExampleRuns
 pub mod Examples
 pub mod HeadlineLemmas
 pub mod Interaction
 pub mod Loads
 pub mod MoveLemmas
 pub mod NetLemmas
+pub mod PromptLemmas
 pub mod RefusalLemmas
 pub mod RunLemmas
 pub mod ScheduleLemmas
 pub mod ScriptLemmas
+pub mod TestBundles

@@ -4,7 +4,7 @@
 ghost use Rattle.connectedness.specs.Laws.{RolesAtEnds, StampedConnected};
 ghost use Rattle.dioc_terms.specs.TermLaws.{MentionsAreRoles, CastsAreRoles, StampedBodies};
 ghost use Rattle.net_core.specs.Headline.{EveryRun};
-ghost use Rattle.net_core.specs.Laws.{AcceptedIsSound, MovesAreSteps, RunsAreSound};
+ghost use Rattle.net_core.specs.Laws.{AcceptedIsSound, MovesAreSteps, RunsAreSound, SchedulesArePrompt};
 
 /// What the crates below prove of terms, together.
 fn known()
@@ -67,3 +67,9 @@ pub fn every_run()
     marked_laws::nothing_left();
     marked_laws::runs_extend();
 }
+
+/// A law: in the run of a schedule without a seed no entry of a role stands where the script's next change is due, whatever the
+/// bundle. It does nothing.
+pub fn schedules_are_prompt()
+    ensures { SchedulesArePrompt }
+{}

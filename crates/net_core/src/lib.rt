@@ -6,8 +6,12 @@ mod moves;
 mod network;
 mod refusals;
 mod runs;
+#[cfg(test)]
+mod tests;
 
-pub use laws::{accepted_is_sound, every_run, moves_are_steps, runs_are_sound};
+pub use laws::{
+    accepted_is_sound, every_run, moves_are_steps, runs_are_sound, schedules_are_prompt,
+};
 pub use moves::{Finish, Move, StepFault};
 pub use network::Net;
 pub use refusals::{Refusal, Where, Which, accept};

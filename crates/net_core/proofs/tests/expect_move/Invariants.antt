@@ -1,0 +1,7 @@
+use Rattle.net_core.proofs.tests.expect_move.Given as goal
+
+abbrev pub ghost-moves : goal.ghost-moves
+ghost-moves g a = a._bundle.now
+
+abbrev pub ghost-is_ended : goal.ghost-is_ended
+ghost-is_ended g a = a._bundle.now

@@ -1,0 +1,4 @@
+use Rattle.net_core.proofs.tests.expect_run.Given as goal
+
+abbrev pub ghost-run : goal.ghost-run
+ghost-run g a = a._bundle.now

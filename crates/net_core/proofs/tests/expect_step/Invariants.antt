@@ -1,0 +1,4 @@
+use Rattle.net_core.proofs.tests.expect_step.Given as goal
+
+abbrev pub ghost-step : goal.ghost-step
+ghost-step g a = a._bundle.now
