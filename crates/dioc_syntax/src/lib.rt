@@ -11,11 +11,11 @@ mod guards;
 mod heads;
 mod laws;
 mod names;
+#[cfg(test)]
+mod reader_tests;
 mod readers;
 mod steps;
 mod writer;
-#[cfg(test)]
-mod reader_tests;
 #[cfg(test)]
 mod writer_tests;
 
