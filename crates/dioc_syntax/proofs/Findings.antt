@@ -1,25 +1,23 @@
 -- What the readers of choreographies find, by what they find of the parts.
-use Rattle.std.proofs.Common.{◌≡◌, ◌≢◌, ℕ, suc, ◌+◌, ◌-◌, ◌<◌, ◌≤◌, List, [], ◌∷◌, drop, length, max, Option, Some, None, refl, sym, ap, ◌∙◌, subst, arith, length-drop}
+use Rattle.std.proofs.Common.{◌≡◌, ◌≢◌, ℕ, suc, ◌+◌, ◌-◌, ◌<◌, ◌≤◌, List, drop, length, max, Some, None, refl, sym, ap, ◌∙◌, subst, arith, length-drop}
 use Rattle.dioc_terms.specs.declared.names.Role.{Role}
 use Rattle.dioc_terms.specs.declared.expressions.Expr.{Expr}
-use Rattle.dioc_terms.specs.declared.choreographies.Choreo.{Choreo}
-use Rattle.dioc_terms.specs.declared.choreographies.Choreo as choreo
 use Rattle.dioc_terms.specs.Expressions.{expression}
-use Rattle.dioc_terms.specs.Terms.{Term, Skip, Seq, Par, If, While, Scope, term, constructs, depth, mark_at}
+use Rattle.dioc_terms.specs.Terms.{Skip, Seq, Par, If, While, Scope, term, constructs, depth, mark_at}
 use Rattle.aioc_tokens.specs.declared.words.Sort.TheVariants as sorts
 use Rattle.aioc_tokens.specs.declared.words.Word.TheVariants as word
 use Rattle.aioc_tokens.specs.declared.words.Mark.TheVariants as mark
-use Rattle.aioc_tokens.specs.Lexemes.{Lexeme, Name, Reserved, Symbol, sort_of}
+use Rattle.aioc_tokens.specs.Lexemes.{Lexeme, sort_of}
 use Rattle.aioc_tokens.specs.Fronts.{Longest, NoFront}
 use Rattle.expr_syntax.specs.Grammar.{ExpressionAt}
 use Rattle.expr_syntax.specs.declared.levels.ExprKind.TheVariants as kind
 use Rattle.dioc_syntax.specs.declared.found.FoundChoreo.{FoundChoreo}
 use Rattle.dioc_syntax.specs.declared.found.ScopeParts.{ScopeParts}
 use Rattle.dioc_syntax.specs.declared.guards.Guard.{Guard}
-use Rattle.dioc_syntax.specs.Choreographies.{Form, Choreography, Sequence, Step, Block, Otherwise, IsShallow}
+use Rattle.dioc_syntax.specs.Choreographies.{Choreography, Sequence, Step, Block, Otherwise, IsShallow}
 use Rattle.dioc_syntax.specs.Readers.{led_by, LeaderAt, IsGuard, NoGuard, no_expression, no_leader, ScopePartsAt, Finds, one_behind}
-use Rattle.dioc_syntax.proofs.Fronts.{nothing_shallow, no_mark, no_depth, no_second, choreography_none, choreography_alone, choreography_beside, sequence_none, sequence_alone, sequence_last, sequence_turn, block_front, block_none, block_room, block_open, block_begins, else_missing, else_open, else_front}
-use Rattle.dioc_syntax.proofs.StepFronts.{skip_front, choice_front, choice_guard, choice_head, choice_body, loop_front, loop_guard, loop_head, loop_body, scope_front, scope_head, scope_body, group_front, group_none, group_room, group_open, other_none}
+use Rattle.dioc_syntax.proofs.Fronts.{no_mark, no_depth, no_second, choreography_alone, choreography_beside, sequence_alone, sequence_last, sequence_turn, block_front, block_none, block_room, block_open, else_missing, else_open, else_front}
+use Rattle.dioc_syntax.proofs.StepFronts.{skip_front, choice_front, choice_guard, choice_head, choice_body, loop_front, loop_guard, loop_head, loop_body, scope_front, scope_head, scope_body, group_front, group_none, group_room, group_open}
 use Rattle.dioc_syntax.proofs.HeadSorts.{symbol_here, reserved_here, within_here, leader_begins}
 
 -- guards

@@ -1,5 +1,5 @@
 -- What the sorts at a place say of the heads of steps.
-use Rattle.std.proofs.Common.{◌≡◌, ℕ, ◌+◌, ◌-◌, ◌<◌, ◌≤◌, List, [], ◌∷◌, drop, length, None, refl, sym, ap, ◌∙◌, subst, arith, length-drop, drop-drop}
+use Rattle.std.proofs.Common.{◌≡◌, ℕ, ◌+◌, ◌<◌, ◌≤◌, List, [], ◌∷◌, drop, length, None, refl, sym, ap, ◌∙◌, subst, arith, length-drop, drop-drop}
 use Rattle.aioc_tokens.specs.declared.words.Sort.{Sort}
 use Rattle.aioc_tokens.specs.declared.words.Sort.TheVariants as sorts
 use Rattle.aioc_tokens.specs.declared.words.Word.{Word}

@@ -1,5 +1,5 @@
 -- The longest lists of names and of properties, one item after another.
-use Rattle.std.proofs.Common.{◌≡◌, ◌≢◌, ℕ, suc, ◌+◌, ◌<◌, ◌≤◌, List, [], ◌∷◌, ◌++◌, drop, length, codes, Option, Some, None, refl, sym, ap, ◌∙◌, subst, arith, length-drop}
+use Rattle.std.proofs.Common.{◌≡◌, ◌≢◌, ℕ, suc, ◌+◌, ◌<◌, ◌≤◌, List, [], ◌∷◌, ◌++◌, drop, length, codes, Some, refl, sym, ap, ◌∙◌, subst, arith, length-drop}
 use Rattle.std.proofs.Math.Nat.{lt_of_not-le}
 use Rattle.dioc_terms.specs.declared.names.Role.{Role}
 use Rattle.dioc_terms.specs.declared.values.Value.{Value}
@@ -8,7 +8,7 @@ use Rattle.aioc_tokens.specs.declared.words.Word.TheVariants as word
 use Rattle.aioc_tokens.specs.declared.words.Mark.TheVariants as mark
 use Rattle.aioc_tokens.specs.Lexemes.{Lexeme, Name, Reserved, Symbol, sort_of, Begins}
 use Rattle.aioc_tokens.specs.Fronts.{Longest, NoFront}
-use Rattle.expr_syntax.specs.Constants.{constant, before}
+use Rattle.expr_syntax.specs.Constants.{constant}
 use Rattle.dioc_syntax.specs.Choreographies.{role, NamesRoles, last_role, more_roles, HasRoles, GivesProperties, last_property, more_properties, HasProperties}
 use Rattle.dioc_syntax.proofs.Shorter.{named_shorter, given_shorter}
 use Rattle.dioc_syntax.specs.Readers.{IsPair, NamesAt, RolesAt, PairsAt, PropertiesAt}

@@ -1,14 +1,14 @@
 -- What the readers of steps with no step inside find.
-use Rattle.std.proofs.Common.{◌≡◌, ◌≢◌, ℕ, ◌+◌, ◌-◌, ◌<◌, ◌≤◌, List, [], ◌∷◌, drop, length, Option, Some, None, refl, sym, ap, ◌∙◌, arith, length-drop}
+use Rattle.std.proofs.Common.{◌≡◌, ◌≢◌, ℕ, ◌+◌, ◌-◌, ◌<◌, ◌≤◌, List, [], ◌∷◌, drop, length, Some, None, refl, sym, ap, ◌∙◌, arith, length-drop}
 use Rattle.dioc_terms.specs.declared.expressions.Expr.{Expr}
 use Rattle.dioc_terms.specs.declared.choreographies.Choreo.{Choreo}
 use Rattle.dioc_terms.specs.declared.choreographies.Choreo as choreo
-use Rattle.dioc_terms.specs.Terms.{Term, term, constructs, depth, mark_at}
+use Rattle.dioc_terms.specs.Terms.{term, constructs, depth, mark_at}
 use Rattle.aioc_tokens.specs.declared.words.Sort.TheVariants as sorts
 use Rattle.aioc_tokens.specs.declared.words.Word.TheVariants as word
 use Rattle.aioc_tokens.specs.declared.words.Mark.TheVariants as mark
 use Rattle.aioc_tokens.specs.Lexemes.{Lexeme, Name, Reserved, Symbol, sort_of, Begins}
-use Rattle.aioc_tokens.specs.Fronts.{Longest, NoFront}
+use Rattle.aioc_tokens.specs.Fronts.{Longest}
 use Rattle.expr_syntax.specs.Grammar.{ExpressionAt}
 use Rattle.expr_syntax.specs.declared.levels.ExprKind.TheVariants as kind
 use Rattle.dioc_syntax.specs.Choreographies.{role, Step, IsShallow}
