@@ -15,3 +15,4 @@ pub mod HeadSorts
 pub mod StepFindings
 pub mod Lists
 pub mod Findings
+pub mod Examples

@@ -25,9 +25,10 @@ use Rattle.aioc_tokens.specs.Lexemes.{Lexeme, Name, Reserved, Symbol, sort_of, H
 use Rattle.aioc_tokens.specs.Fronts.{Longest}
 use Rattle.aioc_tokens.specs.Spelling.{spelled}
 use Rattle.aioc_tokens.proofs.Written.{spelled_lexemes}
+use Rattle.aioc_tokens.proofs.Readings.{one_reading}
 use Rattle.expr_syntax.specs.Constants.{constant, before, greatest, greatest_negated, number_up_to, positive, negative}
 use Rattle.expr_syntax.specs.Levels.{operator}
-use Rattle.expr_syntax.specs.Grammar.{IsExpression}
+use Rattle.expr_syntax.specs.Grammar.{IsExpression, bracket_limit}
 use Rattle.expr_syntax.specs.Writing.{written_value, opened, closed}
 use Rattle.expr_syntax.specs.Writing.{written as written_expression}
 use Rattle.expr_syntax.specs.declared.levels.ExprKind.TheVariants as kind
@@ -40,6 +41,7 @@ use Rattle.dioc_syntax.specs.Writing.{is_joined, is_parallel, written_names, wri
 use Rattle.dioc_syntax.specs.Laws.{closes, FitsVersion}
 use Rattle.dioc_syntax.proofs.Tables.{choreography_goes}
 use Rattle.dioc_syntax.proofs.Compare.{Compared, same, further, nearer, compare}
+use Rattle.dioc_syntax.proofs.Fronts.{one_choreography}
 
 both_true : (a b : Bool) → a && b ≡ true → (a ≡ true) × (b ≡ true)
 both_true true b is = (refl, is)
@@ -58,7 +60,7 @@ constructs_marked n (While index leader guard inner) = ap suc (constructs_marked
 constructs_marked n (Scope index leader inner extra props level) = ap suc (constructs_marked (suc n) inner)
 
 -- what may stand behind an expression of a choreography
-abbrev quiet : Sort → Bool
+abbrev pub quiet : Sort → Bool
 quiet sorts.End = true
 quiet (sorts.Symbol mark.RightBrace) = true
 quiet (sorts.Symbol mark.RightParen) = true
@@ -123,7 +125,7 @@ no_operator Unary sort is = none sort
     none (sorts.Symbol sign) = refl
     none _ = refl
 
-expression_stands : (e : Expression) (room : ℕ) (others : List Lexeme) → is_formed_step e ≡ true → 63 ≤ room → quiet (sort_of others) ≡ true → IsExpression kind.Step room (written_expression e others) e others
+pub expression_stands : (e : Expression) (room : ℕ) (others : List Lexeme) → is_formed_step e ≡ true → 63 ≤ room → quiet (sort_of others) ≡ true → IsExpression kind.Step room (written_expression e others) e others
 expression_stands e room others formed roomy calm = (expression_reads kind.Step e room others formed roomy (λ level. no_operator level (sort_of others) calm)).reads
 
 -- the optional parts of a scope
@@ -423,3 +425,10 @@ written_spellings (Scope index leader inner extra props level) others formed res
 
 pub written_lexemes : (whole : Term) → has_formed_parts whole ≡ true → HasLexemes (spelled (written whole [])) (written whole [])
 written_lexemes whole formed = spelled_lexemes (written whole []) (written_spellings whole [] formed tt)
+
+pub written_text : (version : ℕ) (whole : Term) (found : List Lexeme) → IsFormedTerm whole → FitsVersion version whole → HasLexemes (spelled (written whole [])) found
+    → Longest (IsChoreography version bracket_limit found) whole [] × ((other : Term) (to : List Lexeme) → Longest (IsChoreography version bracket_limit found) other to → other ≡ whole)
+written_text version whole found formed fits has =
+    let same = one_reading (spelled (written whole [])) (written whole []) found (written_lexemes whole formed.parts) has in
+    let front = subst (λ list. Longest (IsChoreography version bracket_limit list) whole []) same (written_reads version whole bracket_limit [] formed fits (omega arith) refl) in
+    (front, λ other to read. sym (one_choreography version bracket_limit found [] to whole other front read).0)

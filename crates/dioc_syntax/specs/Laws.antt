@@ -8,6 +8,7 @@ use Rattle.aioc_tokens.specs.declared.words.Sort.TheVariants as sorts
 use Rattle.aioc_tokens.specs.Lexemes.{Lexeme, sort_of, HasLexemes}
 use Rattle.aioc_tokens.specs.Spelling.{spelled}
 use Rattle.aioc_tokens.specs.Fronts.{Longest}
+use Rattle.expr_syntax.specs.Grammar.{bracket_limit}
 use Rattle.dioc_syntax.specs.Choreographies.{IsChoreography}
 use Rattle.dioc_syntax.specs.Writing.{written}
 
@@ -44,3 +45,8 @@ WrittenIsSpelled = (whole : Term) → has_formed_parts whole ≡ true → HasLex
 abbrev pub WrittenIsRead : Type 0
 WrittenIsRead = (version : ℕ) (whole : Term) (room : ℕ) (others : List Lexeme) → IsFormedTerm whole → FitsVersion version whole → 319 ≤ room → closes (sort_of others) ≡ true →
     Longest (IsChoreography version room (written whole others)) whole others
+
+-- so the text of a choreography that is written is read whole, as that choreography and as no other
+abbrev pub WrittenTextIsRead : Type 0
+WrittenTextIsRead = (version : ℕ) (whole : Term) (found : List Lexeme) → IsFormedTerm whole → FitsVersion version whole → HasLexemes (spelled (written whole [])) found →
+    Longest (IsChoreography version bracket_limit found) whole [] × ((other : Term) (to : List Lexeme) → Longest (IsChoreography version bracket_limit found) other to → other ≡ whole)

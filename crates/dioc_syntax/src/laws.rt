@@ -1,7 +1,7 @@
 //! What holds of every text.
 
 ghost use Rattle.dioc_syntax.specs.Grammar.{OneBundle, SpelledAreFormed};
-ghost use Rattle.dioc_syntax.specs.Laws.{OneChoreography, ReadIsMarked, ReadIsFormed, WrittenIsSpelled, WrittenIsRead};
+ghost use Rattle.dioc_syntax.specs.Laws.{OneChoreography, ReadIsMarked, ReadIsFormed, WrittenIsSpelled, WrittenIsRead, WrittenTextIsRead};
 
 /// A law: a text spells at most one bundle. It does nothing.
 pub fn one_bundle()
@@ -38,4 +38,10 @@ pub fn written_is_spelled()
 /// `one_choreography` it is read as no other. It does nothing.
 pub fn written_is_read()
     ensures { WrittenIsRead }
+{}
+
+/// A law: the tokens of the text that `write_choreo` writes of a choreography within the limits are read whole, as that
+/// choreography and as no other. It does nothing.
+pub fn written_text_is_read()
+    ensures { WrittenTextIsRead }
 {}
