@@ -10,52 +10,56 @@ const TEXT: Kind = Kind::Text;
 
 const SYMBOL: Kind = Kind::Symbol;
 
+/// A text, and the kinds and places of its tokens.
+type Cut = (&'static [u8], &'static [(Kind, usize, usize)]);
+
+const CUTS: [Cut; 18] = [
+    (b"", &[]),
+    (b" \t\r\n", &[]),
+    (b"a1_b 12ab", &[(NAME, 0, 4), (NUMBER, 5, 7), (NAME, 7, 9)]),
+    (b"a->b", &[(NAME, 0, 1), (SYMBOL, 1, 3), (NAME, 3, 4)]),
+    (
+        b"a-b- >",
+        &[
+            (NAME, 0, 1),
+            (SYMBOL, 1, 2),
+            (NAME, 2, 3),
+            (SYMBOL, 3, 4),
+            (SYMBOL, 5, 6),
+        ],
+    ),
+    (b"+++", &[(SYMBOL, 0, 2), (SYMBOL, 2, 3)]),
+    (b"===", &[(SYMBOL, 0, 2), (SYMBOL, 2, 3)]),
+    (b">==", &[(SYMBOL, 0, 2), (SYMBOL, 2, 3)]),
+    (b"!=!a", &[(SYMBOL, 0, 2), (SYMBOL, 2, 3), (NAME, 3, 4)]),
+    (b"<=>", &[(SYMBOL, 0, 2), (SYMBOL, 2, 3)]),
+    (b"1 ///2", &[(NUMBER, 0, 1)]),
+    (b"/ /2", &[(SYMBOL, 0, 1), (SYMBOL, 2, 3), (NUMBER, 3, 4)]),
+    (b"a//b\n//\xff\nc", &[(NAME, 0, 1), (NAME, 9, 10)]),
+    (b"//", &[]),
+    (b"\"\"", &[(TEXT, 0, 2)]),
+    (b"\"a\\\"b\\\\\"c", &[(TEXT, 0, 8), (NAME, 8, 9)]),
+    (b"\"//\"", &[(TEXT, 0, 4)]),
+    (
+        b"o#0.3[-5]",
+        &[
+            (NAME, 0, 1),
+            (SYMBOL, 1, 2),
+            (NUMBER, 2, 3),
+            (SYMBOL, 3, 4),
+            (NUMBER, 4, 5),
+            (SYMBOL, 5, 6),
+            (SYMBOL, 6, 7),
+            (NUMBER, 7, 8),
+            (SYMBOL, 8, 9),
+        ],
+    ),
+];
+
 // Where the tokens of a text stand.
 #[test]
 fn cuts_texts(rt: HostRuntime) -> Result<(), Fail> {
-    let rows: [(&[u8], &[(Kind, usize, usize)]); 18] = [
-        (b"", &[]),
-        (b" \t\r\n", &[]),
-        (b"a1_b 12ab", &[(NAME, 0, 4), (NUMBER, 5, 7), (NAME, 7, 9)]),
-        (b"a->b", &[(NAME, 0, 1), (SYMBOL, 1, 3), (NAME, 3, 4)]),
-        (
-            b"a-b- >",
-            &[
-                (NAME, 0, 1),
-                (SYMBOL, 1, 2),
-                (NAME, 2, 3),
-                (SYMBOL, 3, 4),
-                (SYMBOL, 5, 6),
-            ],
-        ),
-        (b"+++", &[(SYMBOL, 0, 2), (SYMBOL, 2, 3)]),
-        (b"===", &[(SYMBOL, 0, 2), (SYMBOL, 2, 3)]),
-        (b">==", &[(SYMBOL, 0, 2), (SYMBOL, 2, 3)]),
-        (b"!=!a", &[(SYMBOL, 0, 2), (SYMBOL, 2, 3), (NAME, 3, 4)]),
-        (b"<=>", &[(SYMBOL, 0, 2), (SYMBOL, 2, 3)]),
-        (b"1 ///2", &[(NUMBER, 0, 1)]),
-        (b"/ /2", &[(SYMBOL, 0, 1), (SYMBOL, 2, 3), (NUMBER, 3, 4)]),
-        (b"a//b\n//\xff\nc", &[(NAME, 0, 1), (NAME, 9, 10)]),
-        (b"//", &[]),
-        (b"\"\"", &[(TEXT, 0, 2)]),
-        (b"\"a\\\"b\\\\\"c", &[(TEXT, 0, 8), (NAME, 8, 9)]),
-        (b"\"//\"", &[(TEXT, 0, 4)]),
-        (
-            b"o#0.3[-5]",
-            &[
-                (NAME, 0, 1),
-                (SYMBOL, 1, 2),
-                (NUMBER, 2, 3),
-                (SYMBOL, 3, 4),
-                (NUMBER, 4, 5),
-                (SYMBOL, 5, 6),
-                (SYMBOL, 6, 7),
-                (NUMBER, 7, 8),
-                (SYMBOL, 8, 9),
-            ],
-        ),
-    ];
-    for (text, want) in rows {
+    for (text, want) in CUTS {
         let found = tokens(rt.alloc(), text)?;
         assert_eq!(rt; found.len(), want.len(), "in {text:?}");
         for (token, (kind, start, end)) in found.iter().zip(want) {
@@ -99,73 +103,80 @@ fn names_the_first_bad_byte(rt: HostRuntime) {
     }
 }
 
-// Each reserved word and each symbol, in the order of the text.
+const WORDS: [Word; 19] = [
+    Word::Aioc,
+    Word::Skip,
+    Word::If,
+    Word::Else,
+    Word::While,
+    Word::Scope,
+    Word::Prop,
+    Word::Rule,
+    Word::On,
+    Word::Do,
+    Word::True,
+    Word::False,
+    Word::Nil,
+    Word::And,
+    Word::Or,
+    Word::Not,
+    Word::Input,
+    Word::N,
+    Word::E,
+];
+
+const MARKS: [Mark; 28] = [
+    Mark::LeftBrace,
+    Mark::RightBrace,
+    Mark::LeftParen,
+    Mark::RightParen,
+    Mark::LeftBracket,
+    Mark::RightBracket,
+    Mark::Semicolon,
+    Mark::Comma,
+    Mark::Colon,
+    Mark::Bar,
+    Mark::At,
+    Mark::Equal,
+    Mark::EqualEqual,
+    Mark::NotEqual,
+    Mark::Less,
+    Mark::LessEqual,
+    Mark::Greater,
+    Mark::GreaterEqual,
+    Mark::Plus,
+    Mark::PlusPlus,
+    Mark::Minus,
+    Mark::Arrow,
+    Mark::Star,
+    Mark::Slash,
+    Mark::Percent,
+    Mark::Dot,
+    Mark::Hash,
+    Mark::Bang,
+];
+
+// Each reserved word, in the order of the text.
 #[test]
-fn shows_words_and_symbols(rt: HostRuntime) -> Result<(), Fail> {
+fn shows_words(rt: HostRuntime) -> Result<(), Fail> {
     let text =
         b"aioc skip if else while scope prop rule on do true false nil and or not input N E Aioc skips";
-    let words = [
-        Word::Aioc,
-        Word::Skip,
-        Word::If,
-        Word::Else,
-        Word::While,
-        Word::Scope,
-        Word::Prop,
-        Word::Rule,
-        Word::On,
-        Word::Do,
-        Word::True,
-        Word::False,
-        Word::Nil,
-        Word::And,
-        Word::Or,
-        Word::Not,
-        Word::Input,
-        Word::N,
-        Word::E,
-    ];
     let found = tokens(rt.alloc(), text)?;
     let lexed = Lexed::new(text, &found);
-    for (place, word) in words.iter().enumerate() {
+    for (place, word) in WORDS.iter().enumerate() {
         assert_eq!(rt; lexed.sort(place), Sort::Reserved(*word), "at {place}");
     }
     assert!(rt; lexed.begins(19, &[Sort::Name, Sort::Name, Sort::End]));
+    Ok(())
+}
 
+// Each symbol, in the order of the text.
+#[test]
+fn shows_symbols(rt: HostRuntime) -> Result<(), Fail> {
     let text = b"{ } ( ) [ ] ; , : | @ = == != < <= > >= + ++ - -> * / % . # !";
-    let marks = [
-        Mark::LeftBrace,
-        Mark::RightBrace,
-        Mark::LeftParen,
-        Mark::RightParen,
-        Mark::LeftBracket,
-        Mark::RightBracket,
-        Mark::Semicolon,
-        Mark::Comma,
-        Mark::Colon,
-        Mark::Bar,
-        Mark::At,
-        Mark::Equal,
-        Mark::EqualEqual,
-        Mark::NotEqual,
-        Mark::Less,
-        Mark::LessEqual,
-        Mark::Greater,
-        Mark::GreaterEqual,
-        Mark::Plus,
-        Mark::PlusPlus,
-        Mark::Minus,
-        Mark::Arrow,
-        Mark::Star,
-        Mark::Slash,
-        Mark::Percent,
-        Mark::Dot,
-        Mark::Hash,
-        Mark::Bang,
-    ];
     let found = tokens(rt.alloc(), text)?;
     let lexed = Lexed::new(text, &found);
-    for (place, mark) in marks.iter().enumerate() {
+    for (place, mark) in MARKS.iter().enumerate() {
         assert_eq!(rt; lexed.sort(place), Sort::Symbol(*mark), "at {place}");
     }
     assert_eq!(rt; lexed.len(), 28);

@@ -16,11 +16,8 @@ use Rattle.aioc_top.specs.declared.status.Status.TheVariants as status
 use Rattle.aioc_top.specs.Outcomes.{Outcome, Seen}
 use Rattle.aioc_top.specs.Serve.{Answers, Cause, ComesExactly, Complete, GivesUp, HeadlineHolds, HeadlineOf, ReadsAll, Says, Silent, StepText, TookText, history_of, last_line_of, printed_text}
 use Rattle.aioc_top.proofs.Causes.{one_cause, both_judged, too_many_bytes}
+use Rattle.aioc_top.proofs.FaultLemmas.{mapped}
 use Rattle.aioc_top.proofs.SameBundles.{ended_same, history_same, network_same, refusal_same}
-
-mapped : {A : Type 0} {P Q : A → Type 0} → ((x : A) → P x → Q x) → (o : Option A) → IfSome o P → IfSome o Q
-mapped f None h = h
-mapped f (Some x) h = f x h
 
 filled : {A : Type 0} {P : A → Type 0} → ((x : A) → P x) → (o : Option A) → IfSome o P
 filled f None = tt

@@ -19,7 +19,7 @@ syntax_is bytes byte fault.WriteFault none h = absurd h
 syntax_is bytes byte fault.TooLong none h = absurd h
 syntax_is bytes byte (fault.Refused line) none h = absurd h
 
-mapped : {A : Type 0} {P Q : A → Type 0} → ((x : A) → P x → Q x) → (o : Option A) → IfSome o P → IfSome o Q
+pub mapped : {A : Type 0} {P Q : A → Type 0} → ((x : A) → P x → Q x) → (o : Option A) → IfSome o P → IfSome o Q
 mapped f None h = h
 mapped f (Some x) h = f x h
 

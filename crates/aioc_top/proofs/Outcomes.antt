@@ -15,10 +15,7 @@ use Rattle.aioc_top.specs.Printing.{PrintsAnswer}
 use Rattle.aioc_top.specs.Reading.{StopsReading}
 use Rattle.aioc_top.specs.Outcomes.{Outcome, SaysLine, Seen, WroteNothing}
 use Rattle.aioc_top.specs.Serve.{Answers, printed_text}
-
-mapped : {A : Type 0} {P Q : A → Type 0} → ((x : A) → P x → Q x) → (o : Option A) → IfSome o P → IfSome o Q
-mapped f None h = h
-mapped f (Some x) h = f x h
+use Rattle.aioc_top.proofs.FaultLemmas.{mapped}
 
 abbrev answered : (bytes : List ℕ) (answer : Answer) → IsAnswer bytes answer → Answers bytes answer.finish
 answered bytes answer h = record { bundle = h.bundle; spells = h.spells; accepted = h.accepted; finishes = h.prints.finishes }

@@ -17,7 +17,8 @@ use dioc_syntax::read_bundle;
 use dioc_terms::{Bundle, Entry, Last, Memory, SyntaxFault, Tag};
 use net_core::{Finish, Net, Refusal, accept, run_first};
 use std::alloc::Global;
-use trace_text::{write_bytes, write_last, write_line};
+use text_pieces::write_bytes;
+use trace_text::{write_last, write_line};
 
 // The most entries of a run.
 const ENTRY_LIMIT: u64 = 20_000;

@@ -8,7 +8,8 @@ use crate::status::Status;
 use dioc_terms::{Memory, Role};
 use net_core::{Refusal, Where, Which};
 use std::alloc::Global;
-use trace_text::{write_bytes, write_index, write_number};
+use text_pieces::{write_bytes, write_number};
+use trace_text::write_index;
 
 /// Why a command did not do its work. Where its line has to be made it is here.
 #[derive(Debug, Drop)]

@@ -1,33 +1,21 @@
 -- What is read of a text is formed: its names are names of the grammar, its expressions those of a step, its values in their bounds.
-use Rattle.std.proofs.Common.{◌≡◌, ℕ, zero, suc, ◌⊎◌, inl, inr, Bool, true, ◌&&◌, List, [], ◌∷◌, drop, Option, Some, None, refl, ap, sym, ◌∙◌, subst}
-use Rattle.std.specs.Option.{option_map}
+use Rattle.std.proofs.Common.{◌≡◌, ℕ, ◌⊎◌, inl, inr, Bool, true, ◌&&◌, List, ◌∷◌, drop, refl, subst}
 use Rattle.std.specs.List.{list_all, AllByRecursion}
-use Rattle.std.proofs.lemmas.List.Elements.{recursion_from_All}
-use borrow.Author.Tests.{le-leb}
 use Rattle.dioc_terms.specs.declared.names.Role.{Role}
 use Rattle.dioc_terms.specs.declared.values.Value.{Value}
-use Rattle.dioc_terms.specs.Expressions.{Expression, expression_depth}
+use Rattle.dioc_terms.specs.Expressions.{Expression}
 use Rattle.dioc_terms.specs.Terms.{Term}
-use Rattle.dioc_terms.specs.Bundles.{is_step_expression, is_formed_step, is_formed_role, is_formed_binding, has_formed_parts, IsFormedTerm}
-use Rattle.aioc_tokens.specs.Lexemes.{Lexeme, Name, Long, Number, Text, Reserved, Symbol, HasLexemes}
-use Rattle.aioc_tokens.proofs.Readings.{read_spelling}
-use Rattle.expr_syntax.specs.Constants.{constant}
-use Rattle.expr_syntax.specs.Grammar.{Reads, Follows, chain, denied, not_denied, alone, compared, single, negated, bracketed, ended, more, leaf, and_left, const_before, IsExpression}
+use Rattle.dioc_terms.specs.Bundles.{is_formed_step, is_formed_role, is_formed_binding, has_formed_parts, IsFormedTerm}
+use Rattle.aioc_tokens.specs.Lexemes.{Lexeme, Name, HasLexemes}
+use Rattle.expr_syntax.specs.Grammar.{IsExpression}
 use Rattle.expr_syntax.specs.declared.levels.ExprKind.TheVariants as kind
-use Rattle.expr_syntax.specs.declared.levels.Level.{Level}
-use Rattle.expr_syntax.proofs.LeafFacts.{same_pair}
+use Rattle.expr_syntax.proofs.ReadFormed.{CanBeWritten, identifier_valid, constant_valid, expression_formed, all_valid, valid_from}
 use Rattle.dioc_syntax.specs.Choreographies.{NamesRoles, last_role, more_roles, HasRoles, no_roles, roles, GivesProperties, last_property, more_properties, HasProperties, no_properties, empty_properties, properties, Form, Stands, one_part, beside, one_step, last_step, in_turn, nothing, interaction, input, assignment, choice, loop, scope, group, block, no_else, otherwise, IsChoreography}
 use Rattle.dioc_syntax.specs.Laws.{FitsVersion}
-use Rattle.dioc_syntax.proofs.Formed.{CanBeWritten, identifier_valid, constant_valid}
 use Rattle.dioc_syntax.proofs.Marks.{stands_marked}
 
 abbrev CanAllBeWritten : List Lexeme → Type 0
 CanAllBeWritten lexemes = AllByRecursion CanBeWritten lexemes
-
-all_drop : (n : ℕ) (lexemes : List Lexeme) → CanAllBeWritten lexemes → CanAllBeWritten (drop n lexemes)
-all_drop zero lexemes all = all
-all_drop (suc n) [] all = all
-all_drop (suc n) (first ∷ others) all = all_drop n others all.1
 
 -- a list whose first lexemes are known
 all_of : {from others : List Lexeme} → from ≡ others → CanAllBeWritten from → CanAllBeWritten others
@@ -36,50 +24,8 @@ all_of is all = subst CanAllBeWritten is all
 name_of : (name : List ℕ) → CanBeWritten (Name name) → is_formed_role (record { 0 = name }) ≡ true
 name_of name written = identifier_valid name (written (λ long. cc))
 
--- a leaf
-const_valid : (found : Option (Value × List Lexeme)) (from to : List Lexeme) (whole : Expression) → CanAllBeWritten from → constant from ≡ found → option_map const_before found ≡ Some (and_left to whole)
-    → (is_step_expression whole ≡ true) × CanAllBeWritten to
-const_valid (Some read) from to whole all is same =
-    let valid = constant_valid from read.0 read.1 all is in
-    let both = same_pair same in
-    (ap is_step_expression (sym both.0) ∙ valid.0, subst CanAllBeWritten both.1 valid.1)
-const_valid None from to whole all is same = absurd cc
-
-leaf_valid : (from to : List Lexeme) (whole : Expression) → CanAllBeWritten from → leaf kind.Step from ≡ Some (and_left to whole) → (is_step_expression whole ≡ true) × CanAllBeWritten to
-leaf_valid (Name name ∷ others) to whole all is =
-    let both = same_pair is in
-    (ap is_step_expression (sym both.0) ∙ name_of name all.0, subst CanAllBeWritten both.1 all.1)
-leaf_valid [] to whole all is = absurd cc
-leaf_valid (Long ∷ others) to whole all is = absurd cc
-leaf_valid (Number digits ∷ others) to whole all is = const_valid (constant (Number digits ∷ others)) (Number digits ∷ others) to whole all refl is
-leaf_valid (Text bytes ∷ others) to whole all is = const_valid (constant (Text bytes ∷ others)) (Text bytes ∷ others) to whole all refl is
-leaf_valid (Reserved word ∷ others) to whole all is = const_valid (constant (Reserved word ∷ others)) (Reserved word ∷ others) to whole all refl is
-leaf_valid (Symbol sign ∷ others) to whole all is = const_valid (constant (Symbol sign ∷ others)) (Symbol sign ∷ others) to whole all refl is
-
-mutual
-  reads_valid : {level : Level} {room : ℕ} {from to : List Lexeme} {whole : Expression} → Reads kind.Step level room from whole to → CanAllBeWritten from → (is_step_expression whole ≡ true) × CanAllBeWritten to
-  reads_valid (chain chains r f) all = let one = reads_valid r all in follows_valid f one.0 one.1
-  reads_valid (denied begins r) all = reads_valid r (all_of begins all).1
-  reads_valid (not_denied r) all = reads_valid r all
-  reads_valid (alone r) all = reads_valid r all
-  reads_valid (compared {middle = middle} r o s) all =
-      let one = reads_valid r all in
-      let two = reads_valid s (all_drop 1 middle one.1) in
-      ((λ j. one.0 j && two.0 j), two.1)
-  reads_valid {from = from} {to = to} {whole = whole} (single found) all = leaf_valid from to whole all found
-  reads_valid (negated begins minus r) all = reads_valid r (all_of begins all).1
-  reads_valid (bracketed rooms begins r ends) all = let one = reads_valid r (all_of begins all).1 in (one.0, (all_of ends one.1).1)
-
-  follows_valid : {level : Level} {room : ℕ} {from to : List Lexeme} {first whole : Expression} → Follows kind.Step level room first from whole to → is_step_expression first ≡ true → CanAllBeWritten from
-      → (is_step_expression whole ≡ true) × CanAllBeWritten to
-  follows_valid ended is all = (is, all)
-  follows_valid {from = from} (more o r f) is all = let one = reads_valid r (all_drop 1 from all) in follows_valid f (λ j. is j && one.0 j) one.1
-
 expression_valid : {room : ℕ} {from to : List Lexeme} {whole : Expression} → IsExpression kind.Step room from whole to → CanAllBeWritten from → (is_formed_step whole ≡ true) × CanAllBeWritten to
-expression_valid {whole = whole} is all =
-    let one = reads_valid is.reads all in
-    let shallow = le-leb (expression_depth whole) 64 is.shallow in
-    ((λ j. one.0 j && shallow j), one.1)
+expression_valid is all = expression_formed all is
 
 -- the optional parts of a scope
 named_valid : {from to : List Lexeme} {names : List Role} → NamesRoles from names to → CanAllBeWritten from → (list_all is_formed_role names ≡ true) × CanAllBeWritten to
@@ -198,5 +144,5 @@ stands_fits (otherwise begins r) = stands_fits r
 pub read_formed : (bytes : List ℕ) (found : List Lexeme) (at version room : ℕ) (whole : Term) (to : List Lexeme) → HasLexemes bytes found → IsChoreography version room (drop at found) whole to
     → IsFormedTerm whole × FitsVersion version whole
 read_formed bytes found at version room whole to has is =
-    let all = all_drop at found (recursion_from_All CanBeWritten found (read_spelling bytes found has)) in
+    let all = valid_from at found (all_valid bytes found has) in
     (record { marks = stands_marked is.stands; parts = (stands_valid is.stands all).0; depth = is.shallow }, stands_fits is.stands)

@@ -126,13 +126,13 @@ sent_spelled value receiver variable others =
 leader_on : (leader : Role) (rest : List ℕ) → leader_text leader ++ rest ≡ codes " @ " ++ (leader.0 ++ (codes " { " ++ rest))
 leader_on leader rest = simp append_assoc
 
-regrouped_choice : (a b c d e f g rest : List ℕ) → a ++ (b ++ (c ++ (d ++ (e ++ (f ++ (g ++ rest)))))) ≡ (a ++ b ++ c ++ d ++ e ++ f ++ g) ++ rest
+regrouped_choice : (a b c d e f g rest : List ℕ) → a ++ (b ++ (c ++ (d ++ (e ++ (f ++ (g ++ rest)))))) ≡ ((a ++ b ++ c) ++ d ++ e ++ f ++ g) ++ rest
 regrouped_choice a b c d e f g rest = simp append_assoc
 
-regrouped_loop : (a b c d e rest : List ℕ) → a ++ (b ++ (c ++ (d ++ (e ++ rest)))) ≡ (a ++ b ++ c ++ d ++ e) ++ rest
+regrouped_loop : (a b c d e rest : List ℕ) → a ++ (b ++ (c ++ (d ++ (e ++ rest)))) ≡ ((a ++ b ++ c) ++ d ++ e) ++ rest
 regrouped_loop a b c d e rest = simp append_assoc
 
-regrouped_scope : (a b c d e f rest : List ℕ) → a ++ (b ++ (c ++ (d ++ (e ++ (f ++ rest))))) ≡ (a ++ b ++ c ++ d ++ e ++ f) ++ rest
+regrouped_scope : (a b c d e f rest : List ℕ) → a ++ (b ++ (c ++ (d ++ (e ++ (f ++ rest))))) ≡ ((a ++ b) ++ c ++ d ++ e ++ f) ++ rest
 regrouped_scope a b c d e f rest = simp append_assoc
 
 pub written_spelled : (whole : Term) (others : List Lexeme) → spelled (written whole others) ≡ choreography_text whole ++ behind others

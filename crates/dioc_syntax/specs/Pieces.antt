@@ -1,5 +1,5 @@
 -- The text of a choreography, byte by byte.
-use Rattle.std.specs.Prelude.{ℕ, Bool, List, [], ◌∷◌, ◌++◌, codes}
+use Rattle.std.specs.Prelude.{ℕ, Bool, false, List, [], ◌∷◌, ◌++◌, codes}
 use Rattle.std.specs.List.{flat_map}
 use Rattle.dioc_terms.specs.declared.names.Role.{Role}
 use Rattle.dioc_terms.specs.declared.values.Value.{Value}
@@ -50,18 +50,26 @@ leader_text leader = codes " @ " ++ leader.0 ++ codes " { "
 abbrev pub between_text : Bool → List ℕ → Bool → List ℕ
 between_text left sign right = closing_text left ++ sign ++ opening_text right
 
-abbrev pub choreography_text : Term → List ℕ
-choreography_text Skip = codes "skip"
-choreography_text (Com index operation sender value receiver variable) =
+-- what stands before the parts of a choreography; of a step, its text
+abbrev pub head_text : Term → List ℕ
+head_text Skip = codes "skip"
+head_text (Com index operation sender value receiver variable) =
     operation ++ codes " : " ++ sender.0 ++ codes " ( " ++ expression_text value ++ receiver_text receiver variable
-choreography_text (Set index variable owner value) = target_text variable owner ++ expression_text value
-choreography_text (Input index variable owner) = target_text variable owner ++ codes "input ( )"
+head_text (Set index variable owner value) = target_text variable owner ++ expression_text value
+head_text (Input index variable owner) = target_text variable owner ++ codes "input ( )"
+head_text (Seq first second) = opening_text (is_joined first)
+head_text (Par first second) = opening_text (is_parallel first)
+head_text (If index leader guard first second) = codes "if " ++ expression_text guard ++ leader_text leader
+head_text (While index leader guard inner) = codes "while " ++ expression_text guard ++ leader_text leader
+head_text (Scope index leader inner extra props level) = codes "scope" ++ leader_text leader
+
+abbrev pub choreography_text : Term → List ℕ
 choreography_text (Seq first second) =
-    opening_text (is_joined first) ++ choreography_text first ++ between_text (is_joined first) (codes " ; ") (is_parallel second) ++ choreography_text second ++ closing_text (is_parallel second)
-choreography_text (Par first second) =
-    opening_text (is_parallel first) ++ choreography_text first ++ closing_text (is_parallel first) ++ codes " | " ++ choreography_text second
+    head_text (Seq first second) ++ choreography_text first ++ between_text (is_joined first) (codes " ; ") (is_parallel second) ++ choreography_text second ++ closing_text (is_parallel second)
+choreography_text (Par first second) = head_text (Par first second) ++ choreography_text first ++ between_text (is_parallel first) (codes " | ") false ++ choreography_text second
 choreography_text (If index leader guard first second) =
-    codes "if " ++ expression_text guard ++ leader_text leader ++ choreography_text first ++ codes " } else { " ++ choreography_text second ++ codes " }"
-choreography_text (While index leader guard inner) = codes "while " ++ expression_text guard ++ leader_text leader ++ choreography_text inner ++ codes " }"
+    head_text (If index leader guard first second) ++ choreography_text first ++ codes " } else { " ++ choreography_text second ++ codes " }"
+choreography_text (While index leader guard inner) = head_text (While index leader guard inner) ++ choreography_text inner ++ codes " }"
 choreography_text (Scope index leader inner extra props level) =
-    codes "scope" ++ leader_text leader ++ choreography_text inner ++ codes " }" ++ roles_text extra ++ properties_text props
+    head_text (Scope index leader inner extra props level) ++ choreography_text inner ++ codes " }" ++ roles_text extra ++ properties_text props
+choreography_text step = head_text step

@@ -4,14 +4,15 @@ ghost use Rattle.std.specs.Prelude.{◌≡◌, ◌++◌, [], codes, OnOk, OnErr}
 ghost use Rattle.std.specs.List.{flat_map};
 ghost use Rattle.dioc_terms.specs.Expressions.{expression};
 ghost use Rattle.dioc_terms.specs.Terms.{term};
-ghost use Rattle.aioc_tokens.specs.Tokens.{escaped, quoted};
 ghost use Rattle.aioc_tokens.specs.Spelling.{spelled};
-ghost use Rattle.expr_syntax.specs.Pieces.{KeepsFront, opening_text, closing_text};
+ghost use Rattle.text_pieces.specs.Pieces.{KeepsFront};
+ghost use Rattle.expr_syntax.specs.Pieces.{opening_text, closing_text};
 ghost use Rattle.dioc_syntax.specs.Writing.{is_joined, is_parallel, written};
-ghost use Rattle.dioc_syntax.specs.Pieces.{expression_text, value_text, next_role_text, roles_text, property_text, next_property_text, properties_text, receiver_text, target_text, leader_text, between_text, choreography_text};
+ghost use Rattle.dioc_syntax.specs.Pieces.{expression_text, next_role_text, roles_text, property_text, next_property_text, properties_text, receiver_text, target_text, leader_text, between_text, head_text, choreography_text};
 
 use dioc_terms::{Choreo, Expr, Memory, Name, Role, Value};
-use expr_syntax::write_expr;
+use expr_syntax::{write_expr, write_value};
+use text_pieces::write_bytes;
 
 /// Appends the text of a choreography: its tokens with one space between two. The left part of a sequence is in brackets where
 /// it is a sequence or a parallel, its right part where it is a parallel, and so is the left part of a parallel. An `if` always
@@ -32,6 +33,50 @@ pub fn write_choreo(choreo: &Choreo, out: &mut Vec<u8>) -> Result<(), Memory>
 
 fn write_part(choreo: &Choreo, out: &mut Vec<u8>) -> Result<(), Memory>
     ensures ok { OnOk result (out.new.items ≡ out.old.items ++ choreography_text (term choreo.now)) }
+    ensures memory { OnErr result (KeepsFront out.old.items out.new.items) }
+{
+    write_head(choreo, out)?;
+    match choreo {
+        Choreo::Skip | Choreo::Com { .. } | Choreo::Set { .. } | Choreo::Input { .. } => Ok(()),
+        Choreo::Seq(first, second) => {
+            let right = is_parallel(second);
+            write_part(first, out)?;
+            write_between(is_joined(first), b" ; ", right, out)?;
+            write_part(second, out)?;
+            write_closing(right, out)
+        }
+        Choreo::Par(first, second) => {
+            write_part(first, out)?;
+            write_between(is_parallel(first), b" | ", false, out)?;
+            write_part(second, out)
+        }
+        Choreo::If { yes, no, .. } => {
+            write_part(yes, out)?;
+            write_bytes(b" } else { ", out)?;
+            write_part(no, out)?;
+            write_bytes(b" }", out)
+        }
+        Choreo::While { body, .. } => {
+            write_part(body, out)?;
+            write_bytes(b" }", out)
+        }
+        Choreo::Scope {
+            body,
+            extra,
+            props,
+            ..
+        } => {
+            write_part(body, out)?;
+            write_bytes(b" }", out)?;
+            write_roles(extra.as_slice(), out)?;
+            write_properties(props.as_slice(), out)
+        }
+    }
+}
+
+/// What stands before the parts of a choreography; of a step, its text.
+fn write_head(choreo: &Choreo, out: &mut Vec<u8>) -> Result<(), Memory>
+    ensures ok { OnOk result (out.new.items ≡ out.old.items ++ head_text (term choreo.now)) }
     ensures memory { OnErr result (KeepsFront out.old.items out.new.items) }
 {
     match choreo {
@@ -57,58 +102,13 @@ fn write_part(choreo: &Choreo, out: &mut Vec<u8>) -> Result<(), Memory>
             write_target(var, role, out)?;
             write_bytes(b"input ( )", out)
         }
-        Choreo::Seq(first, second) => {
-            let left = is_joined(first);
-            let right = is_parallel(second);
-            write_opening(left, out)?;
-            write_part(first, out)?;
-            write_between(left, b" ; ", right, out)?;
-            write_part(second, out)?;
-            write_closing(right, out)
-        }
-        Choreo::Par(first, second) => {
-            let left = is_parallel(first);
-            write_opening(left, out)?;
-            write_part(first, out)?;
-            write_closing(left, out)?;
-            write_bytes(b" | ", out)?;
-            write_part(second, out)
-        }
-        Choreo::If {
-            leader,
-            guard,
-            yes,
-            no,
-            ..
-        } => {
-            write_guarded(b"if ", guard, leader, out)?;
-            write_part(yes, out)?;
-            write_bytes(b" } else { ", out)?;
-            write_part(no, out)?;
-            write_bytes(b" }", out)
-        }
-        Choreo::While {
-            leader,
-            guard,
-            body,
-            ..
-        } => {
-            write_guarded(b"while ", guard, leader, out)?;
-            write_part(body, out)?;
-            write_bytes(b" }", out)
-        }
-        Choreo::Scope {
-            leader,
-            body,
-            extra,
-            props,
-            ..
-        } => {
+        Choreo::Seq(first, _) => write_opening(is_joined(first), out),
+        Choreo::Par(first, _) => write_opening(is_parallel(first), out),
+        Choreo::If { leader, guard, .. } => write_guarded(b"if ", guard, leader, out),
+        Choreo::While { leader, guard, .. } => write_guarded(b"while ", guard, leader, out),
+        Choreo::Scope { leader, .. } => {
             write_bytes(b"scope", out)?;
-            write_leader(leader, out)?;
-            write_part(body, out)?;
-            write_bytes(b" }", out)?;
-            write_tail(extra.as_slice(), props.as_slice(), out)
+            write_leader(leader, out)
         }
     }
 }
@@ -187,15 +187,6 @@ fn write_guarded(word: &[u8], guard: &Expr, leader: &Role, out: &mut Vec<u8>) ->
     write_leader(leader, out)
 }
 
-/// The further roles and the properties of a scope.
-fn write_tail(extra: &[Role], props: &[(Name, Value)], out: &mut Vec<u8>) -> Result<(), Memory>
-    ensures ok { OnOk result (out.new.items ≡ out.old.items ++ (roles_text extra.now ++ properties_text props.now)) }
-    ensures memory { OnErr result (KeepsFront out.old.items out.new.items) }
-{
-    write_roles(extra, out)?;
-    write_properties(props, out)
-}
-
 fn write_roles(extra: &[Role], out: &mut Vec<u8>) -> Result<(), Memory>
     ensures ok { OnOk result (out.new.items ≡ out.old.items ++ roles_text extra.now) }
     ensures memory { OnErr result (KeepsFront out.old.items out.new.items) }
@@ -211,7 +202,7 @@ fn write_roles(extra: &[Role], out: &mut Vec<u8>) -> Result<(), Memory>
     }
 }
 
-#[tactic(auto, using(expr_syntax::proofs::KeptFronts::front_of_front))]
+#[tactic(auto, using(text_pieces::proofs::KeptFronts::front_of_front))]
 fn write_next_roles(rest: &[Role], out: &mut Vec<u8>) -> Result<(), Memory>
     ensures ok { OnOk result (out.new.items ≡ out.old.items ++ flat_map next_role_text rest.now) }
     ensures memory { OnErr result (KeepsFront out.old.items out.new.items) }
@@ -245,7 +236,7 @@ fn write_properties(props: &[(Name, Value)], out: &mut Vec<u8>) -> Result<(), Me
     }
 }
 
-#[tactic(auto, using(expr_syntax::proofs::KeptFronts::front_of_front))]
+#[tactic(auto, using(text_pieces::proofs::KeptFronts::front_of_front))]
 fn write_next_properties(rest: &[(Name, Value)], out: &mut Vec<u8>) -> Result<(), Memory>
     ensures ok { OnOk result (out.new.items ≡ out.old.items ++ flat_map next_property_text rest.now) }
     ensures memory { OnErr result (KeepsFront out.old.items out.new.items) }
@@ -272,42 +263,6 @@ fn write_property(property: &(Name, Value), out: &mut Vec<u8>) -> Result<(), Mem
     write_bytes(property.0.bytes(), out)?;
     write_bytes(b" = ", out)?;
     write_value(&property.1, out)
-}
-
-/// A value, as a constant is written: a text is not copied for that.
-fn write_value(value: &Value, out: &mut Vec<u8>) -> Result<(), Memory>
-    ensures ok { OnOk result (out.new.items ≡ out.old.items ++ value_text value.now) }
-    ensures memory { OnErr result (KeepsFront out.old.items out.new.items) }
-{
-    match value {
-        Value::Nil => write_expression(&Expr::Const(Value::Nil), out),
-        Value::Bool(truth) => write_expression(&Expr::Const(Value::Bool(*truth)), out),
-        Value::Int(number) => write_expression(&Expr::Const(Value::Int(*number)), out),
-        Value::Text(text) => write_quoted(text.bytes(), out),
-    }
-}
-
-#[tactic(auto, using(expr_syntax::proofs::KeptFronts::front_of_front))]
-fn write_quoted(bytes: &[u8], out: &mut Vec<u8>) -> Result<(), Memory>
-    ensures ok { OnOk result (out.new.items ≡ out.old.items ++ quoted bytes.now) }
-    ensures memory { OnErr result (KeepsFront out.old.items out.new.items) }
-{
-    write_bytes(b"\"", out)?;
-    for byte in bytes {
-        write_escaped(*byte, out)?;
-    }
-    write_bytes(b"\"", out)
-}
-
-fn write_escaped(byte: u8, out: &mut Vec<u8>) -> Result<(), Memory>
-    ensures ok { OnOk result (out.new.items ≡ out.old.items ++ escaped byte) }
-    ensures memory { OnErr result (KeepsFront out.old.items out.new.items) }
-{
-    if byte == b'"' || byte == b'\\' {
-        write_bytes(&[b'\\', byte], out)
-    } else {
-        write_bytes(&[byte], out)
-    }
 }
 
 fn write_opening(bracketed: bool, out: &mut Vec<u8>) -> Result<(), Memory>
@@ -347,12 +302,4 @@ fn write_expression(expr: &Expr, out: &mut Vec<u8>) -> Result<(), Memory>
     ensures memory { OnErr result (KeepsFront out.old.items out.new.items) }
 {
     write_expr(expr, out)
-}
-
-fn write_bytes(bytes: &[u8], out: &mut Vec<u8>) -> Result<(), Memory>
-    ensures ok { OnOk result (out.new.items ≡ out.old.items ++ bytes.now) }
-    ensures memory { OnErr result (KeepsFront out.old.items out.new.items) }
-{
-    out.extend_from_slice(bytes)?;
-    Ok(())
 }

@@ -6,7 +6,6 @@ pub mod Compare
 pub mod Fronts
 pub mod Ranks
 pub mod Findings
-pub mod KeptFronts
 pub mod ReadFormed
 pub mod Spells
 pub mod RoundTrip

@@ -23,10 +23,10 @@ use Rattle.aioc_tokens.specs.declared.words.Sort.TheVariants as sorts
 use Rattle.aioc_tokens.specs.Words.{word_of, word_spelling, reserved_words}
 use Rattle.aioc_tokens.specs.Tokens as tokens
 use Rattle.aioc_tokens.specs.Tokens.{IsNameSpelling, is_name_byte}
-use Rattle.aioc_tokens.specs.Lexemes.{Lexeme, Name, Long, Number, Text, Reserved, Symbol, sort_of, HasSpelling}
+use Rattle.aioc_tokens.specs.Lexemes.{Lexeme, Name, Long, Number, Text, Reserved, Symbol, sort_of, HasSpelling, HasLexemes}
 use Rattle.aioc_tokens.proofs.Readings.{read_spelling}
 use Rattle.expr_syntax.specs.Constants.{constant, before, positive, negative, greatest, greatest_negated, number_up_to}
-use Rattle.expr_syntax.specs.Grammar.{leaf, member, and_left, const_before, Reads, Follows, chain, denied, not_denied, alone, compared, single, negated, bracketed, ended, more}
+use Rattle.expr_syntax.specs.Grammar.{leaf, member, and_left, const_before, Reads, Follows, chain, denied, not_denied, alone, compared, single, negated, bracketed, ended, more, IsExpression}
 use Rattle.expr_syntax.specs.Laws.{is_formed, ReadIsFormed}
 use Rattle.expr_syntax.specs.Levels.{operator, comparison, addition, multiplication, disjunction, conjunction}
 use Rattle.expr_syntax.specs.declared.levels.ExprKind.{ExprKind}
@@ -78,7 +78,7 @@ pub identifier_valid : (bytes : List ℕ) → HasSpelling (Name bytes) → is_id
 identifier_valid bytes h = λ j. name_valid bytes h j && not (not_reserved bytes h.2 j)
 
 -- a lexeme that isn't too long has a spelling
-abbrev CanBeWritten : Lexeme → Type 0
+abbrev pub CanBeWritten : Lexeme → Type 0
 CanBeWritten lexeme = lexeme ≢ Long → HasSpelling lexeme
 
 same_printable : (bytes : List ℕ) → list_all tokens.is_printable bytes ≡ list_all names.is_printable bytes
@@ -97,7 +97,7 @@ rest_in None = []
 rest_in (Some found) = found.1
 
 -- what is read of a constant
-abbrev IsValid : Value → List Lexeme → Type 0
+abbrev pub IsValid : Value → List Lexeme → Type 0
 IsValid v to = (is_constant v ≡ true) × AllByRecursion CanBeWritten to
 
 read_as : (found : Option (Value × List Lexeme)) (v w : Value) (to rest : List Lexeme) → found ≡ Some (w, rest) → found ≡ Some (v, to) → IsValid w rest → IsValid v to
@@ -134,12 +134,12 @@ constant_valid (Symbol mark.Minus ∷ Number digits ∷ others) v to valid e = n
 constant_valid _ v to valid e = cc
 
 -- an expression with what its kind allows, however deep
-abbrev is_of : ExprKind → Expression → Bool
+abbrev pub is_of : ExprKind → Expression → Bool
 is_of Step e = is_step_expression e
 is_of Condition e = is_condition e
 
 -- what was read is of its kind, and what is left can be written
-abbrev IsOf : ExprKind → Expression → List Lexeme → Type 0
+abbrev pub IsOf : ExprKind → Expression → List Lexeme → Type 0
 IsOf kind e to = (is_of kind e ≡ true) × AllByRecursion CanBeWritten to
 
 is_of-const : (kind : ExprKind) (v : Value) → is_constant v ≡ true → is_of kind (Const v) ≡ true
@@ -269,12 +269,18 @@ formed_of : (kind : ExprKind) (e : Expression) → is_of kind e ≡ true → exp
 formed_of Step e is shallow = λ j. is j && le-leb (expression_depth e) 64 shallow j
 formed_of Condition e is shallow = λ j. is j && le-leb (expression_depth e) 64 shallow j
 
-valid_from : (at : ℕ) (found : List Lexeme) → AllByRecursion CanBeWritten found → AllByRecursion CanBeWritten (drop at found)
+pub valid_from : (at : ℕ) (found : List Lexeme) → AllByRecursion CanBeWritten found → AllByRecursion CanBeWritten (drop at found)
 valid_from zero found valid = valid
 valid_from (suc at) [] valid = tt
 valid_from (suc at) (first ∷ others) valid = valid_from at others valid.1
 
+-- what is read of an expression, and what is left
+pub expression_formed : {kind : ExprKind} {room : ℕ} {from to : List Lexeme} {whole : Expression} → AllByRecursion CanBeWritten from → IsExpression kind room from whole to
+    → (is_formed kind whole ≡ true) × AllByRecursion CanBeWritten to
+expression_formed {kind} {whole = whole} valid is = let read = reads_formed valid is.reads in (formed_of kind whole read.0 is.shallow, read.1)
+
+pub all_valid : (bytes : List ℕ) (found : List Lexeme) → HasLexemes bytes found → AllByRecursion CanBeWritten found
+all_valid bytes found has = recursion_from_All CanBeWritten found (read_spelling bytes found has)
+
 pub read_formed : ReadIsFormed
-read_formed kind room bytes found at whole to has is =
-    let valid = recursion_from_All CanBeWritten found (read_spelling bytes found has) in
-    formed_of kind whole (reads_formed (valid_from at found valid) is.reads).0 is.shallow
+read_formed kind room bytes found at whole to has is = (expression_formed (valid_from at found (all_valid bytes found has)) is).0

@@ -1,23 +1,16 @@
 -- The pieces of a written expression, byte by byte.
-use Rattle.std.specs.Prelude.{◌≡◌, ℕ, suc, Bool, true, false, List, [], ◌++◌, length, take, codes, decimal, ℤ, pos, negsuc}
+use Rattle.std.specs.Prelude.{ℕ, suc, Bool, true, false, List, [], ◌++◌, codes, decimal, ℤ, pos, negsuc}
 use Rattle.dioc_terms.specs.declared.values.Value.{Value}
 use Rattle.dioc_terms.specs.declared.values.Value.TheVariants as value
 use Rattle.dioc_terms.specs.Expressions.{Expression, Const, Var, Prop, Env, Not, Neg, Bin}
 use Rattle.aioc_tokens.specs.Tokens.{quoted}
 use Rattle.aioc_tokens.specs.Spelling.{spelling}
+use Rattle.text_pieces.specs.Pieces.{truth_text}
 use Rattle.expr_syntax.specs.Writing.{is_compound, operator_lexeme}
-
--- the old bytes still stand in front
-abbrev pub KeepsFront : List ℕ → List ℕ → Type 0
-KeepsFront old new = take (length old) new ≡ old
 
 abbrev pub integer_text : ℤ → List ℕ
 integer_text (pos n) = decimal n
 integer_text (negsuc n) = codes "- " ++ decimal (suc n)
-
-abbrev pub truth_text : Bool → List ℕ
-truth_text true = codes "true"
-truth_text false = codes "false"
 
 abbrev pub value_text : Value → List ℕ
 value_text value.Nil = codes "nil"

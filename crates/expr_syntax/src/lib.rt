@@ -15,4 +15,4 @@ pub use constants::{GREATEST, GREATEST_NEGATED, constant_at, number_at};
 pub use expressions::{BRACKET_LIMIT, DEPTH_LIMIT, expr_at, read_expr};
 pub use leaves::name_at;
 pub use levels::ExprKind;
-pub use writers::write_expr;
+pub use writers::{write_expr, write_value};

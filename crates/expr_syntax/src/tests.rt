@@ -1,6 +1,6 @@
 use super::*;
 use aioc_tokens::{TokenFault, tokens};
-use dioc_terms::{Memory, SyntaxFault};
+use dioc_terms::{Items, Memory, Store, SyntaxFault, eval};
 use std::alloc::Global;
 use std::process::Abort;
 use std::test::Fail;
@@ -159,5 +159,53 @@ fn limits_of_leaves(rt: HostRuntime) -> Result<(), Fail> {
     assert_eq!(&rt; reading(alloc, ExprKind::Step, &longest)?.1, 1);
     let too_long = quoted(alloc, 1025)?;
     assert_eq!(&rt; reading(alloc, ExprKind::Step, &too_long)?.1, 0);
+    Ok(())
+}
+
+/// A text, and its value as it is written.
+const VALUES: [(&str, &str); 23] = [
+    ("9223372036854775807 + 1", "nil"),
+    ("-9223372036854775808 / -1", "nil"),
+    ("-9223372036854775808 % -1", "0"),
+    ("-7 / 2", "- 3"),
+    ("-7 % 2", "- 1"),
+    ("7 / -2", "- 3"),
+    ("7 % -2", "1"),
+    ("1 / 0", "nil"),
+    ("1 % 0", "nil"),
+    ("\"a\" ++ \"b\"", "\"ab\""),
+    ("\"a\" + \"b\"", "nil"),
+    ("nil == nil", "true"),
+    ("1 == \"1\"", "false"),
+    ("1 != \"1\"", "true"),
+    ("\"a\" < \"b\"", "true"),
+    ("\"B\" < \"a\"", "true"),
+    ("\"a\" < 1", "nil"),
+    ("false and nil", "nil"),
+    ("true or 1", "nil"),
+    ("not nil", "nil"),
+    ("not 1 == 2", "true"),
+    ("1 + 2 * 3", "7"),
+    ("10 - 3 - 2", "5"),
+];
+
+/// The value of the expression that a text spells, as it is written.
+fn value(alloc: Global, text: &[u8]) -> Result<Vec<u8>, Fail> {
+    let found = tokens(alloc, text)?;
+    let (expr, _) = read_expr(alloc, text, &found, 0, ExprKind::Step)?;
+    let store = Store::new(alloc, Items::new(Vec::new(alloc)));
+    let mut out = Vec::new(alloc);
+    write_value(&eval(alloc, &expr, &store)?, &mut out)?;
+    Ok(out)
+}
+
+#[test]
+fn values(rt: HostRuntime) -> Result<(), Fail> {
+    for (text, written) in VALUES {
+        assert_eq!(&rt;
+            value(rt.alloc(), text.as_bytes())?.as_slice(),
+            written.as_bytes()
+        );
+    }
     Ok(())
 }

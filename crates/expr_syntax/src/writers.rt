@@ -1,14 +1,14 @@
 //! Expressions as they are written.
 
-ghost use Rattle.std.specs.Prelude.{◌≡◌, ◌++◌, [], codes, decimal, OnOk, OnErr};
+ghost use Rattle.std.specs.Prelude.{◌≡◌, ◌++◌, [], codes, OnOk, OnErr};
 ghost use Rattle.dioc_terms.specs.Expressions.{expression};
-ghost use Rattle.aioc_tokens.specs.Tokens.{escaped, quoted};
 ghost use Rattle.aioc_tokens.specs.Spelling.{spelling, spelled};
-ghost use Rattle.expr_syntax.specs.Writing.{is_compound, operator_lexeme, written};
-ghost use Rattle.expr_syntax.specs.Pieces.{KeepsFront, integer_text, truth_text, value_text, opening_text, closing_text, expression_text};
+ghost use Rattle.text_pieces.specs.Pieces.{KeepsFront};
+ghost use Rattle.expr_syntax.specs.Writing.{is_compound, operator_lexeme, written, written_value};
+ghost use Rattle.expr_syntax.specs.Pieces.{integer_text, value_text, opening_text, closing_text, expression_text};
 
 use dioc_terms::{Expr, Memory, Oper, Value};
-use itoa::Buffer;
+use text_pieces::{write_bytes, write_number, write_quoted, write_truth};
 
 /// Appends the text of an expression: its tokens with one space between two. A `-` stands before an operand in brackets. An
 /// operand of `not` and of an operator between two is in brackets where it has an operator itself. A negative constant is `-`
@@ -27,12 +27,27 @@ pub fn write_expr(expr: &Expr, out: &mut Vec<u8>) -> Result<(), Memory>
     result
 }
 
+/// Appends the text of a value, as a constant is written in an expression.
+///
+/// Where memory runs out, `out` is as it was.
+pub fn write_value(value: &Value, out: &mut Vec<u8>) -> Result<(), Memory>
+    ensures ok { OnOk result (out.new.items ≡ out.old.items ++ spelled (written_value value.now [])) }
+    ensures memory { OnErr result (out.new.items ≡ out.old.items) }
+{
+    let start = out.len();
+    let result = write_constant(value, out);
+    if result.is_err() {
+        out.truncate(start);
+    }
+    result
+}
+
 fn write_part(expr: &Expr, out: &mut Vec<u8>) -> Result<(), Memory>
     ensures ok { OnOk result (out.new.items ≡ out.old.items ++ expression_text (expression expr.now)) }
     ensures memory { OnErr result (KeepsFront out.old.items out.new.items) }
 {
     match expr {
-        Expr::Const(value) => write_value(value, out),
+        Expr::Const(value) => write_constant(value, out),
         Expr::Var(name) => write_bytes(name.bytes(), out),
         Expr::Prop(name) => {
             write_bytes(b"N . ", out)?;
@@ -133,14 +148,13 @@ fn write_between(
     write_opening(right_compound, out)
 }
 
-fn write_value(value: &Value, out: &mut Vec<u8>) -> Result<(), Memory>
+fn write_constant(value: &Value, out: &mut Vec<u8>) -> Result<(), Memory>
     ensures ok { OnOk result (out.new.items ≡ out.old.items ++ value_text value.now) }
     ensures memory { OnErr result (KeepsFront out.old.items out.new.items) }
 {
     match value {
         Value::Nil => write_bytes(b"nil", out),
-        Value::Bool(true) => write_bytes(b"true", out),
-        Value::Bool(false) => write_bytes(b"false", out),
+        Value::Bool(truth) => write_truth(*truth, out),
         Value::Int(number) => write_integer(*number, out),
         Value::Text(text) => write_quoted(text.bytes(), out),
     }
@@ -154,43 +168,4 @@ fn write_integer(number: i64, out: &mut Vec<u8>) -> Result<(), Memory>
         write_bytes(b"- ", out)?;
     }
     write_number(number.unsigned_abs(), out)
-}
-
-fn write_number(number: u64, out: &mut Vec<u8>) -> Result<(), Memory>
-    ensures ok { OnOk result (out.new.items ≡ out.old.items ++ decimal number) }
-    ensures memory { OnErr result (KeepsFront out.old.items out.new.items) }
-{
-    let mut digits = Buffer::new();
-    write_bytes(digits.format(number).as_bytes(), out)
-}
-
-fn write_escaped(byte: u8, out: &mut Vec<u8>) -> Result<(), Memory>
-    ensures ok { OnOk result (out.new.items ≡ out.old.items ++ escaped byte) }
-    ensures memory { OnErr result (KeepsFront out.old.items out.new.items) }
-{
-    if byte == b'"' || byte == b'\\' {
-        write_bytes(&[b'\\', byte], out)
-    } else {
-        write_bytes(&[byte], out)
-    }
-}
-
-#[tactic(auto, using(crate::proofs::KeptFronts::front_of_front))]
-fn write_quoted(bytes: &[u8], out: &mut Vec<u8>) -> Result<(), Memory>
-    ensures ok { OnOk result (out.new.items ≡ out.old.items ++ quoted bytes.now) }
-    ensures memory { OnErr result (KeepsFront out.old.items out.new.items) }
-{
-    write_bytes(b"\"", out)?;
-    for byte in bytes {
-        write_escaped(*byte, out)?;
-    }
-    write_bytes(b"\"", out)
-}
-
-fn write_bytes(bytes: &[u8], out: &mut Vec<u8>) -> Result<(), Memory>
-    ensures ok { OnOk result (out.new.items ≡ out.old.items ++ bytes.now) }
-    ensures memory { OnErr result (KeepsFront out.old.items out.new.items) }
-{
-    out.extend_from_slice(bytes)?;
-    Ok(())
 }

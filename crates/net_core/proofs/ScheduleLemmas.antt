@@ -13,6 +13,7 @@ use Rattle.dpoc_process.specs.Laws.{OffersAreSteps}
 use Rattle.marked_laws.specs.Laws.{IsSound, Progress, Simulation}
 use Rattle.marked_laws.specs.Network.{Network, Outcome, act_step, change_step, network_after, network_step, run_from, network_run, network_ended}
 use Rattle.marked_laws.proofs.Equality.{entry_itself}
+use Rattle.marked_laws.proofs.Extension.{extensions}
 use Rattle.marked_laws.proofs.Mark.{Mark}
 use Rattle.marked_laws.proofs.Plays.{entry_doer}
 use Rattle.marked_laws.proofs.Premise.{Known}
@@ -34,14 +35,8 @@ after_own : (outcome : Outcome) (o : Option Outcome) → o ≡ Some outcome → 
 after_own outcome o h = ap (network_after outcome.entry) h ∙ cond-true (entry_eq outcome.entry outcome.entry) (Some outcome.network) None (entry_itself outcome.entry)
 
 -- a run of one part and then of another
-and_then_same : {A B : Type 0} (o : Option A) (f g : A → Option B) (y : B) (r : Option B) → ((x : A) → f x ≡ Some y → g x ≡ r) → option_and_then f o ≡ Some y → option_and_then g o ≡ r
-and_then_same None f g y r more h = absurd (none_some h)
-and_then_same (Some x) f g y r more h = more x h
-
 run_append : (b : Bundle) (N : Network) (xs ys : List Entry) (M : Network) → run_from b N xs ≡ Some M → run_from b N (xs ++ ys) ≡ run_from b M ys
-run_append b N [] ys M h = ap (λ n. run_from b n ys) (some_same h)
-run_append b N (e ∷ es) ys M h =
-    and_then_same (network_step b N e) (λ next. run_from b next es) (λ next. run_from b next (es ++ ys)) M (run_from b M ys) (λ next k. run_append b next es ys M k) h
+run_append b N xs ys M h = extensions.run b N xs ys ∙ ap (option_and_then (λ n. run_from b n ys)) h
 
 rest_below : (x n : ℕ) → 0 < n → x % n < n
 rest_below x n h = omega arith

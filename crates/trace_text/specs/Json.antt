@@ -12,7 +12,9 @@ use Rattle.dioc_terms.specs.declared.entries.Entry.{Entry}
 use Rattle.dioc_terms.specs.declared.entries.Entry.TheVariants as entry
 use Rattle.dioc_terms.specs.declared.bundles.Last.{Last}
 use Rattle.dioc_terms.specs.declared.bundles.Last.TheVariants.{Ended, Stopped}
-use Rattle.trace_text.specs.Lines.{truth_text, integer_text, quoted, tag_text, line_end}
+use Rattle.aioc_tokens.specs.Tokens.{quoted}
+use Rattle.text_pieces.specs.Pieces.{truth_text}
+use Rattle.trace_text.specs.Lines.{integer_text, tag_text, line_end}
 
 -- a key with its value
 abbrev pub member : List ℕ → List ℕ → List ℕ

@@ -1,5 +1,5 @@
 -- The lines of a trace: one for each entry, single spaces exactly as here, and a last line.
-use Rattle.std.specs.Prelude.{ℕ, suc, List, [], ◌∷◌, ◌++◌, Bool, true, false, ◌||◌, ◌==◌, Option, Some, None, if◌then◌else◌, ℤ, pos, negsuc, codes, decimal, flat_map}
+use Rattle.std.specs.Prelude.{ℕ, suc, List, [], ◌∷◌, ◌++◌, Option, Some, None, ℤ, pos, negsuc, codes, decimal, flat_map}
 use Rattle.dioc_terms.specs.declared.names.Index.{Index}
 use Rattle.dioc_terms.specs.declared.values.Value.{Value}
 use Rattle.dioc_terms.specs.declared.values.Value.TheVariants as value
@@ -14,22 +14,13 @@ use Rattle.dioc_terms.specs.declared.entries.Entry.{Entry}
 use Rattle.dioc_terms.specs.declared.entries.Entry.TheVariants as entry
 use Rattle.dioc_terms.specs.declared.bundles.Last.{Last}
 use Rattle.dioc_terms.specs.declared.bundles.Last.TheVariants.{Ended, Stopped}
-
-abbrev pub truth_text : Bool → List ℕ
-truth_text true = codes "true"
-truth_text false = codes "false"
+use Rattle.aioc_tokens.specs.Tokens.{quoted}
+use Rattle.text_pieces.specs.Pieces.{truth_text}
 
 -- decimal digits, with a `-` directly before them where the number is negative
 abbrev pub integer_text : ℤ → List ℕ
 integer_text (pos n) = decimal n
 integer_text (negsuc n) = codes "-" ++ decimal (suc n)
-
--- a quote and a backslash stand behind a backslash
-abbrev pub escaped_byte : ℕ → List ℕ
-escaped_byte byte = if byte == 34 || byte == 92 then 92 ∷ byte ∷ [] else byte ∷ []
-
-abbrev pub quoted : List ℕ → List ℕ
-quoted bytes = codes "\"" ++ flat_map escaped_byte bytes ++ codes "\""
 
 abbrev pub value_text : Value → List ℕ
 value_text value.Nil = codes "nil"

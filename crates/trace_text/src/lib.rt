@@ -7,4 +7,4 @@ mod pieces;
 mod tests;
 
 pub use lines::{write_last, write_line, write_text};
-pub use pieces::{write_bytes, write_index, write_number};
+pub use pieces::write_index;

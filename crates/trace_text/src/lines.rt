@@ -2,14 +2,14 @@
 
 ghost use Rattle.std.specs.Prelude.{◌≡◌, ◌++◌, codes, OnOk, OnErr};
 ghost use Rattle.dioc_terms.specs.declared.entries.Entry.TheVariants as entry;
-ghost use Rattle.trace_text.specs.Appending.{KeepsFront};
+ghost use Rattle.text_pieces.specs.Pieces.{KeepsFront};
 ghost use Rattle.trace_text.specs.Lines.{line, last_line, text, index_text, value_text};
 
 use crate::pieces::{
-    write_bytes, write_choice, write_index, write_key, write_note, write_number, write_truth,
-    write_value, write_variable,
+    write_choice, write_index, write_key, write_note, write_value, write_variable,
 };
-use dioc_terms::{Chosen, Entry, Index, Last, Memory, Name, Role, Value};
+use dioc_terms::{Chosen, Entry, Index, Key, Last, Memory, Name, Note, Role, Value};
+use text_pieces::{write_bytes, write_number, write_truth};
 
 /// Appends the line of an entry, without a line end.
 ///
@@ -56,7 +56,7 @@ pub fn write_text(entries: &[Entry], last: &Last, out: &mut Vec<u8>) -> Result<(
     written
 }
 
-#[tactic(auto, using(crate::proofs::Fronts::front_of_front))]
+#[tactic(auto, using(text_pieces::proofs::KeptFronts::front_of_front))]
 fn write_run(entries: &[Entry], last: &Last, out: &mut Vec<u8>) -> Result<(), Memory>
     ensures ok { OnOk result (out.new.items ≡ out.old.items ++ text entries.now last.now) }
     ensures memory { OnErr result (KeepsFront out.old.items out.new.items) }
@@ -74,17 +74,8 @@ fn write_entry(entry: &Entry, out: &mut Vec<u8>) -> Result<(), Memory>
     ensures memory { OnErr result (KeepsFront out.old.items out.new.items) }
 {
     match entry {
-        Entry::Put { key, note } => {
-            write_bytes(b"put ", out)?;
-            write_key(key, out)?;
-            write_bytes(b" = ", out)?;
-            write_note(note, out)
-        }
-        Entry::Take { key, var } => {
-            write_bytes(b"take ", out)?;
-            write_key(key, out)?;
-            write_variable(var, out)
-        }
+        Entry::Put { key, note } => write_put(key, note, out),
+        Entry::Take { key, var } => write_take(key, var, out),
         Entry::Set {
             index,
             role,
@@ -109,16 +100,38 @@ fn write_entry(entry: &Entry, out: &mut Vec<u8>) -> Result<(), Memory>
             role,
             chosen,
         } => write_scope(*index, role, chosen, out),
-        Entry::Add { name } => {
-            write_bytes(b"add ", out)?;
-            write_bytes(name.bytes(), out)
-        }
-        Entry::Drop { name } => {
-            write_bytes(b"drop ", out)?;
-            write_bytes(name.bytes(), out)
-        }
+        Entry::Add { name } => write_named(b"add ", name, out),
+        Entry::Drop { name } => write_named(b"drop ", name, out),
         Entry::Env { key, value } => write_environment(key, value, out),
     }
+}
+
+fn write_put(key: &Key, note: &Note, out: &mut Vec<u8>) -> Result<(), Memory>
+    ensures ok { OnOk result (out.new.items ≡ out.old.items ++ line (entry.Put key.now note.now)) }
+    ensures memory { OnErr result (KeepsFront out.old.items out.new.items) }
+{
+    write_bytes(b"put ", out)?;
+    write_key(key, out)?;
+    write_bytes(b" = ", out)?;
+    write_note(note, out)
+}
+
+fn write_take(key: &Key, variable: &Option<Name>, out: &mut Vec<u8>) -> Result<(), Memory>
+    ensures ok { OnOk result (out.new.items ≡ out.old.items ++ line (entry.Take key.now variable.now)) }
+    ensures memory { OnErr result (KeepsFront out.old.items out.new.items) }
+{
+    write_bytes(b"take ", out)?;
+    write_key(key, out)?;
+    write_variable(variable, out)
+}
+
+/// A word and a name.
+fn write_named(word: &[u8], name: &Name, out: &mut Vec<u8>) -> Result<(), Memory>
+    ensures ok { OnOk result (out.new.items ≡ out.old.items ++ (word.now ++ name.now)) }
+    ensures memory { OnErr result (KeepsFront out.old.items out.new.items) }
+{
+    write_bytes(word, out)?;
+    write_bytes(name.bytes(), out)
 }
 
 /// What stands behind the word `set` or `input`, as `x@a #0.3 = 5`.

@@ -2,69 +2,21 @@
 //!
 //! Where memory runs out, a part of the piece may stand behind the old bytes.
 
-ghost use Rattle.std.specs.Prelude.{◌≡◌, ◌++◌, codes, decimal, OnOk, OnErr};
-ghost use Rattle.trace_text.specs.Appending.{KeepsFront};
-ghost use Rattle.trace_text.specs.Lines.{truth_text, integer_text, escaped_byte, quoted, value_text, index_text, tag_text, note_text, key_text, variable_text, choice_text};
+ghost use Rattle.std.specs.Prelude.{◌≡◌, ◌++◌, OnOk, OnErr};
+ghost use Rattle.text_pieces.specs.Pieces.{KeepsFront};
+ghost use Rattle.trace_text.specs.Lines.{integer_text, value_text, index_text, tag_text, note_text, key_text, variable_text, choice_text};
 
 use dioc_terms::{Chosen, Index, Key, Memory, Name, Note, Tag, Value};
-use itoa::Buffer;
-
-pub fn write_bytes(bytes: &[u8], out: &mut Vec<u8>) -> Result<(), Memory>
-    ensures ok { OnOk result (out.new.items ≡ out.old.items ++ bytes.now) }
-    ensures memory { OnErr result (KeepsFront out.old.items out.new.items) }
-{
-    out.extend_from_slice(bytes)?;
-    Ok(())
-}
-
-pub fn write_number(number: u64, out: &mut Vec<u8>) -> Result<(), Memory>
-    ensures ok { OnOk result (out.new.items ≡ out.old.items ++ decimal number) }
-    ensures memory { OnErr result (KeepsFront out.old.items out.new.items) }
-{
-    let mut digits = Buffer::new();
-    write_bytes(digits.format(number).as_bytes(), out)
-}
+use text_pieces::{write_bytes, write_number, write_quoted, write_truth};
 
 fn write_integer(number: i64, out: &mut Vec<u8>) -> Result<(), Memory>
     ensures ok { OnOk result (out.new.items ≡ out.old.items ++ integer_text number) }
     ensures memory { OnErr result (KeepsFront out.old.items out.new.items) }
 {
-    let mut digits = Buffer::new();
-    write_bytes(digits.format(number).as_bytes(), out)
-}
-
-pub fn write_truth(flag: bool, out: &mut Vec<u8>) -> Result<(), Memory>
-    ensures ok { OnOk result (out.new.items ≡ out.old.items ++ truth_text flag) }
-    ensures memory { OnErr result (KeepsFront out.old.items out.new.items) }
-{
-    if flag {
-        write_bytes(b"true", out)
-    } else {
-        write_bytes(b"false", out)
+    if number < 0 {
+        write_bytes(b"-", out)?;
     }
-}
-
-fn write_escaped(byte: u8, out: &mut Vec<u8>) -> Result<(), Memory>
-    ensures ok { OnOk result (out.new.items ≡ out.old.items ++ escaped_byte byte) }
-    ensures memory { OnErr result (KeepsFront out.old.items out.new.items) }
-{
-    if byte == b'"' || byte == b'\\' {
-        write_bytes(&[b'\\', byte], out)
-    } else {
-        write_bytes(&[byte], out)
-    }
-}
-
-#[tactic(auto, using(crate::proofs::Fronts::front_of_front))]
-pub fn write_quoted(bytes: &[u8], out: &mut Vec<u8>) -> Result<(), Memory>
-    ensures ok { OnOk result (out.new.items ≡ out.old.items ++ quoted bytes.now) }
-    ensures memory { OnErr result (KeepsFront out.old.items out.new.items) }
-{
-    write_bytes(b"\"", out)?;
-    for byte in bytes {
-        write_escaped(*byte, out)?;
-    }
-    write_bytes(b"\"", out)
+    write_number(number.unsigned_abs(), out)
 }
 
 pub fn write_value(value: &Value, out: &mut Vec<u8>) -> Result<(), Memory>

@@ -48,113 +48,118 @@ fn expect_line(rt: &impl Abort, alloc: Global, entry: Entry, expected: &str) -> 
     Ok(())
 }
 
-fn expect_put(
-    rt: &impl Abort,
-    alloc: Global,
-    key: Key,
-    note: Note,
-    expected: &str,
-) -> Result<(), Memory> {
-    expect_line(rt, alloc, Entry::Put { key, note }, expected)
-}
+/// Who sends, who receives, by which tag, of which place, what, and the line.
+type Put = (&'static str, &'static str, Tag, u32, Note, &'static str);
 
-#[test]
-fn lines_of_messages(rt: HostRuntime) -> Result<(), Fail> {
-    let alloc = rt.alloc();
-    let five = Note::Val(Value::Int(5));
-    expect_put(&rt, alloc, operation(alloc)?, five, "put a -> b o#0.3 = 5")?;
-    let choice = key(alloc, "a", "b", Tag::Choice, 4)?;
-    expect_put(
-        &rt,
-        alloc,
-        choice,
+const PUTS: [Put; 7] = [
+    (
+        "a",
+        "b",
+        Tag::Choice,
+        4,
         Note::Flag(true),
         "put a -> b !choice#0.4 = true",
-    )?;
-    let go = key(alloc, "a", "b", Tag::Go, 4)?;
-    expect_put(
-        &rt,
-        alloc,
-        go,
+    ),
+    (
+        "a",
+        "b",
+        Tag::Go,
+        4,
         Note::Flag(false),
         "put a -> b !go#0.4 = false",
-    )?;
-    let turn = key(alloc, "b", "a", Tag::Turn, 4)?;
-    expect_put(&rt, alloc, turn, Note::Done, "put b -> a !turn#0.4 = done")?;
-    let begin = key(alloc, "s", "b", Tag::Begin, 6)?;
-    expect_put(
-        &rt,
-        alloc,
-        begin,
+    ),
+    (
+        "b",
+        "a",
+        Tag::Turn,
+        4,
+        Note::Done,
+        "put b -> a !turn#0.4 = done",
+    ),
+    (
+        "s",
+        "b",
+        Tag::Begin,
+        6,
         Note::Keep,
         "put s -> b !begin#0.6 = keep",
-    )?;
-    let begin = key(alloc, "s", "b", Tag::Begin, 6)?;
-    expect_put(
-        &rt,
-        alloc,
-        begin,
+    ),
+    (
+        "s",
+        "b",
+        Tag::Begin,
+        6,
         Note::Part(1),
         "put s -> b !begin#0.6 = part 1",
-    )?;
-    let end = key(alloc, "b", "s", Tag::End, 6)?;
-    expect_put(&rt, alloc, end, Note::Done, "put b -> s !end#0.6 = done")?;
-    let release = key(alloc, "s", "b", Tag::Out, 6)?;
-    expect_put(
-        &rt,
-        alloc,
-        release,
+    ),
+    (
+        "b",
+        "s",
+        Tag::End,
+        6,
+        Note::Done,
+        "put b -> s !end#0.6 = done",
+    ),
+    (
+        "s",
+        "b",
+        Tag::Out,
+        6,
         Note::Done,
         "put s -> b !out#0.6 = done",
-    )?;
+    ),
+];
+
+#[test]
+fn lines_of_auxiliary_puts(rt: HostRuntime) -> Result<(), Fail> {
+    for (from, to, tag, place, note, line) in PUTS {
+        let key = key(rt.alloc(), from, to, tag, place)?;
+        expect_line(&rt, rt.alloc(), Entry::Put { key, note }, line)?;
+    }
     Ok(())
 }
 
 #[test]
-fn lines_of_takes(rt: HostRuntime) -> Result<(), Fail> {
+fn lines_of_an_operation(rt: HostRuntime) -> Result<(), Fail> {
     let alloc = rt.alloc();
-    let taken = Entry::Take {
-        key: operation(alloc)?,
-        var: Some(name(alloc, "x")?),
-    };
-    expect_line(&rt, alloc, taken, "take a -> b o#0.3 x")?;
-    let taken = Entry::Take {
-        key: key(alloc, "a", "b", Tag::Choice, 4)?,
-        var: None,
-    };
+    let key = operation(alloc)?;
+    let note = Note::Val(Value::Int(5));
+    expect_line(&rt, alloc, Entry::Put { key, note }, "put a -> b o#0.3 = 5")?;
+    let key = operation(alloc)?;
+    let var = Some(name(alloc, "x")?);
+    expect_line(&rt, alloc, Entry::Take { key, var }, "take a -> b o#0.3 x")?;
+    Ok(())
+}
+
+#[test]
+fn line_of_an_auxiliary_take(rt: HostRuntime) -> Result<(), Fail> {
+    let alloc = rt.alloc();
+    let key = key(alloc, "a", "b", Tag::Choice, 4)?;
+    let taken = Entry::Take { key, var: None };
     expect_line(&rt, alloc, taken, "take a -> b !choice#0.4")?;
     Ok(())
 }
 
+const VALUES: [(Value, &str); 5] = [
+    (Value::Int(5), "set x@a #0.3 = 5"),
+    (Value::Int(-5), "set x@a #0.3 = -5"),
+    (Value::Int(i64::MIN), "set x@a #0.3 = -9223372036854775808"),
+    (Value::Nil, "set x@a #0.3 = nil"),
+    (Value::Bool(false), "set x@a #0.3 = false"),
+];
+
 #[test]
 fn lines_of_values(rt: HostRuntime) -> Result<(), Fail> {
+    for (value, line) in VALUES {
+        let entry = setting(rt.alloc(), value)?;
+        expect_line(&rt, rt.alloc(), entry, line)?;
+    }
+    Ok(())
+}
+
+#[test]
+fn lines_of_texts_and_inputs(rt: HostRuntime) -> Result<(), Fail> {
     let alloc = rt.alloc();
-    expect_line(
-        &rt,
-        alloc,
-        setting(alloc, Value::Int(5))?,
-        "set x@a #0.3 = 5",
-    )?;
-    expect_line(
-        &rt,
-        alloc,
-        setting(alloc, Value::Int(-5))?,
-        "set x@a #0.3 = -5",
-    )?;
-    let least = setting(alloc, Value::Int(i64::MIN))?;
-    expect_line(&rt, alloc, least, "set x@a #0.3 = -9223372036854775808")?;
-    expect_line(
-        &rt,
-        alloc,
-        setting(alloc, Value::Nil)?,
-        "set x@a #0.3 = nil",
-    )?;
-    expect_line(
-        &rt,
-        alloc,
-        setting(alloc, Value::Bool(false))?,
-        "set x@a #0.3 = false",
-    )?;
     let text = Text::read(alloc, b"a \"b\" \\c")?;
     let text = setting(alloc, Value::Text(text))?;
     expect_line(&rt, alloc, text, "set x@a #0.3 = \"a \\\"b\\\" \\\\c\"")?;

@@ -1,4 +1,4 @@
-use Rattle.expr_syntax.proofs.KeptFronts.{err_front}
+use Rattle.text_pieces.proofs.KeptFronts.{err_front}
 use Rattle.expr_syntax.proofs.writers.+write_part.Goals as goal
 
 pub returns-in_ok-write_part-in-Bin-2-clause-memory : goal.returns-in_ok-write_part-in-Bin-2-clause-memory

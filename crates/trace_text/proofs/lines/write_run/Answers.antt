@@ -1,5 +1,5 @@
 use Rattle.std.proofs.lemmas.Result.{err_from_is_err_and, on_err_weaker}
-use Rattle.trace_text.proofs.Fronts.{front_after}
+use Rattle.text_pieces.proofs.KeptFronts.{front_after}
 use Rattle.trace_text.proofs.lines.write_run.Goals as goal
 
 pub returns-in_err-write_entry-clause-memory : goal.returns-in_err-write_entry-clause-memory

@@ -1,8 +1,8 @@
 -- What stands in front stays there.
-use Rattle.std.proofs.Common.{◌≡◌, ℕ, List, ◌++◌, length, take, ◌≤◌, refl, ◌∙◌, ap, sym, subst, arith}
+use Rattle.std.proofs.Common.{◌≡◌, ℕ, Result, Ok, Err, OnErr, List, ◌++◌, length, take, ◌≤◌, refl, ◌∙◌, ap, sym, subst, arith}
 use Rattle.std.proofs.lemmas.List.{take-take, length-append}
 use Rattle.std.proofs.Math.Seq.{take-append_seam}
-use Rattle.trace_text.specs.Appending.{KeepsFront}
+use Rattle.text_pieces.specs.Pieces.{KeepsFront}
 
 -- the front of a front: where bytes keep `old ++ more` in front, they keep `old`. Its first part shows `grind` what to match
 pub front_of_front : (old more bytes : List ℕ) → KeepsFront (old ++ more) bytes → (take (length (old ++ more)) bytes ≡ take (length (old ++ more)) bytes) × KeepsFront old bytes
@@ -13,3 +13,8 @@ front_of_front old more bytes kept =
 -- the same at bytes that are equal to `old ++ more`
 pub front_after : (old more middle bytes : List ℕ) → middle ≡ old ++ more → KeepsFront middle bytes → KeepsFront old bytes
 front_after old more middle bytes e kept = (front_of_front old more bytes (subst (λ front. KeepsFront front bytes) e kept)).1
+
+-- the same of what a writer leaves that has run out of memory
+pub err_front : {A E : Type 0} (old more middle : List ℕ) (result : Result A E) (bytes : List ℕ) → middle ≡ old ++ more → OnErr result (KeepsFront middle bytes) → OnErr result (KeepsFront old bytes)
+err_front old more middle (Ok value) bytes is kept = tt
+err_front old more middle (Err fault) bytes is kept = front_after old more middle bytes is kept

@@ -1,6 +1,6 @@
 use Rattle.std.proofs.Common.{◌≡◌, ◌++◌, codes, take, flat_map}
 use Rattle.aioc_tokens.specs.Tokens.{escaped}
-use Rattle.dioc_syntax.proofs.writer.write_quoted.Given as goal
+use Rattle.text_pieces.proofs.pieces.write_quoted.Given as goal
 
 abbrev pub invariant-loop-byte : goal.invariant-loop-byte
 invariant-loop-byte l =
