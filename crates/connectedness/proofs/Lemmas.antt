@@ -146,7 +146,7 @@ some_none : {i : Index} → Some i ≡ None → ⊥
 some_none h = cc
 
 -- a term that isn't empty has a first index
-has_index : (I : Term) → empty I ≡ false → (i : Index) × (first_index I ≡ Some i)
+pub has_index : (I : Term) → empty I ≡ false → (i : Index) × (first_index I ≡ Some i)
 has_index Skip h = absurd (both_ways true h refl)
 has_index (Com i o a e b x) h = (i, refl)
 has_index (Set i x r e) h = (i, refl)
@@ -164,10 +164,10 @@ has_index (While i r g I) h = (i, refl)
 has_index (Scope i r I extra props level) h = (i, refl)
 
 -- the roles of a gap
-abbrev missing : Term → Term → Role → Bool
+abbrev pub missing : Term → Term → Role → Bool
 missing I J q = member q (starters J) && not (in_each_group I q)
 
-no_gap_at : (cast : List Role) (I J : Term) (n m : Option Index) → first_index I ≡ n → first_index J ≡ m → find (missing I J) cast ≡ None
+pub no_gap_at : (cast : List Role) (I J : Term) (n m : Option Index) → first_index I ≡ n → first_index J ≡ m → find (missing I J) cast ≡ None
     → gap_at cast I J ≡ None
 no_gap_at cast I J (Some i) (Some j) e f h = rw (e, f, h)
 no_gap_at cast I J (Some i) None e f h = rw (e, f)
@@ -198,7 +198,7 @@ starter_in q (If i r g I J) h = or_left (role_eq q r || is_in q I) (is_in q J) (
 starter_in q (While i r g I) h = or_left (role_eq q r) (is_in q I) h
 starter_in q (Scope i r I extra props level) h = or_left (role_eq q r || is_in q I) (member q extra) (or_left (role_eq q r) (is_in q I) h)
 
-gap_some : (cast : List Role) (I J : Term) (i j : Index) (q : Role) → first_index I ≡ Some i → first_index J ≡ Some j → find (missing I J) cast ≡ Some q
+pub gap_some : (cast : List Role) (I J : Term) (i j : Index) (q : Role) → first_index I ≡ Some i → first_index J ≡ Some j → find (missing I J) cast ≡ Some q
     → gap_at cast I J ≡ Some (record { first = i; second = j; role = q })
 gap_some cast I J i j q e f h = rw (e, f, h)
 

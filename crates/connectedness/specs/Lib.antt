@@ -1,3 +1,5 @@
 pub mod ByCases
+pub mod Checks
 pub mod Connected
 pub mod Laws
+pub mod Summaries
