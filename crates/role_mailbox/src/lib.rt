@@ -1,0 +1,9 @@
+//! The messages that are put and not taken yet.
+#![tactic(auto)]
+
+mod mail;
+
+pub use mail::Mail;
+
+#[cfg(test)]
+mod tests;
