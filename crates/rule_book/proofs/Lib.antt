@@ -1,0 +1,4 @@
+pub mod ApplyLemmas
+pub mod ChoiceLemmas
+pub mod OrderLemmas
+pub mod TestBundles

@@ -1,0 +1,15 @@
+use Rattle.std.proofs.Common.{◌-◌, length, arith}
+use Rattle.rule_book.proofs.OrderLemmas.{numbers_from-below}
+use Rattle.rule_book.proofs.book.Book.new.Goals as goal
+
+pub keep_script-requires-clause-there : goal.keep_script-requires-clause-there
+keep_script-requires-clause-there c =
+    let b = c.args.bundle.now in
+    rw (c.as_slice.ensures, c.as_slice-2.ensures, c.requires.added)
+    (numbers_from-below (length b.rules) b.opening (length b.rules - b.opening) (omega (arith, c.requires.opening)))
+
+pub returns-clause-of : goal.returns-clause-of
+returns-clause-of c = record {
+  kept = rw (c.in_ok-reserve.ensures.entries, ← c.as_slice-3.ensures) c.in_ok-rules.ensures.kept;
+  coming = rw (← c.as_slice.ensures) c.in_ok-coming.ensures.kept;
+}

@@ -1,0 +1,75 @@
+//! What a book keeps of rules and of changes: copies, so that a change takes no memory and no body is walked again.
+
+ghost use Rattle.std.specs.Prelude.{◌≡◌, ◌&&◌, true, nat_lt, int_lt};
+ghost use Rattle.std.specs.List.{list_all};
+ghost use Rattle.std.specs.Option.{option_map_or};
+ghost use Rattle.dioc_terms.specs.Conditions.{has_no_join};
+ghost use Rattle.dioc_terms.specs.Equality.{member};
+ghost use Rattle.dioc_terms.specs.Expressions.{expression};
+ghost use Rattle.dioc_terms.specs.KeptStores.{store_of};
+ghost use Rattle.dioc_terms.specs.Values.{bound, holds};
+
+use dioc_terms::{Expr, Name, Role, Roles, ScopeHead, Store, Value, test};
+
+/// A scope of this level or above is replaced no more.
+const LEVEL_LIMIT: u32 = 16;
+
+/// What a book keeps of a rule.
+#[derive(Debug, Drop)]
+pub struct KeptRule {
+    /// Its number in the bundle.
+    pub(crate) number: u32,
+    /// Its priority.
+    pub(crate) priority: i32,
+    /// Its condition.
+    pub(crate) cond: Expr,
+    /// The roles of its body.
+    pub(crate) roles: Roles,
+    ghost no_join: { has_no_join (expression cond) ≡ true },
+}
+
+/// A change that is still to come, with the memory that it takes.
+#[derive(Debug, Drop)]
+pub enum KeptChange {
+    /// The rule is added by its name.
+    Add(Name, KeptRule),
+    /// The rule of that name is dropped.
+    Drop(Name),
+    /// The key is set to the value.
+    Env(Name, Value),
+}
+
+impl KeptRule {
+    /// Whether the rule fits a scope: its condition holds, the roles of its body are among the scope's roles, and the scope's
+    /// level is below the limit.
+    pub(crate) fn fits(&self, head: &ScopeHead, store: &Store, env: &[(Name, Value)]) -> bool
+        ensures { result ≡ (holds (expression self.now.cond) (store_of store.now) (bound head.now.props) (bound env.now) && list_all (λ q. member q head.now.roles) self.now.roles && nat_lt head.now.level 16) }
+    {
+        test(&self.cond, store, head.props.as_slice(), env)
+            && are_among(self.roles.as_slice(), head.roles.as_slice())
+            && head.level < LEVEL_LIMIT
+    }
+
+    /// Whether the rule has a greater priority than the best so far, whose number and priority are given.
+    pub(crate) fn is_above(&self, best: Option<(u32, i32)>) -> bool
+        ensures { result ≡ option_map_or (λ b. int_lt b.1 self.now.priority) best true }
+    {
+        match best {
+            Some((_, priority)) => priority < self.priority,
+            None => true,
+        }
+    }
+}
+
+/// Whether each of the roles is one of the others.
+fn are_among(roles: &[Role], others: &[Role]) -> bool
+    ensures { result ≡ list_all (λ q. member q others.now) roles.now }
+{
+    roles.iter().all(|role| is_among(role, others))
+}
+
+fn is_among(role: &Role, others: &[Role]) -> bool
+    ensures { result ≡ member role.now others.now }
+{
+    others.iter().any(|other| role == other)
+}
