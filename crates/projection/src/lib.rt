@@ -1,6 +1,13 @@
 //! What each role does of a choreography.
 #![tactic(auto)]
 
+mod forms;
 mod laws;
+mod named;
+mod projected;
 
 pub use laws::outsiders_have_ended;
+pub use projected::project;
+
+#[cfg(test)]
+mod tests;

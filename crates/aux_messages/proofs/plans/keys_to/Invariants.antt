@@ -1,0 +1,7 @@
+-- The keys so far are those to the others so far.
+use Rattle.std.proofs.Common.{◌≡◌, map, take}
+use Rattle.dpoc_process.specs.Steps.{key}
+use Rattle.aux_messages.proofs.plans.keys_to.Given as goal
+
+abbrev pub invariant-loop-other : goal.invariant-loop-other
+invariant-loop-other l = l.plan.items ≡ map (λ other. key l.leader other l.index l.tag) (take l.other-index l.others)
