@@ -138,9 +138,6 @@ module _ (rules : List Rule) where
       by_rule is.at
       ∙ (λ j. holds (sym is.condition j) s (bound head.props) (known j) && roles j && nat_lt head.level 16)
     where
-      p : Role → Bool
-      p q = member q head.roles
-
       by_rule : slice_get rules kept.number ≡ Some is.rule
           → fits rules book head s kept.number
           ≡ (holds (expression (is.rule).cond) s (bound head.props) book.environment && list_all (λ q. member q head.roles) (mentions (term (is.rule).body)) && nat_lt head.level 16)

@@ -43,7 +43,8 @@ impl KeptRule {
     /// Whether the rule fits a scope: its condition holds, the roles of its body are among the scope's roles, and the scope's
     /// level is below the limit.
     pub(crate) fn fits(&self, head: &ScopeHead, store: &Store, env: &[(Name, Value)]) -> bool
-        ensures { result ≡ (holds (expression self.now.cond) (store_of store.now) (bound head.now.props) (bound env.now) && list_all (λ q. member q head.now.roles) self.now.roles && nat_lt head.now.level 16) }
+        ensures { result ≡ (holds (expression self.now.cond) (store_of store.now) (bound head.now.props) (bound env.now)
+            && list_all (λ q. member q head.now.roles) self.now.roles && nat_lt head.now.level 16) }
     {
         test(&self.cond, store, head.props.as_slice(), env)
             && are_among(self.roles.as_slice(), head.roles.as_slice())
