@@ -8,7 +8,7 @@ use Rattle.std.proofs.str.Laws.{order}
 use Rattle.aioc_tokens.specs.declared.kinds.Kind.{Kind}
 use Rattle.aioc_tokens.specs.declared.kinds.Kind.TheVariants.{Text, Symbol}
 use Rattle.aioc_tokens.specs.declared.kinds.Token.{Token}
-use Rattle.aioc_tokens.specs.Words.{mark_of}
+use Rattle.aioc_tokens.specs.Words.{punctuator_of}
 use Rattle.aioc_tokens.specs.Tokens.{is_space, line_length, IsFront, IsBlank, comment, IsLongestToken, BeginsComment}
 use Rattle.aioc_tokens.specs.Lexing.{Lexes, ended, blank_first, token_first, Breaks, at_once, after_blank, after_token}
 use Rattle.aioc_tokens.proofs.Firsts.{kind_by, symbol_by, no_other}
@@ -20,9 +20,9 @@ use Rattle.aioc_tokens.proofs.Walk.{token_size}
 
 -- a symbol of so many bytes stands at the front, or none
 symbol_or_not : (text : List ℕ) (count : ℕ) → IsFront text Symbol count ⊎ (IsFront text Symbol count → ⊥)
-symbol_or_not text count = ⊎_elim (λ past. inr (λ front. absurd (omega (arith, front.within)))) (λ within. go within (is_some (mark_of (take count text))) refl) (order (length text) count)
+symbol_or_not text count = ⊎_elim (λ past. inr (λ front. absurd (omega (arith, front.within)))) (λ within. go within (is_some (punctuator_of (take count text))) refl) (order (length text) count)
   where
-    go : count ≤ length text → (found : Bool) → is_some (mark_of (take count text)) ≡ found → IsFront text Symbol count ⊎ (IsFront text Symbol count → ⊥)
+    go : count ≤ length text → (found : Bool) → is_some (punctuator_of (take count text)) ≡ found → IsFront text Symbol count ⊎ (IsFront text Symbol count → ⊥)
     go within true is = inl (symbol_found text count within is)
     go within false is = inr (λ front. both_ways _ is (symbol_in_table text count front))
 

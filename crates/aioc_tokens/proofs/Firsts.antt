@@ -5,9 +5,9 @@ use Rattle.std.proofs.lemmas.Bool.{both_ways}
 use Rattle.std.proofs.lemmas.Bool.Decides.{nat_tests}
 use Rattle.aioc_tokens.specs.declared.kinds.Kind.{Kind}
 use Rattle.aioc_tokens.specs.declared.kinds.Kind.TheVariants.{Name, Number, Text, Symbol}
-use Rattle.aioc_tokens.specs.declared.words.Mark.{Mark}
-use Rattle.aioc_tokens.specs.declared.words.Mark.TheVariants.{LeftBrace, RightBrace}
-use Rattle.aioc_tokens.specs.Words.{mark_spelling}
+use Rattle.aioc_tokens.specs.declared.words.Punctuator.{Punctuator}
+use Rattle.aioc_tokens.specs.declared.words.Punctuator.TheVariants.{LeftBrace, RightBrace}
+use Rattle.aioc_tokens.specs.Words.{punctuator_spelling}
 use Rattle.aioc_tokens.specs.Tokens.{is_space, Spells, IsFront, IsBlank, space, comment, IsLongestToken}
 
 -- the kind of a token that begins with this byte
@@ -28,10 +28,10 @@ digit_first byte digit = record { kind_is = grind (arith, nat_tests); no_space =
 pub symbol_by : (byte : ℕ) → is_ascii_alphabetic byte ≡ false → is_ascii_digit byte ≡ false → (byte ≡ 34 → ⊥) → kind_by byte ≡ Symbol
 symbol_by byte letter digit no_quote = let quote : (byte == 34) ≡ false = grind (arith, nat_tests) in rw (letter, digit, quote) refl
 
-pub mark_first : (mark : Mark) → IsFirstOf Symbol (get_or (mark_spelling mark) 0 0) × (0 < length (mark_spelling mark))
-mark_first LeftBrace = (record { kind_is = refl; no_space = refl }, omega arith)
-mark_first RightBrace = (record { kind_is = refl; no_space = refl }, omega arith)
-mark_first _ = (record { kind_is = refl; no_space = refl }, omega arith)
+pub punctuator_first : (punctuator : Punctuator) → IsFirstOf Symbol (get_or (punctuator_spelling punctuator) 0 0) × (0 < length (punctuator_spelling punctuator))
+punctuator_first LeftBrace = (record { kind_is = refl; no_space = refl }, omega arith)
+punctuator_first RightBrace = (record { kind_is = refl; no_space = refl }, omega arith)
+punctuator_first _ = (record { kind_is = refl; no_space = refl }, omega arith)
 
 -- a token has a byte, and the first one says so
 pub spelling_first : (kind : Kind) (bytes : List ℕ) → Spells kind bytes → IsFirstOf kind (get_or bytes 0 0) × (0 < length bytes)
@@ -44,7 +44,7 @@ spelling_first Number (first ∷ others) spells = (digit_first first (first_pass
     first_passes true b both = refl
     first_passes false b both = both
 spelling_first Text bytes spells = subst (λ word. IsFirstOf Text (get_or word 0 0) × (0 < length word)) (sym spells.2) (record { kind_is = refl; no_space = refl }, omega arith)
-spelling_first Symbol bytes spells = subst (λ word. IsFirstOf Symbol (get_or word 0 0) × (0 < length word)) (sym spells.1) (mark_first spells.0)
+spelling_first Symbol bytes spells = subst (λ word. IsFirstOf Symbol (get_or word 0 0) × (0 < length word)) (sym spells.1) (punctuator_first spells.0)
 
 -- the same of a front
 pub front_first : (text : List ℕ) (kind : Kind) (count : ℕ) → IsFront text kind count → IsFirstOf kind (get_or text 0 0) × (0 < count)

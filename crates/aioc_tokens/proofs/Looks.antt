@@ -9,11 +9,11 @@ use Rattle.aioc_tokens.specs.declared.kinds.Kind.{Kind}
 use Rattle.aioc_tokens.specs.declared.kinds.Kind.TheVariants as kinds
 use Rattle.aioc_tokens.specs.declared.kinds.Token.{Token}
 use Rattle.aioc_tokens.specs.declared.kinds.TheConstants.{NAME_LIMIT, TEXT_LIMIT}
-use Rattle.aioc_tokens.specs.declared.words.Mark.{Mark}
+use Rattle.aioc_tokens.specs.declared.words.Punctuator.{Punctuator}
 use Rattle.aioc_tokens.specs.declared.words.Word.{Word}
 use Rattle.aioc_tokens.specs.declared.words.Sort.{Sort}
 use Rattle.aioc_tokens.specs.declared.words.Sort.TheVariants as sorts
-use Rattle.aioc_tokens.specs.Words.{word_of, mark_of}
+use Rattle.aioc_tokens.specs.Words.{word_of, punctuator_of}
 use Rattle.aioc_tokens.specs.Tokens.{Spells}
 use Rattle.aioc_tokens.specs.Lexing.{Lexes, IsTokenOf, bytes_of}
 use Rattle.aioc_tokens.specs.Lexemes.{Lexeme, Name, Long, Number, Text, Reserved, Symbol, lexeme, lexemes, sort_of, value_of, Begins, HasSpelling}
@@ -58,8 +58,8 @@ text_formed : (bytes : List ℕ) (short : Bool) → Spells kinds.Text bytes → 
 text_formed bytes true spells fits taken = rw fits ((text_quoted bytes spells).printable, grind (arith, nat_tests))
 text_formed bytes false spells fits taken = absurd (taken (rw fits refl))
 
-symbol_formed : (bytes : List ℕ) (mark : Option Mark) → mark_of bytes ≡ mark → lexeme kinds.Symbol bytes ≢ Long → HasSpelling (lexeme kinds.Symbol bytes)
-symbol_formed bytes (Some mark) is taken = rw is tt
+symbol_formed : (bytes : List ℕ) (punctuator : Option Punctuator) → punctuator_of bytes ≡ punctuator → lexeme kinds.Symbol bytes ≢ Long → HasSpelling (lexeme kinds.Symbol bytes)
+symbol_formed bytes (Some punctuator) is taken = rw is tt
 symbol_formed bytes None is taken = absurd (taken (rw is refl))
 
 -- A token's lexeme can be written, unless it is too long.
@@ -67,7 +67,7 @@ pub lexeme_formed : (kind : Kind) (bytes : List ℕ) → Spells kind bytes → l
 lexeme_formed kinds.Name bytes spells taken = name_formed bytes (word_of bytes) (nat_le (length bytes) NAME_LIMIT) spells refl refl taken
 lexeme_formed kinds.Number bytes spells taken = spells
 lexeme_formed kinds.Text bytes spells taken = text_formed bytes (nat_le (length (value_of bytes)) TEXT_LIMIT) spells refl taken
-lexeme_formed kinds.Symbol bytes spells taken = symbol_formed bytes (mark_of bytes) refl taken
+lexeme_formed kinds.Symbol bytes spells taken = symbol_formed bytes (punctuator_of bytes) refl taken
 
 -- what the sort of the first lexeme says of the list
 pub end_first : (from : List Lexeme) → sort_of from ≡ sorts.End → from ≡ []
@@ -100,11 +100,11 @@ reserved_first [] word sort = absurd cc
 reserved_first (Long ∷ others) word sort = absurd cc
 reserved_first (_ ∷ others) word sort = absurd cc
 
-pub symbol_first : (from : List Lexeme) (mark : Mark) → sort_of from ≡ sorts.Symbol mark → from ≡ Symbol mark ∷ drop 1 from
-symbol_first (Symbol other ∷ others) mark sort = let same : other ≡ mark = cc in ap (λ mark. Symbol mark ∷ others) same
-symbol_first [] mark sort = absurd cc
-symbol_first (Long ∷ others) mark sort = absurd cc
-symbol_first (_ ∷ others) mark sort = absurd cc
+pub symbol_first : (from : List Lexeme) (punctuator : Punctuator) → sort_of from ≡ sorts.Symbol punctuator → from ≡ Symbol punctuator ∷ drop 1 from
+symbol_first (Symbol other ∷ others) punctuator sort = let same : other ≡ punctuator = cc in ap (λ punctuator. Symbol punctuator ∷ others) same
+symbol_first [] punctuator sort = absurd cc
+symbol_first (Long ∷ others) punctuator sort = absurd cc
+symbol_first (_ ∷ others) punctuator sort = absurd cc
 
 -- a lexeme that is a name, a number or a text comes from such bytes alone
 lexeme_name : (kind : Kind) (bytes name : List ℕ) → lexeme kind bytes ≡ Name name → name ≡ bytes
@@ -120,10 +120,10 @@ lexeme_name kinds.Text bytes name is = go (nat_le (length (value_of bytes)) TEXT
     go : (short : Bool) → cond short (Text (value_of bytes)) Long ≡ Name name → name ≡ bytes
     go true same = absurd cc
     go false same = absurd cc
-lexeme_name kinds.Symbol bytes name is = go (mark_of bytes) is
+lexeme_name kinds.Symbol bytes name is = go (punctuator_of bytes) is
   where
-    go : (mark : Option Mark) → option_map_or Symbol mark Long ≡ Name name → name ≡ bytes
-    go (Some mark) same = absurd cc
+    go : (punctuator : Option Punctuator) → option_map_or Symbol punctuator Long ≡ Name name → name ≡ bytes
+    go (Some punctuator) same = absurd cc
     go None same = absurd cc
 
 lexeme_number : (kind : Kind) (bytes digits : List ℕ) → lexeme kind bytes ≡ Number digits → digits ≡ bytes
@@ -139,10 +139,10 @@ lexeme_number kinds.Text bytes digits is = go (nat_le (length (value_of bytes)) 
     go : (short : Bool) → cond short (Text (value_of bytes)) Long ≡ Number digits → digits ≡ bytes
     go true same = absurd cc
     go false same = absurd cc
-lexeme_number kinds.Symbol bytes digits is = go (mark_of bytes) is
+lexeme_number kinds.Symbol bytes digits is = go (punctuator_of bytes) is
   where
-    go : (mark : Option Mark) → option_map_or Symbol mark Long ≡ Number digits → digits ≡ bytes
-    go (Some mark) same = absurd cc
+    go : (punctuator : Option Punctuator) → option_map_or Symbol punctuator Long ≡ Number digits → digits ≡ bytes
+    go (Some punctuator) same = absurd cc
     go None same = absurd cc
 
 lexeme_text : (kind : Kind) (bytes value : List ℕ) → lexeme kind bytes ≡ Text value → (kind ≡ kinds.Text) × (value ≡ value_of bytes)
@@ -158,10 +158,10 @@ lexeme_text kinds.Name bytes value is = absurd (go (word_of bytes) (nat_le (leng
     go None true same = cc
     go None false same = cc
 lexeme_text kinds.Number bytes value is = absurd cc
-lexeme_text kinds.Symbol bytes value is = absurd (go (mark_of bytes) is)
+lexeme_text kinds.Symbol bytes value is = absurd (go (punctuator_of bytes) is)
   where
-    go : (mark : Option Mark) → option_map_or Symbol mark Long ≡ Text value → ⊥
-    go (Some mark) same = cc
+    go : (punctuator : Option Punctuator) → option_map_or Symbol punctuator Long ≡ Text value → ⊥
+    go (Some punctuator) same = cc
     go None same = cc
 
 -- a token of the text whose lexeme stands first, before the others

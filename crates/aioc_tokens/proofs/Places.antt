@@ -1,7 +1,7 @@
 -- What the sort at a place says of the list from there on: for readers, whose contracts speak of `drop at` of the list.
 use Rattle.std.proofs.Common.{◌≡◌, ℕ, ◌+◌, List, ◌∷◌, drop, ap, sym, ◌∙◌, subst, drop-drop, add_assoc}
 use Rattle.aioc_tokens.specs.declared.words.Word.{Word}
-use Rattle.aioc_tokens.specs.declared.words.Mark.{Mark}
+use Rattle.aioc_tokens.specs.declared.words.Punctuator.{Punctuator}
 use Rattle.aioc_tokens.specs.declared.words.Sort.{Sort}
 use Rattle.aioc_tokens.specs.declared.words.Sort.TheVariants as sorts
 use Rattle.aioc_tokens.specs.Lexemes.{Lexeme, Name, Number, Text, Reserved, Symbol, sort_of, Begins}
@@ -25,8 +25,8 @@ module _ (all : List Lexeme) (at : ℕ) where
   pub reserved_at : (field word : Word) → sorts.Reserved field ≡ sort_of (drop at all) → field ≡ word → drop at all ≡ Reserved word ∷ drop (at + 1) all
   reserved_at field word sort is = reserved_first (drop at all) word (sym sort ∙ ap sorts.Reserved is) ∙ ap (λ others. Reserved word ∷ others) one_more
 
-  pub symbol_at : (field mark : Mark) → sorts.Symbol field ≡ sort_of (drop at all) → field ≡ mark → drop at all ≡ Symbol mark ∷ drop (at + 1) all
-  symbol_at field mark sort is = symbol_first (drop at all) mark (sym sort ∙ ap sorts.Symbol is) ∙ ap (λ others. Symbol mark ∷ others) one_more
+  pub symbol_at : (field punctuator : Punctuator) → sorts.Symbol field ≡ sort_of (drop at all) → field ≡ punctuator → drop at all ≡ Symbol punctuator ∷ drop (at + 1) all
+  symbol_at field punctuator sort is = symbol_first (drop at all) punctuator (sym sort ∙ ap sorts.Symbol is) ∙ ap (λ others. Symbol punctuator ∷ others) one_more
 
   -- the first of several sorts, and those after it, by the number of lexemes since the place
   pub begins_here : (first : Sort) (others : List Sort) → Begins (first ∷ others) (drop at all) → (first ≡ sort_of (drop at all)) × Begins others (drop (at + 1) all)

@@ -4,14 +4,14 @@ use Rattle.std.proofs.lemmas.List.Elements.{All-map, All-same}
 use Rattle.aioc_tokens.specs.declared.kinds.Token.{Token}
 use Rattle.aioc_tokens.specs.declared.kinds.TheConstants.{NAME_LIMIT}
 use Rattle.aioc_tokens.specs.declared.words.Word.{Word}
-use Rattle.aioc_tokens.specs.declared.words.Mark.{Mark}
-use Rattle.aioc_tokens.specs.Words.{word_spelling, word_of, mark_spelling, mark_of}
+use Rattle.aioc_tokens.specs.declared.words.Punctuator.{Punctuator}
+use Rattle.aioc_tokens.specs.Words.{word_spelling, word_of, punctuator_spelling, punctuator_of}
 use Rattle.aioc_tokens.specs.Tokens.{IsNameSpelling}
 use Rattle.aioc_tokens.specs.Lexing.{bytes_of}
 use Rattle.aioc_tokens.specs.Lexemes.{Lexeme, Name, Long, lexeme, lexemes, HasLexemes, HasSpelling}
 use Rattle.aioc_tokens.proofs.Unique.{one_lexing}
 use Rattle.aioc_tokens.proofs.Looks.{token_at, lexeme_formed}
-use Rattle.aioc_tokens.proofs.Spellings.{word_found, word_of_spelled, mark_found, mark_of_spelled}
+use Rattle.aioc_tokens.proofs.Spellings.{word_found, word_of_spelled, punctuator_found, punctuator_of_spelled}
 use Rattle.aioc_tokens.proofs.Written.{spelled_lexemes}
 
 pub one_reading : (text : List ℕ) (found others : List Lexeme) → HasLexemes text found → HasLexemes text others → found ≡ others
@@ -27,8 +27,8 @@ read_spelling text found has =
 pub word_spelled : (bytes : List ℕ) (word : Word) → (word_of bytes ≡ Some word) ↔ (bytes ≡ word_spelling word)
 word_spelled bytes word = (word_of_spelled bytes word, λ same. ap word_of same ∙ word_found word)
 
-pub mark_spelled : (bytes : List ℕ) (mark : Mark) → (mark_of bytes ≡ Some mark) ↔ (bytes ≡ mark_spelling mark)
-mark_spelled bytes mark = (mark_of_spelled bytes mark, λ same. ap mark_of same ∙ mark_found mark)
+pub punctuator_spelled : (bytes : List ℕ) (punctuator : Punctuator) → (punctuator_of bytes ≡ Some punctuator) ↔ (bytes ≡ punctuator_spelling punctuator)
+punctuator_spelled bytes punctuator = (punctuator_of_spelled bytes punctuator, λ same. ap punctuator_of same ∙ punctuator_found punctuator)
 
 -- the text of a name that isn't reserved is read as the name
 pub name_lexemes : (bytes : List ℕ) → IsNameSpelling bytes → length bytes ≤ NAME_LIMIT → word_of bytes ≡ None → HasLexemes bytes (Name bytes ∷ [])

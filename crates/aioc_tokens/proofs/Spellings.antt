@@ -5,9 +5,9 @@ use Rattle.std.specs.Str.{bytes_eq}
 use Rattle.std.proofs.lemmas.Slice.Eq.{bytes_eq-Decides}
 use Rattle.aioc_tokens.specs.declared.words.Word.{Word}
 use Rattle.aioc_tokens.specs.declared.words.Word.TheVariants.{Aioc, Skip}
-use Rattle.aioc_tokens.specs.declared.words.Mark.{Mark}
-use Rattle.aioc_tokens.specs.declared.words.Mark.TheVariants.{LeftBrace, RightBrace}
-use Rattle.aioc_tokens.specs.Words.{word_spelling, word_of, reserved_words, mark_spelling, mark_of, marks}
+use Rattle.aioc_tokens.specs.declared.words.Punctuator.{Punctuator}
+use Rattle.aioc_tokens.specs.declared.words.Punctuator.TheVariants.{LeftBrace, RightBrace}
+use Rattle.aioc_tokens.specs.Words.{word_spelling, word_of, reserved_words, punctuator_spelling, punctuator_of, punctuators}
 
 -- what a table gives for a spelling has it
 find_spelled : {Row : Type 0} (spelling : Row → List ℕ) (rows : List Row) (bytes : List ℕ) (row : Row) → find (λ other. bytes_eq bytes (spelling other)) rows ≡ Some row → bytes ≡ spelling row
@@ -31,12 +31,12 @@ unfolding word_of
 word_of_spelled bytes word found = find_spelled word_spelling reserved_words bytes word found
 
 -- each symbol is found by its spelling
-pub mark_found : (mark : Mark) → mark_of (mark_spelling mark) ≡ Some mark
-unfolding mark_of
-mark_found LeftBrace = refl
-mark_found RightBrace = refl
-mark_found _ = refl
+pub punctuator_found : (punctuator : Punctuator) → punctuator_of (punctuator_spelling punctuator) ≡ Some punctuator
+unfolding punctuator_of
+punctuator_found LeftBrace = refl
+punctuator_found RightBrace = refl
+punctuator_found _ = refl
 
-pub mark_of_spelled : (bytes : List ℕ) (mark : Mark) → mark_of bytes ≡ Some mark → bytes ≡ mark_spelling mark
-unfolding mark_of
-mark_of_spelled bytes mark found = find_spelled mark_spelling marks bytes mark found
+pub punctuator_of_spelled : (bytes : List ℕ) (punctuator : Punctuator) → punctuator_of bytes ≡ Some punctuator → bytes ≡ punctuator_spelling punctuator
+unfolding punctuator_of
+punctuator_of_spelled bytes punctuator found = find_spelled punctuator_spelling punctuators bytes punctuator found

@@ -1,37 +1,37 @@
 -- The longest symbol of at most two bytes.
 use Rattle.std.proofs.Common.{◌≡◌, ℕ, zero, suc, ◌≤◌, true, List, length, take, Option, Some, None, is_some, refl, ap, sym, ◌∙◌, subst, arith, length-take-le}
 use Rattle.aioc_tokens.specs.declared.kinds.Kind.TheVariants.{Symbol}
-use Rattle.aioc_tokens.specs.declared.words.Mark.{Mark}
-use Rattle.aioc_tokens.specs.declared.words.Mark.TheVariants.{LeftBrace, RightBrace}
-use Rattle.aioc_tokens.specs.Words.{mark_spelling, mark_of}
+use Rattle.aioc_tokens.specs.declared.words.Punctuator.{Punctuator}
+use Rattle.aioc_tokens.specs.declared.words.Punctuator.TheVariants.{LeftBrace, RightBrace}
+use Rattle.aioc_tokens.specs.Words.{punctuator_spelling, punctuator_of}
 use Rattle.aioc_tokens.specs.Tokens.{IsFront, IsLongestToken, BeginsComment}
 use Rattle.aioc_tokens.proofs.Firsts.{front_first, same_kind}
-use Rattle.aioc_tokens.proofs.Spellings.{mark_found, mark_of_spelled}
+use Rattle.aioc_tokens.proofs.Spellings.{punctuator_found, punctuator_of_spelled}
 
-pub mark_short : (mark : Mark) → length (mark_spelling mark) ≤ 2
-mark_short LeftBrace = omega arith
-mark_short RightBrace = omega arith
-mark_short _ = omega arith
+pub punctuator_short : (punctuator : Punctuator) → length (punctuator_spelling punctuator) ≤ 2
+punctuator_short LeftBrace = omega arith
+punctuator_short RightBrace = omega arith
+punctuator_short _ = omega arith
 
-some_mark : (found : Option Mark) → is_some found ≡ true → (mark : Mark) × (found ≡ Some mark)
-some_mark None some = absurd cc
-some_mark (Some mark) some = (mark, refl)
+some_punctuator : (found : Option Punctuator) → is_some found ≡ true → (punctuator : Punctuator) × (found ≡ Some punctuator)
+some_punctuator None some = absurd cc
+some_punctuator (Some punctuator) some = (punctuator, refl)
 
 -- a front that is found in the table is a symbol, and no other is
-pub symbol_found : (text : List ℕ) (count : ℕ) → count ≤ length text → is_some (mark_of (take count text)) ≡ true → IsFront text Symbol count
+pub symbol_found : (text : List ℕ) (count : ℕ) → count ≤ length text → is_some (punctuator_of (take count text)) ≡ true → IsFront text Symbol count
 symbol_found text count within some =
-    let (mark, found) = some_mark (mark_of (take count text)) some in
-    record { within = within; spells = (mark, mark_of_spelled (take count text) mark found) }
+    let (punctuator, found) = some_punctuator (punctuator_of (take count text)) some in
+    record { within = within; spells = (punctuator, punctuator_of_spelled (take count text) punctuator found) }
 
-pub symbol_in_table : (text : List ℕ) (count : ℕ) → IsFront text Symbol count → is_some (mark_of (take count text)) ≡ true
-symbol_in_table text count front = ap is_some (ap mark_of front.spells.1 ∙ mark_found front.spells.0)
+pub symbol_in_table : (text : List ℕ) (count : ℕ) → IsFront text Symbol count → is_some (punctuator_of (take count text)) ≡ true
+symbol_in_table text count front = ap is_some (ap punctuator_of front.spells.1 ∙ punctuator_found front.spells.0)
 
 module _ (text : List ℕ) where
   symbol_short : (count : ℕ) → IsFront text Symbol count → count ≤ 2
   symbol_short count front =
-      let mark = front.spells.0 in
-      let size : count ≡ length (mark_spelling mark) = sym (length-take-le count text front.within) ∙ ap length front.spells.1 in
-      omega (arith, mark_short mark)
+      let punctuator = front.spells.0 in
+      let size : count ≡ length (punctuator_spelling punctuator) = sym (length-take-le count text front.within) ∙ ap length front.spells.1 in
+      omega (arith, punctuator_short punctuator)
 
   -- two bytes that are a symbol are the longest token
   pub two_longest : IsFront text Symbol 2 → (¬ BeginsComment text) → IsLongestToken text Symbol 2

@@ -9,18 +9,18 @@ use Rattle.aioc_tokens.specs.declared.kinds.Token.{Token}
 use Rattle.aioc_tokens.specs.declared.kinds.TheConstants.{NAME_LIMIT, TEXT_LIMIT}
 use Rattle.aioc_tokens.specs.declared.words.Word.{Word}
 use Rattle.aioc_tokens.specs.declared.words.Word.TheVariants.{Aioc, Skip}
-use Rattle.aioc_tokens.specs.declared.words.Mark.{Mark}
-use Rattle.aioc_tokens.specs.declared.words.Mark.TheVariants.{LeftBrace, RightBrace}
-use Rattle.aioc_tokens.specs.Words.{word_spelling, mark_spelling, mark_of}
+use Rattle.aioc_tokens.specs.declared.words.Punctuator.{Punctuator}
+use Rattle.aioc_tokens.specs.declared.words.Punctuator.TheVariants.{LeftBrace, RightBrace}
+use Rattle.aioc_tokens.specs.Words.{word_spelling, punctuator_spelling, punctuator_of}
 use Rattle.aioc_tokens.specs.Tokens.{is_space, is_name_byte, is_printable, escaped, quoted, IsNameSpelling, IsFront, IsLongestToken, BeginsComment, space}
 use Rattle.aioc_tokens.specs.Lexing.{Lexes, ended, blank_first, token_first, bytes_of}
 use Rattle.aioc_tokens.specs.Lexemes.{Lexeme, Name, Long, Number, Text, Reserved, Symbol, lexeme, lexemes, HasLexemes, HasSpelling}
 use Rattle.aioc_tokens.specs.Spelling.{spelling, spelled}
 use Rattle.aioc_tokens.proofs.Runs.{name_longest, number_longest, name_bytes}
 use Rattle.aioc_tokens.proofs.Quotes.{text_end, text_end_closes, text_longest}
-use Rattle.aioc_tokens.proofs.Spellings.{word_found, mark_found}
-use Rattle.aioc_tokens.proofs.Symbols.{two_longest, one_longest, mark_short}
-use Rattle.aioc_tokens.proofs.Firsts.{mark_first}
+use Rattle.aioc_tokens.proofs.Spellings.{word_found, punctuator_found}
+use Rattle.aioc_tokens.proofs.Symbols.{two_longest, one_longest, punctuator_short}
+use Rattle.aioc_tokens.proofs.Firsts.{punctuator_first}
 use Rattle.aioc_tokens.proofs.Values.{value_of-quoted}
 
 -- the kind of a lexeme's token
@@ -30,7 +30,7 @@ kind_of Long = kinds.Name
 kind_of (Number digits) = kinds.Number
 kind_of (Text value) = kinds.Text
 kind_of (Reserved word) = kinds.Name
-kind_of (Symbol mark) = kinds.Symbol
+kind_of (Symbol punctuator) = kinds.Symbol
 
 -- a second byte of a symbol or of the two that begin a comment
 abbrev pub goes_on : ℕ → Bool
@@ -43,7 +43,7 @@ Ends Long others = Unit {0}
 Ends (Number digits) others = prefix_len is_ascii_digit others ≡ 0
 Ends (Text value) others = Unit {0}
 Ends (Reserved word) others = prefix_len is_name_byte others ≡ 0
-Ends (Symbol mark) others = prefix_len goes_on others ≡ 0
+Ends (Symbol punctuator) others = prefix_len goes_on others ≡ 0
 
 -- a run of bytes that all pass ends where one that doesn't follows
 run_ends : (passes : ℕ → Bool) (bytes others : List ℕ) → list_all passes bytes ≡ true → prefix_len passes others ≡ 0 → prefix_len passes (bytes ++ others) ≡ length bytes
@@ -76,7 +76,7 @@ text_front value others printable =
     subst (IsLongestToken (quoted value ++ others) kinds.Text) (omega (arith, length-append inside (34 ∷ []))) (text_longest (quoted value ++ others) (suc (length inside)) refl ends)
 
 -- each second byte of a symbol goes on a symbol
-second_goes_on : (mark : Mark) → goes_on (get_or (mark_spelling mark) 1 61) ≡ true
+second_goes_on : (punctuator : Punctuator) → goes_on (get_or (punctuator_spelling punctuator) 1 61) ≡ true
 second_goes_on LeftBrace = refl
 second_goes_on RightBrace = refl
 second_goes_on _ = refl
@@ -85,12 +85,12 @@ first_stops : (passes : ℕ → Bool) (byte : ℕ) (others : List ℕ) → prefi
 first_stops passes byte others stops pass = let more : 1 + prefix_len passes others ≡ 0 = rw pass at stops in omega arith
 
 -- no comment is a symbol
-no_comment_mark : (mark : Mark) → mark_spelling mark ≡ codes "//" → ⊥
-unfolding mark_of
-no_comment_mark mark same = let found : mark_of (codes "//") ≡ Some mark = ap mark_of (sym same) ∙ mark_found mark in cc
+no_comment_punctuator : (punctuator : Punctuator) → punctuator_spelling punctuator ≡ codes "//" → ⊥
+unfolding punctuator_of
+no_comment_punctuator punctuator same = let found : punctuator_of (codes "//") ≡ Some punctuator = ap punctuator_of (sym same) ∙ punctuator_found punctuator in cc
 
-lone_front : (mark : Mark) (byte : ℕ) (others : List ℕ) → mark_spelling mark ≡ byte ∷ [] → prefix_len goes_on others ≡ 0 → IsLongestToken (byte ∷ others) kinds.Symbol 1
-lone_front mark byte others is stops = one_longest (byte ∷ others) (record { within = omega arith; spells = (mark, sym is) }) (no_two others stops) (no_comment others stops)
+lone_front : (punctuator : Punctuator) (byte : ℕ) (others : List ℕ) → punctuator_spelling punctuator ≡ byte ∷ [] → prefix_len goes_on others ≡ 0 → IsLongestToken (byte ∷ others) kinds.Symbol 1
+lone_front punctuator byte others is stops = one_longest (byte ∷ others) (record { within = omega arith; spells = (punctuator, sym is) }) (no_two others stops) (no_comment others stops)
   where
     no_two : (others : List ℕ) → prefix_len goes_on others ≡ 0 → IsFront (byte ∷ others) kinds.Symbol 2 → ⊥
     no_two [] stops front = absurd (omega (arith, front.within))
@@ -101,17 +101,17 @@ lone_front mark byte others is stops = one_longest (byte ∷ others) (record { w
     no_comment [] stops begins = absurd cc
     no_comment (next ∷ others) stops begins = first_stops goes_on next others stops (ap (λ word. goes_on (get_or word 1 61)) begins)
 
-pair_front : (mark : Mark) (first second : ℕ) (others : List ℕ) → mark_spelling mark ≡ first ∷ second ∷ [] → IsLongestToken (first ∷ second ∷ others) kinds.Symbol 2
-pair_front mark first second others is = two_longest (first ∷ second ∷ others) (record { within = omega arith; spells = (mark, sym is) }) (λ begins. no_comment_mark mark (is ∙ begins))
+pair_front : (punctuator : Punctuator) (first second : ℕ) (others : List ℕ) → punctuator_spelling punctuator ≡ first ∷ second ∷ [] → IsLongestToken (first ∷ second ∷ others) kinds.Symbol 2
+pair_front punctuator first second others is = two_longest (first ∷ second ∷ others) (record { within = omega arith; spells = (punctuator, sym is) }) (λ begins. no_comment_punctuator punctuator (is ∙ begins))
 
-symbol_front : (mark : Mark) (others : List ℕ) → prefix_len goes_on others ≡ 0 → IsLongestToken (mark_spelling mark ++ others) kinds.Symbol (length (mark_spelling mark))
-symbol_front mark others stops = go (mark_spelling mark) refl
+symbol_front : (punctuator : Punctuator) (others : List ℕ) → prefix_len goes_on others ≡ 0 → IsLongestToken (punctuator_spelling punctuator ++ others) kinds.Symbol (length (punctuator_spelling punctuator))
+symbol_front punctuator others stops = go (punctuator_spelling punctuator) refl
   where
-    go : (bytes : List ℕ) → mark_spelling mark ≡ bytes → IsLongestToken (bytes ++ others) kinds.Symbol (length bytes)
-    go [] is = absurd (omega (arith, (mark_first mark).1, ap length is))
-    go (byte ∷ []) is = lone_front mark byte others is stops
-    go (first ∷ second ∷ []) is = pair_front mark first second others is
-    go (first ∷ second ∷ third ∷ bytes) is = absurd (omega (arith, mark_short mark, ap length is))
+    go : (bytes : List ℕ) → punctuator_spelling punctuator ≡ bytes → IsLongestToken (bytes ++ others) kinds.Symbol (length bytes)
+    go [] is = absurd (omega (arith, (punctuator_first punctuator).1, ap length is))
+    go (byte ∷ []) is = lone_front punctuator byte others is stops
+    go (first ∷ second ∷ []) is = pair_front punctuator first second others is
+    go (first ∷ second ∷ third ∷ bytes) is = absurd (omega (arith, punctuator_short punctuator, ap length is))
 
 -- a reserved word is spelled as a name
 word_spells : (word : Word) → IsNameSpelling (word_spelling word)
@@ -126,7 +126,7 @@ spelling_front Long others formed ends = absurd formed
 spelling_front (Number digits) others formed ends = number_front digits others formed.0 formed.1 ends
 spelling_front (Text value) others formed ends = text_front value others formed.0
 spelling_front (Reserved word) others formed ends = name_front (word_spelling word) others (word_spells word) ends
-spelling_front (Symbol mark) others formed ends = symbol_front mark others ends
+spelling_front (Symbol punctuator) others formed ends = symbol_front punctuator others ends
 
 fits : (count most : ℕ) → count ≤ most → nat_le count most ≡ true
 fits count most within = grind (arith, nat_tests)
@@ -138,7 +138,7 @@ lexeme_spelled Long formed = absurd formed
 lexeme_spelled (Number digits) formed = refl
 lexeme_spelled (Text value) formed = rw (value_of-quoted value, fits (length value) TEXT_LIMIT formed.1) refl
 lexeme_spelled (Reserved word) formed = rw (word_found word) refl
-lexeme_spelled (Symbol mark) formed = rw (mark_found mark) refl
+lexeme_spelled (Symbol punctuator) formed = rw (punctuator_found punctuator) refl
 
 -- From this place on, where what is left of the whole is the text, these lexemes are read.
 pub record IsRead (whole : List ℕ) (at : ℕ) (text : List ℕ) (found : List Lexeme) : Type 0 where
@@ -203,7 +203,7 @@ space_ends Long others stops = tt
 space_ends (Number digits) others stops = space_stops is_ascii_digit others no_digit stops
 space_ends (Text value) others stops = tt
 space_ends (Reserved word) others stops = space_stops is_name_byte others no_name_byte stops
-space_ends (Symbol mark) others stops = space_stops goes_on others no_second stops
+space_ends (Symbol punctuator) others stops = space_stops goes_on others no_second stops
 
 -- Lexemes that are written with one space between two stand before what is read.
 pub spelled_read : (whole : List ℕ) (at : ℕ) (written : List Lexeme) (others : List ℕ) (found : List Lexeme) → AllByRecursion HasSpelling written → SpaceOrEnd others → drop at whole ≡ spelled written ++ others

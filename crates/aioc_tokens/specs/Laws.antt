@@ -4,8 +4,8 @@ use Rattle.std.specs.List.{All, AllByRecursion}
 use Rattle.aioc_tokens.specs.declared.kinds.Token.{Token}
 use Rattle.aioc_tokens.specs.declared.kinds.TheConstants.{NAME_LIMIT}
 use Rattle.aioc_tokens.specs.declared.words.Word.{Word}
-use Rattle.aioc_tokens.specs.declared.words.Mark.{Mark}
-use Rattle.aioc_tokens.specs.Words.{word_spelling, word_of, mark_spelling, mark_of}
+use Rattle.aioc_tokens.specs.declared.words.Punctuator.{Punctuator}
+use Rattle.aioc_tokens.specs.Words.{word_spelling, word_of, punctuator_spelling, punctuator_of}
 use Rattle.aioc_tokens.specs.Tokens.{IsNameSpelling}
 use Rattle.aioc_tokens.specs.Lexing.{Lexes, Breaks, InOrder, IsLongestAt}
 use Rattle.aioc_tokens.specs.Lexemes.{Lexeme, Name, Long, HasLexemes, HasSpelling}
@@ -52,7 +52,7 @@ abbrev pub WordsAreSpelled : Type 0
 WordsAreSpelled = (bytes : List ℕ) (word : Word) → (word_of bytes ≡ Some word) ↔ (bytes ≡ word_spelling word)
 
 abbrev pub MarksAreSpelled : Type 0
-MarksAreSpelled = (bytes : List ℕ) (mark : Mark) → (mark_of bytes ≡ Some mark) ↔ (bytes ≡ mark_spelling mark)
+MarksAreSpelled = (bytes : List ℕ) (punctuator : Punctuator) → (punctuator_of bytes ≡ Some punctuator) ↔ (bytes ≡ punctuator_spelling punctuator)
 
 -- the text of a name is read as that name exactly where it isn't a reserved word
 abbrev pub NamesAreRead : Type 0

@@ -8,10 +8,10 @@ use Rattle.aioc_tokens.specs.declared.kinds.Kind.TheVariants as kinds
 use Rattle.aioc_tokens.specs.declared.kinds.Token.{Token}
 use Rattle.aioc_tokens.specs.declared.kinds.TheConstants.{NAME_LIMIT, TEXT_LIMIT}
 use Rattle.aioc_tokens.specs.declared.words.Word.{Word}
-use Rattle.aioc_tokens.specs.declared.words.Mark.{Mark}
+use Rattle.aioc_tokens.specs.declared.words.Punctuator.{Punctuator}
 use Rattle.aioc_tokens.specs.declared.words.Sort.{Sort}
 use Rattle.aioc_tokens.specs.declared.words.Sort.TheVariants as sorts
-use Rattle.aioc_tokens.specs.Words.{word_of, mark_of}
+use Rattle.aioc_tokens.specs.Words.{word_of, punctuator_of}
 use Rattle.aioc_tokens.specs.Tokens.{is_printable, IsNameSpelling}
 use Rattle.aioc_tokens.specs.Lexing.{Lexes, bytes_of}
 
@@ -28,7 +28,7 @@ pub data Lexeme : Type 0 where
   -- a reserved word
   Reserved : Word → Lexeme
   -- a symbol
-  Symbol : Mark → Lexeme
+  Symbol : Punctuator → Lexeme
 
 -- the bytes without the `\` that begins each pair; paired: such a `\` stands before them
 abbrev pub unescaped : Bool → List ℕ → List ℕ
@@ -45,7 +45,7 @@ abbrev pub lexeme : Kind → List ℕ → Lexeme
 lexeme kinds.Name bytes = option_map_or Reserved (word_of bytes) (if nat_le (length bytes) NAME_LIMIT then Name bytes else Long)
 lexeme kinds.Number bytes = Number bytes
 lexeme kinds.Text bytes = if nat_le (length (value_of bytes)) TEXT_LIMIT then Text (value_of bytes) else Long
-lexeme kinds.Symbol bytes = option_map_or Symbol (mark_of bytes) Long
+lexeme kinds.Symbol bytes = option_map_or Symbol (punctuator_of bytes) Long
 
 -- the lexemes of a text with these tokens
 abbrev pub lexemes : List ℕ → List Token → List Lexeme
@@ -64,7 +64,7 @@ HasSpelling Long = ⊥
 HasSpelling (Number digits) = (0 < length digits) × IsTrue (list_all is_ascii_digit digits)
 HasSpelling (Text value) = IsTrue (list_all is_printable value) × (length value ≤ TEXT_LIMIT)
 HasSpelling (Reserved word) = Unit {0}
-HasSpelling (Symbol mark) = Unit {0}
+HasSpelling (Symbol punctuator) = Unit {0}
 
 -- the sort of the first lexeme
 abbrev pub sort_of : List Lexeme → Sort
@@ -74,7 +74,7 @@ sort_of (Long ∷ others) = sorts.Long
 sort_of (Number digits ∷ others) = sorts.Number
 sort_of (Text value ∷ others) = sorts.Text
 sort_of (Reserved word ∷ others) = sorts.Reserved word
-sort_of (Symbol mark ∷ others) = sorts.Symbol mark
+sort_of (Symbol punctuator ∷ others) = sorts.Symbol punctuator
 
 -- the list begins with lexemes of these sorts
 abbrev pub Begins : List Sort → List Lexeme → Type 0

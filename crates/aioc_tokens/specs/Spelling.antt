@@ -1,6 +1,6 @@
 -- How lexemes are written: with one space between two tokens.
 use Rattle.std.specs.Prelude.{ℕ, List, [], ◌∷◌, ◌++◌}
-use Rattle.aioc_tokens.specs.Words.{word_spelling, mark_spelling}
+use Rattle.aioc_tokens.specs.Words.{word_spelling, punctuator_spelling}
 use Rattle.aioc_tokens.specs.Tokens.{quoted}
 use Rattle.aioc_tokens.specs.Lexemes.{Lexeme, Name, Long, Number, Text, Reserved, Symbol}
 
@@ -11,7 +11,7 @@ spelling Long = []
 spelling (Number digits) = digits
 spelling (Text value) = quoted value
 spelling (Reserved word) = word_spelling word
-spelling (Symbol mark) = mark_spelling mark
+spelling (Symbol punctuator) = punctuator_spelling punctuator
 
 -- the lexemes with one space between two
 abbrev pub spelled : List Lexeme → List ℕ

@@ -6,8 +6,8 @@ use Rattle.std.specs.List.{flat_map, list_all, prefix_len}
 use lib.Chars.{codes}
 use Rattle.aioc_tokens.specs.declared.kinds.Kind.{Kind}
 use Rattle.aioc_tokens.specs.declared.kinds.Kind.TheVariants.{Name, Number, Text, Symbol}
-use Rattle.aioc_tokens.specs.declared.words.Mark.{Mark}
-use Rattle.aioc_tokens.specs.Words.{mark_spelling}
+use Rattle.aioc_tokens.specs.declared.words.Punctuator.{Punctuator}
+use Rattle.aioc_tokens.specs.Words.{punctuator_spelling}
 
 -- a space, a tab, a line feed or a carriage return
 abbrev pub is_space : ℕ → Bool
@@ -43,7 +43,7 @@ abbrev pub Spells : Kind → List ℕ → Type 0
 Spells Name bytes = IsNameSpelling bytes
 Spells Number bytes = (0 < length bytes) × IsTrue (list_all is_ascii_digit bytes)
 Spells Text bytes = (value : List ℕ) × IsTrue (list_all is_printable value) × (bytes ≡ quoted value)
-Spells Symbol bytes = (mark : Mark) × (bytes ≡ mark_spelling mark)
+Spells Symbol bytes = (punctuator : Punctuator) × (bytes ≡ punctuator_spelling punctuator)
 
 -- the first bytes of a text, as many as this, are a token of this kind
 pub record IsFront (text : List ℕ) (kind : Kind) (count : ℕ) : Type 0 where

@@ -5,8 +5,8 @@ use Rattle.std.specs.Str.{bytes_eq}
 use lib.Chars.{codes}
 use Rattle.aioc_tokens.specs.declared.words.Word.{Word}
 use Rattle.aioc_tokens.specs.declared.words.Word.TheVariants.{Aioc, Skip, If, Else, While, Scope, Prop, Rule, On, Do, True, False, Nil, And, Or, Not, Input, N, E}
-use Rattle.aioc_tokens.specs.declared.words.Mark.{Mark}
-use Rattle.aioc_tokens.specs.declared.words.Mark.TheVariants.{LeftBrace, RightBrace, LeftParen, RightParen, LeftBracket, RightBracket, Semicolon, Comma, Colon, Bar, At, Equal, EqualEqual, NotEqual, Less, LessEqual, Greater, GreaterEqual, Plus, PlusPlus, Minus, Arrow, Star, Slash, Percent, Dot, Hash, Bang}
+use Rattle.aioc_tokens.specs.declared.words.Punctuator.{Punctuator}
+use Rattle.aioc_tokens.specs.declared.words.Punctuator.TheVariants.{LeftBrace, RightBrace, LeftParen, RightParen, LeftBracket, RightBracket, Semicolon, Comma, Colon, Bar, At, Equal, EqualEqual, NotEqual, Less, LessEqual, Greater, GreaterEqual, Plus, PlusPlus, Minus, Arrow, Star, Slash, Percent, Dot, Hash, Bang}
 
 -- how a reserved word is spelled
 abbrev pub word_spelling : Word → List ℕ
@@ -39,40 +39,40 @@ unfoldable pub word_of : List ℕ → Option Word
 word_of bytes = find (λ word. bytes_eq bytes (word_spelling word)) reserved_words
 
 -- how a symbol is spelled
-abbrev pub mark_spelling : Mark → List ℕ
-mark_spelling LeftBrace = codes "{"
-mark_spelling RightBrace = codes "}"
-mark_spelling LeftParen = codes "("
-mark_spelling RightParen = codes ")"
-mark_spelling LeftBracket = codes "["
-mark_spelling RightBracket = codes "]"
-mark_spelling Semicolon = codes ";"
-mark_spelling Comma = codes ","
-mark_spelling Colon = codes ":"
-mark_spelling Bar = codes "|"
-mark_spelling At = codes "@"
-mark_spelling Equal = codes "="
-mark_spelling EqualEqual = codes "=="
-mark_spelling NotEqual = codes "!="
-mark_spelling Less = codes "<"
-mark_spelling LessEqual = codes "<="
-mark_spelling Greater = codes ">"
-mark_spelling GreaterEqual = codes ">="
-mark_spelling Plus = codes "+"
-mark_spelling PlusPlus = codes "++"
-mark_spelling Minus = codes "-"
-mark_spelling Arrow = codes "->"
-mark_spelling Star = codes "*"
-mark_spelling Slash = codes "/"
-mark_spelling Percent = codes "%"
-mark_spelling Dot = codes "."
-mark_spelling Hash = codes "#"
-mark_spelling Bang = codes "!"
+abbrev pub punctuator_spelling : Punctuator → List ℕ
+punctuator_spelling LeftBrace = codes "{"
+punctuator_spelling RightBrace = codes "}"
+punctuator_spelling LeftParen = codes "("
+punctuator_spelling RightParen = codes ")"
+punctuator_spelling LeftBracket = codes "["
+punctuator_spelling RightBracket = codes "]"
+punctuator_spelling Semicolon = codes ";"
+punctuator_spelling Comma = codes ","
+punctuator_spelling Colon = codes ":"
+punctuator_spelling Bar = codes "|"
+punctuator_spelling At = codes "@"
+punctuator_spelling Equal = codes "="
+punctuator_spelling EqualEqual = codes "=="
+punctuator_spelling NotEqual = codes "!="
+punctuator_spelling Less = codes "<"
+punctuator_spelling LessEqual = codes "<="
+punctuator_spelling Greater = codes ">"
+punctuator_spelling GreaterEqual = codes ">="
+punctuator_spelling Plus = codes "+"
+punctuator_spelling PlusPlus = codes "++"
+punctuator_spelling Minus = codes "-"
+punctuator_spelling Arrow = codes "->"
+punctuator_spelling Star = codes "*"
+punctuator_spelling Slash = codes "/"
+punctuator_spelling Percent = codes "%"
+punctuator_spelling Dot = codes "."
+punctuator_spelling Hash = codes "#"
+punctuator_spelling Bang = codes "!"
 
 -- all symbols
-abbrev pub marks : List Mark
-marks = LeftBrace ∷ RightBrace ∷ LeftParen ∷ RightParen ∷ LeftBracket ∷ RightBracket ∷ Semicolon ∷ Comma ∷ Colon ∷ Bar ∷ At ∷ Equal ∷ EqualEqual ∷ NotEqual ∷ Less ∷ LessEqual ∷ Greater ∷ GreaterEqual ∷ Plus ∷ PlusPlus ∷ Minus ∷ Arrow ∷ Star ∷ Slash ∷ Percent ∷ Dot ∷ Hash ∷ Bang ∷ []
+abbrev pub punctuators : List Punctuator
+punctuators = LeftBrace ∷ RightBrace ∷ LeftParen ∷ RightParen ∷ LeftBracket ∷ RightBracket ∷ Semicolon ∷ Comma ∷ Colon ∷ Bar ∷ At ∷ Equal ∷ EqualEqual ∷ NotEqual ∷ Less ∷ LessEqual ∷ Greater ∷ GreaterEqual ∷ Plus ∷ PlusPlus ∷ Minus ∷ Arrow ∷ Star ∷ Slash ∷ Percent ∷ Dot ∷ Hash ∷ Bang ∷ []
 
 -- the symbol of this spelling
-unfoldable pub mark_of : List ℕ → Option Mark
-mark_of bytes = find (λ mark. bytes_eq bytes (mark_spelling mark)) marks
+unfoldable pub punctuator_of : List ℕ → Option Punctuator
+punctuator_of bytes = find (λ punctuator. bytes_eq bytes (punctuator_spelling punctuator)) punctuators

@@ -52,7 +52,7 @@ pub fn words_are_spelled()
 {}
 
 /// A symbol is found by its spelling, and by no other.
-pub fn marks_are_spelled()
+pub fn punctuators_are_spelled()
     ensures { MarksAreSpelled }
 {}
 

@@ -14,7 +14,7 @@ mod words;
 pub use kinds::{Kind, NAME_LIMIT, TEXT_LIMIT, Token, TokenFault};
 pub use scan::tokens;
 pub use view::{Lexed, place};
-pub use words::{Mark, Sort, Word, find_mark, find_word};
+pub use words::{Punctuator, Sort, Word, find_punctuator, find_word};
 
 #[cfg(test)]
 mod tests;

@@ -7,7 +7,7 @@ ghost use Rattle.aioc_tokens.specs.Tokens.{is_space, is_name_byte, is_printable,
 ghost use Rattle.aioc_tokens.specs.Lexing.{Lexes, Breaks, InOrder};
 
 use crate::kinds::{Kind, Token, TokenFault};
-use crate::words::find_mark;
+use crate::words::find_punctuator;
 use std::alloc::Global;
 
 fn is_space(byte: u8) -> bool
@@ -103,7 +103,7 @@ fn text_length(text: &[u8]) -> Option<usize>
 fn is_symbol(text: &[u8], count: usize) -> bool
     ensures { IsTrue result ↔ IsFront text.now Kind.Symbol count }
 {
-    count <= text.len() && find_mark(&text[..count]).is_some()
+    count <= text.len() && find_punctuator(&text[..count]).is_some()
 }
 
 /// How many bytes the longest symbol takes.

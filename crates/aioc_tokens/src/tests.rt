@@ -125,35 +125,35 @@ const WORDS: [Word; 19] = [
     Word::E,
 ];
 
-const MARKS: [Mark; 28] = [
-    Mark::LeftBrace,
-    Mark::RightBrace,
-    Mark::LeftParen,
-    Mark::RightParen,
-    Mark::LeftBracket,
-    Mark::RightBracket,
-    Mark::Semicolon,
-    Mark::Comma,
-    Mark::Colon,
-    Mark::Bar,
-    Mark::At,
-    Mark::Equal,
-    Mark::EqualEqual,
-    Mark::NotEqual,
-    Mark::Less,
-    Mark::LessEqual,
-    Mark::Greater,
-    Mark::GreaterEqual,
-    Mark::Plus,
-    Mark::PlusPlus,
-    Mark::Minus,
-    Mark::Arrow,
-    Mark::Star,
-    Mark::Slash,
-    Mark::Percent,
-    Mark::Dot,
-    Mark::Hash,
-    Mark::Bang,
+const PUNCTUATORS: [Punctuator; 28] = [
+    Punctuator::LeftBrace,
+    Punctuator::RightBrace,
+    Punctuator::LeftParen,
+    Punctuator::RightParen,
+    Punctuator::LeftBracket,
+    Punctuator::RightBracket,
+    Punctuator::Semicolon,
+    Punctuator::Comma,
+    Punctuator::Colon,
+    Punctuator::Bar,
+    Punctuator::At,
+    Punctuator::Equal,
+    Punctuator::EqualEqual,
+    Punctuator::NotEqual,
+    Punctuator::Less,
+    Punctuator::LessEqual,
+    Punctuator::Greater,
+    Punctuator::GreaterEqual,
+    Punctuator::Plus,
+    Punctuator::PlusPlus,
+    Punctuator::Minus,
+    Punctuator::Arrow,
+    Punctuator::Star,
+    Punctuator::Slash,
+    Punctuator::Percent,
+    Punctuator::Dot,
+    Punctuator::Hash,
+    Punctuator::Bang,
 ];
 
 // Each reserved word, in the order of the text.
@@ -176,8 +176,8 @@ fn shows_symbols(rt: HostRuntime) -> Result<(), Fail> {
     let text = b"{ } ( ) [ ] ; , : | @ = == != < <= > >= + ++ - -> * / % . # !";
     let found = tokens(rt.alloc(), text)?;
     let lexed = Lexed::new(text, &found);
-    for (place, mark) in MARKS.iter().enumerate() {
-        assert_eq!(rt; lexed.sort(place), Sort::Symbol(*mark), "at {place}");
+    for (place, punctuator) in PUNCTUATORS.iter().enumerate() {
+        assert_eq!(rt; lexed.sort(place), Sort::Symbol(*punctuator), "at {place}");
     }
     assert_eq!(rt; lexed.len(), 28);
     Ok(())

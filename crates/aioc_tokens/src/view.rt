@@ -6,7 +6,7 @@ ghost use Rattle.aioc_tokens.specs.Lexing.{Lexes, IsTokenOf, bytes_of, place_of}
 ghost use Rattle.aioc_tokens.specs.Lexemes.{lexeme, lexemes, sort_of, value_of, unescaped, Begins, HasSpelling};
 
 use crate::kinds::{Kind, NAME_LIMIT, TEXT_LIMIT, Token};
-use crate::words::{Sort, find_mark, find_word};
+use crate::words::{Sort, find_punctuator, find_word};
 use std::alloc::{AllocError, Global};
 use std::marker::Model;
 
@@ -77,8 +77,8 @@ fn sort_of(kind: Kind, bytes: &[u8]) -> Sort
         Kind::Number => Sort::Number,
         Kind::Text if is_short(bytes) => Sort::Text,
         Kind::Text => Sort::Long,
-        Kind::Symbol => match find_mark(bytes) {
-            Some(mark) => Sort::Symbol(mark),
+        Kind::Symbol => match find_punctuator(bytes) {
+            Some(punctuator) => Sort::Symbol(punctuator),
             None => unreachable!(),
         },
     }

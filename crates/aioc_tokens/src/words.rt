@@ -1,6 +1,6 @@
 // The reserved words and the symbols.
 ghost use Rattle.std.specs.Prelude.{◌≡◌, ◌∷◌, []};
-ghost use Rattle.aioc_tokens.specs.Words.{word_spelling, word_of, mark_spelling, mark_of};
+ghost use Rattle.aioc_tokens.specs.Words.{word_spelling, word_of, punctuator_spelling, punctuator_of};
 
 /// A reserved word, which is no name in the grammar.
 #[derive(Clone, Copy, Debug, PartialEq, Eq)]
@@ -28,7 +28,7 @@ pub enum Word {
 
 /// A symbol.
 #[derive(Clone, Copy, Debug, PartialEq, Eq)]
-pub enum Mark {
+pub enum Punctuator {
     LeftBrace,
     RightBrace,
     LeftParen,
@@ -71,7 +71,7 @@ pub enum Sort {
     Number,
     Text,
     Reserved(Word),
-    Symbol(Mark),
+    Symbol(Punctuator),
 }
 
 /// The reserved word that these bytes spell.
@@ -103,60 +103,60 @@ pub fn find_word(bytes: &[u8]) -> Option<Word>
     }
 }
 
-#[tactic(auto, unfolding(crate::specs::Words::mark_of))]
-fn lone_mark(byte: u8) -> Option<Mark>
-    ensures { result ≡ mark_of (byte ∷ []) }
+#[tactic(auto, unfolding(crate::specs::Words::punctuator_of))]
+fn lone_punctuator(byte: u8) -> Option<Punctuator>
+    ensures { result ≡ punctuator_of (byte ∷ []) }
 {
     match byte {
-        b'{' => Some(Mark::LeftBrace),
-        b'}' => Some(Mark::RightBrace),
-        b'(' => Some(Mark::LeftParen),
-        b')' => Some(Mark::RightParen),
-        b'[' => Some(Mark::LeftBracket),
-        b']' => Some(Mark::RightBracket),
-        b';' => Some(Mark::Semicolon),
-        b',' => Some(Mark::Comma),
-        b':' => Some(Mark::Colon),
-        b'|' => Some(Mark::Bar),
-        b'@' => Some(Mark::At),
-        b'=' => Some(Mark::Equal),
-        b'<' => Some(Mark::Less),
-        b'>' => Some(Mark::Greater),
-        b'+' => Some(Mark::Plus),
-        b'-' => Some(Mark::Minus),
-        b'*' => Some(Mark::Star),
-        b'/' => Some(Mark::Slash),
-        b'%' => Some(Mark::Percent),
-        b'.' => Some(Mark::Dot),
-        b'#' => Some(Mark::Hash),
-        b'!' => Some(Mark::Bang),
+        b'{' => Some(Punctuator::LeftBrace),
+        b'}' => Some(Punctuator::RightBrace),
+        b'(' => Some(Punctuator::LeftParen),
+        b')' => Some(Punctuator::RightParen),
+        b'[' => Some(Punctuator::LeftBracket),
+        b']' => Some(Punctuator::RightBracket),
+        b';' => Some(Punctuator::Semicolon),
+        b',' => Some(Punctuator::Comma),
+        b':' => Some(Punctuator::Colon),
+        b'|' => Some(Punctuator::Bar),
+        b'@' => Some(Punctuator::At),
+        b'=' => Some(Punctuator::Equal),
+        b'<' => Some(Punctuator::Less),
+        b'>' => Some(Punctuator::Greater),
+        b'+' => Some(Punctuator::Plus),
+        b'-' => Some(Punctuator::Minus),
+        b'*' => Some(Punctuator::Star),
+        b'/' => Some(Punctuator::Slash),
+        b'%' => Some(Punctuator::Percent),
+        b'.' => Some(Punctuator::Dot),
+        b'#' => Some(Punctuator::Hash),
+        b'!' => Some(Punctuator::Bang),
         _ => None,
     }
 }
 
-#[tactic(auto, unfolding(crate::specs::Words::mark_of))]
-fn pair_mark(first: u8, second: u8) -> Option<Mark>
-    ensures { result ≡ mark_of (first ∷ second ∷ []) }
+#[tactic(auto, unfolding(crate::specs::Words::punctuator_of))]
+fn pair_punctuator(first: u8, second: u8) -> Option<Punctuator>
+    ensures { result ≡ punctuator_of (first ∷ second ∷ []) }
 {
     match (first, second) {
-        (b'=', b'=') => Some(Mark::EqualEqual),
-        (b'!', b'=') => Some(Mark::NotEqual),
-        (b'<', b'=') => Some(Mark::LessEqual),
-        (b'>', b'=') => Some(Mark::GreaterEqual),
-        (b'+', b'+') => Some(Mark::PlusPlus),
-        (b'-', b'>') => Some(Mark::Arrow),
+        (b'=', b'=') => Some(Punctuator::EqualEqual),
+        (b'!', b'=') => Some(Punctuator::NotEqual),
+        (b'<', b'=') => Some(Punctuator::LessEqual),
+        (b'>', b'=') => Some(Punctuator::GreaterEqual),
+        (b'+', b'+') => Some(Punctuator::PlusPlus),
+        (b'-', b'>') => Some(Punctuator::Arrow),
         _ => None,
     }
 }
 
 /// The symbol that these bytes spell.
-#[tactic(auto, unfolding(crate::specs::Words::mark_of))]
-pub fn find_mark(bytes: &[u8]) -> Option<Mark>
-    ensures { result ≡ mark_of bytes.now }
+#[tactic(auto, unfolding(crate::specs::Words::punctuator_of))]
+pub fn find_punctuator(bytes: &[u8]) -> Option<Punctuator>
+    ensures { result ≡ punctuator_of bytes.now }
 {
     match bytes {
-        [byte] => lone_mark(*byte),
-        [first, second] => pair_mark(*first, *second),
+        [byte] => lone_punctuator(*byte),
+        [first, second] => pair_punctuator(*first, *second),
         _ => None,
     }
 }
@@ -190,40 +190,40 @@ impl Word {
     }
 }
 
-impl Mark {
+impl Punctuator {
     /// How the symbol is spelled.
     pub fn spelling(self) -> &'static [u8]
-        ensures { result.now ≡ mark_spelling self }
+        ensures { result.now ≡ punctuator_spelling self }
     {
         match self {
-            Mark::LeftBrace => b"{",
-            Mark::RightBrace => b"}",
-            Mark::LeftParen => b"(",
-            Mark::RightParen => b")",
-            Mark::LeftBracket => b"[",
-            Mark::RightBracket => b"]",
-            Mark::Semicolon => b";",
-            Mark::Comma => b",",
-            Mark::Colon => b":",
-            Mark::Bar => b"|",
-            Mark::At => b"@",
-            Mark::Equal => b"=",
-            Mark::EqualEqual => b"==",
-            Mark::NotEqual => b"!=",
-            Mark::Less => b"<",
-            Mark::LessEqual => b"<=",
-            Mark::Greater => b">",
-            Mark::GreaterEqual => b">=",
-            Mark::Plus => b"+",
-            Mark::PlusPlus => b"++",
-            Mark::Minus => b"-",
-            Mark::Arrow => b"->",
-            Mark::Star => b"*",
-            Mark::Slash => b"/",
-            Mark::Percent => b"%",
-            Mark::Dot => b".",
-            Mark::Hash => b"#",
-            Mark::Bang => b"!",
+            Punctuator::LeftBrace => b"{",
+            Punctuator::RightBrace => b"}",
+            Punctuator::LeftParen => b"(",
+            Punctuator::RightParen => b")",
+            Punctuator::LeftBracket => b"[",
+            Punctuator::RightBracket => b"]",
+            Punctuator::Semicolon => b";",
+            Punctuator::Comma => b",",
+            Punctuator::Colon => b":",
+            Punctuator::Bar => b"|",
+            Punctuator::At => b"@",
+            Punctuator::Equal => b"=",
+            Punctuator::EqualEqual => b"==",
+            Punctuator::NotEqual => b"!=",
+            Punctuator::Less => b"<",
+            Punctuator::LessEqual => b"<=",
+            Punctuator::Greater => b">",
+            Punctuator::GreaterEqual => b">=",
+            Punctuator::Plus => b"+",
+            Punctuator::PlusPlus => b"++",
+            Punctuator::Minus => b"-",
+            Punctuator::Arrow => b"->",
+            Punctuator::Star => b"*",
+            Punctuator::Slash => b"/",
+            Punctuator::Percent => b"%",
+            Punctuator::Dot => b".",
+            Punctuator::Hash => b"#",
+            Punctuator::Bang => b"!",
         }
     }
 }

@@ -14,7 +14,7 @@ use Rattle.dioc_terms.specs.Terms.{Term, Skip, Com, Set, Seq, Par, If, While, Sc
 use Rattle.connectedness.specs.ByCases.{begins, attends_ends}
 use Rattle.connectedness.specs.Connected.{Gap, first_index, gap_at, earlier}
 use Rattle.connectedness.specs.Laws.{RolesAtEnds}
-use Rattle.connectedness.specs.Summaries.{presence_in, in_act, in_sequence, in_parallel, in_choice, in_block, IsKept, IsSummary}
+use Rattle.connectedness.specs.Summaries.{presence_in, in_act, in_sequence, in_parallel, in_choice, in_block, IsGapOf, IsSummary}
 use Rattle.connectedness.specs.declared.summaries.FoundGap.{FoundGap}
 use Rattle.connectedness.specs.declared.summaries.Presence.{Presence}
 use Rattle.connectedness.specs.declared.summaries.Summary.{Summary}
@@ -190,13 +190,13 @@ while_roles cast i r g I extra s none a =
 
 -- Gaps
 -- the earlier one of two kept gaps
-pub kept_or : (cast : List Role) (a b : Option FoundGap) (g h : Option Gap) → IsKept cast a g → IsKept cast b h → IsKept cast (option_or a b) (earlier g h)
+pub kept_or : (cast : List Role) (a b : Option FoundGap) (g h : Option Gap) → IsGapOf cast a g → IsGapOf cast b h → IsGapOf cast (option_or a b) (earlier g h)
 kept_or cast None b None h k l = l
 kept_or cast (Some a) b (Some g) h k l = k
 kept_or cast None b (Some g) h k l = absurd k
 kept_or cast (Some a) b None h k l = absurd k
 
-pub kept_within : (cast : List Role) (found : FoundGap) (g : Option Gap) → IsKept cast (Some found) g → found.role < length cast
+pub kept_within : (cast : List Role) (found : FoundGap) (g : Option Gap) → IsGapOf cast (Some found) g → found.role < length cast
 kept_within cast found None k = absurd k
 kept_within cast found (Some gap) k = slice_get_within cast found.role gap.role k.2
 
@@ -215,17 +215,17 @@ module _ (laws : RolesAtEnds) where
 
   -- nobody is missing
   pub none_missing : (cast : List Role) (I J : Term) (s t : Summary) → IsSummary cast I s → IsSummary cast J t
-      → position (λ pair. pair.1.starts && not pair.0.attends) (zip s.roles.items t.roles.items) ≡ None → IsKept cast None (gap_at cast I J)
+      → position (λ pair. pair.1.starts && not pair.0.attends) (zip s.roles.items t.roles.items) ≡ None → IsGapOf cast None (gap_at cast I J)
   none_missing cast I J s t a b h =
       let found = none_found (λ q. begins q J && not (attends_ends q I)) cast (sym (place_of_missing cast I J s t a b) ∙ h) in
-      subst (IsKept cast None) (sym (no_gap_at cast I J (first_index I) (first_index J) refl refl (find_missing cast I J ∙ found))) tt
+      subst (IsGapOf cast None) (sym (no_gap_at cast I J (first_index I) (first_index J) refl refl (find_missing cast I J ∙ found))) tt
 
   -- the first one that is missing
   pub one_missing : (cast : List Role) (I J : Term) (s t : Summary) (i j : Index) (k : ℕ) → IsSummary cast I s → IsSummary cast J t → s.first ≡ Some i → t.first ≡ Some j
       → position (λ pair. pair.1.starts && not pair.0.attends) (zip s.roles.items t.roles.items) ≡ Some k
-      → IsKept cast (Some (record { first = i; second = j; role = k })) (gap_at cast I J)
+      → IsGapOf cast (Some (record { first = i; second = j; role = k })) (gap_at cast I J)
   one_missing cast I J s t i j k a b e f h =
       let found = place_found (λ q. begins q J && not (attends_ends q I)) cast k (sym (place_of_missing cast I J s t a b) ∙ h) in
-      subst (IsKept cast (Some (record { first = i; second = j; role = k })))
+      subst (IsGapOf cast (Some (record { first = i; second = j; role = k })))
       (sym (gap_some cast I J i j found.0 (sym a.first ∙ e) (sym b.first ∙ f) (find_missing cast I J ∙ found.2)))
       (refl, refl, found.1)

@@ -45,14 +45,14 @@ in_block leads named_further body = record {
 }
 
 -- a gap, kept with the number of its role in the cast
-abbrev pub IsKept : List Role → Option FoundGap → Option Gap → Type 0
-IsKept cast None None = Unit {0}
-IsKept cast (Some found) (Some gap) = (found.first ≡ gap.first) × (found.second ≡ gap.second) × (slice_get cast found.role ≡ Some gap.role)
-IsKept cast None (Some gap) = ⊥
-IsKept cast (Some found) None = ⊥
+abbrev pub IsGapOf : List Role → Option FoundGap → Option Gap → Type 0
+IsGapOf cast None None = Unit {0}
+IsGapOf cast (Some found) (Some gap) = (found.first ≡ gap.first) × (found.second ≡ gap.second) × (slice_get cast found.role ≡ Some gap.role)
+IsGapOf cast None (Some gap) = ⊥
+IsGapOf cast (Some found) None = ⊥
 
 -- what the check keeps of the term
 pub record IsSummary (cast : List Role) (I : Term) (summary : Summary) : Type 0 where
   pub first : summary.first ≡ first_index I
   pub roles : summary.roles.items ≡ map (presence_in I) cast
-  pub gap : IsKept cast summary.gap (first_gap cast I)
+  pub gap : IsGapOf cast summary.gap (first_gap cast I)

@@ -7,7 +7,7 @@ ghost use Rattle.dioc_terms.specs.Equality.{role_eq, member};
 ghost use Rattle.dioc_terms.specs.Expressions.{Expression};
 ghost use Rattle.dioc_terms.specs.Terms.{Term, term, Skip, Com, Set, Input, Seq, Par, If, While, Scope};
 ghost use Rattle.connectedness.specs.Connected.{gap_at};
-ghost use Rattle.connectedness.specs.Summaries.{presence_in, in_act, in_sequence, in_parallel, in_choice, in_block, IsKept, IsSummary};
+ghost use Rattle.connectedness.specs.Summaries.{presence_in, in_act, in_sequence, in_parallel, in_choice, in_block, IsGapOf, IsSummary};
 
 use crate::laws::roles_at_ends;
 use dioc_terms::{Choreo, Index, Memory, Role};
@@ -199,7 +199,7 @@ fn sequence(alloc: Global, first: &Summary, second: &Summary) -> Result<Summary,
 /// The gap of the sequence of two parts.
 fn gap_between(first: &Summary, second: &Summary) -> Option<FoundGap>
     ensures { (cast : List Role) (I J : Term) →
-        IsSummary cast I first.now → IsSummary cast J second.now → IsKept cast result (gap_at cast I J) }
+        IsSummary cast I first.now → IsSummary cast J second.now → IsGapOf cast result (gap_at cast I J) }
 {
     roles_at_ends();
     let before = first.first?;

@@ -4,13 +4,13 @@ use Rattle.dioc_terms.specs.declared.names.Role.{Role}
 use Rattle.dioc_terms.specs.declared.values.Value.{Value}
 use Rattle.dioc_terms.specs.declared.bundles.Bundle.{Bundle}
 use Rattle.dioc_terms.specs.Expressions.{Const}
-use Rattle.dioc_terms.specs.Terms.{Com, term, cast_of, mark_at}
+use Rattle.dioc_terms.specs.Terms.{Com, term, cast_of, index_at}
 use Rattle.aioc_tokens.specs.declared.words.Sort.{Sort}
 use Rattle.aioc_tokens.specs.declared.words.Sort.TheVariants as sorts
 use Rattle.aioc_tokens.specs.declared.words.Word.{Word}
 use Rattle.aioc_tokens.specs.declared.words.Word.TheVariants.{Aioc}
-use Rattle.aioc_tokens.specs.declared.words.Mark.{Mark}
-use Rattle.aioc_tokens.specs.declared.words.Mark.TheVariants.{LeftBrace, RightBrace, LeftParen, RightParen, Colon, Arrow}
+use Rattle.aioc_tokens.specs.declared.words.Punctuator.{Punctuator}
+use Rattle.aioc_tokens.specs.declared.words.Punctuator.TheVariants.{LeftBrace, RightBrace, LeftParen, RightParen, Colon, Arrow}
 use Rattle.aioc_tokens.specs.Lexemes.{Lexeme, Name, Reserved, Symbol, Begins, sort_of, lexemes}
 use Rattle.aioc_tokens.specs.declared.kinds.Token.{Token}
 use Rattle.aioc_tokens.specs.Lexing.{Lexes, Breaks}
@@ -41,8 +41,8 @@ further from k m e = drop-drop 1 k from ∙ ap (λ n. drop n from) e
 next : (s : Sort) (others : List Sort) (from : List Lexeme) (k m : ℕ) → k + 1 ≡ m → Begins (s ∷ others) (drop k from) → (sort_of (drop k from) ≡ s) × Begins others (drop m from)
 next s others from k m e h = (h.0, subst (Begins others) (further from k m e) h.1)
 
-symbol_at : (mark : Mark) (from : List Lexeme) (k m : ℕ) → k + 1 ≡ m → sort_of (drop k from) ≡ sorts.Symbol mark → drop k from ≡ Symbol mark ∷ drop m from
-symbol_at mark from k m e h = symbol_first (drop k from) mark h ∙ ap (λ l. Symbol mark ∷ l) (further from k m e)
+symbol_at : (punctuator : Punctuator) (from : List Lexeme) (k m : ℕ) → k + 1 ≡ m → sort_of (drop k from) ≡ sorts.Symbol punctuator → drop k from ≡ Symbol punctuator ∷ drop m from
+symbol_at punctuator from k m e h = symbol_first (drop k from) punctuator h ∙ ap (λ l. Symbol punctuator ∷ l) (further from k m e)
 
 reserved_at : (word : Word) (from : List Lexeme) (k m : ℕ) → k + 1 ≡ m → sort_of (drop k from) ≡ sorts.Reserved word → drop k from ≡ Reserved word ∷ drop m from
 reserved_at word from k m e h = reserved_first (drop k from) word h ∙ ap (λ l. Reserved word ∷ l) (further from k m e)
@@ -135,7 +135,7 @@ bad_byte_none bytes at breaks b spells = tokens_or_bad_byte 0 bytes spells.lexem
 pub makes : (text : List Lexeme) (at : ℕ) (b : Bundle) (o x : List ℕ) (a c : Role) (v : Value) → Begins HEAD text → constant (drop 6 text) ≡ Some (v, drop at text)
     → Begins TAIL (drop at text) → length text - at ≡ 7 → drop 2 text ≡ Name o ∷ drop 3 text → drop 4 text ≡ Name a.0 ∷ drop 5 text
     → drop (at + 2) text ≡ Name c.0 ∷ drop (at + 2 + 1) text → drop (at + 4) text ≡ Name x ∷ drop (at + 4 + 1) text
-    → term b.choreo ≡ Com (mark_at 0) o a (Const v) c x → IsPlain b → IsBundle text b
+    → term b.choreo ≡ Com (index_at 0) o a (Const v) c x → IsPlain b → IsBundle text b
 makes text at b o x a c v head sent tail end op sender receiver variable is plain = record {
   inside = drop 2 text;
   behind = Symbol RightBrace ∷ [];

@@ -3,9 +3,9 @@ use Rattle.std.proofs.Common.{◌≡◌, ℕ, suc, ◌+◌, ◌<◌, Bool, true,
 use Rattle.dioc_terms.specs.declared.names.Role.{Role}
 use Rattle.dioc_terms.specs.declared.values.Value.{Value}
 use Rattle.dioc_terms.specs.Expressions.{Expression}
-use Rattle.dioc_terms.specs.Terms.{Term, Com, Set, Input, Seq, Par, If, While, Scope, constructs, mark_at}
+use Rattle.dioc_terms.specs.Terms.{Term, Com, Set, Input, Seq, Par, If, While, Scope, constructs, index_at}
 use Rattle.aioc_tokens.specs.declared.words.Word.TheVariants as word
-use Rattle.aioc_tokens.specs.declared.words.Mark.TheVariants as mark
+use Rattle.aioc_tokens.specs.declared.words.Punctuator.TheVariants as punctuator
 use Rattle.aioc_tokens.specs.declared.words.Sort.{Sort}
 use Rattle.aioc_tokens.specs.declared.words.Sort.TheVariants as sorts
 use Rattle.aioc_tokens.specs.Lexemes.{Lexeme, Name, Reserved, Symbol, sort_of}
@@ -17,7 +17,7 @@ use Rattle.expr_syntax.specs.declared.levels.Level.TheVariants.{Disjunction}
 use Rattle.expr_syntax.proofs.LeafFacts.{same_pair}
 use Rattle.expr_syntax.proofs.Tables as expressions
 use Rattle.expr_syntax.proofs.Compare as expression
-use Rattle.dioc_syntax.specs.Choreographies.{role, NamesRoles, last_role, more_roles, HasRoles, no_roles, roles, GivesProperties, last_property, more_properties, HasProperties, no_properties, empty_properties, properties, Form, Choreography, Sequence, Step, Stands, one_part, beside, one_step, last_step, in_turn, nothing, interaction, input, assignment, choice, loop, scope, group, block, no_else, otherwise}
+use Rattle.dioc_syntax.specs.Choreographies.{role, NamesRoles, last_role, more_roles, NamesRoles, no_roles, roles, GivesProperties, last_property, more_properties, HasProperties, no_properties, empty_properties, properties, Form, Choreography, Sequence, Step, Stands, one_part, beside, one_step, last_step, in_turn, nothing, interaction, input, assignment, choice, loop, scope, group, block, no_else, otherwise}
 use Rattle.dioc_syntax.proofs.Shorter.{named_shorter, given_shorter, properties_shorter, stands_shorter}
 use Rattle.dioc_syntax.proofs.Tables.{is_else, is_prop, is_name, is_comma, begins_step, step_goes, sequence_goes, choreography_goes, goes, else_step, prop_step, name_step, operator_step, step_sequence, first_sequence, sequence_choreography}
 
@@ -85,11 +85,11 @@ named_compared (last_role {to = to} {name = name} begins) from2 end other from_i
     let rests : to ≡ end = cc in
     same (λ i. role (names i) ∷ []) rests
 named_compared (last_role {to = to} begins) from2 end other from_is (more_roles {others = others2} begins2 r2) =
-    let at : to ≡ Symbol mark.Comma ∷ others2 = cc in
+    let at : to ≡ Symbol punctuator.Comma ∷ others2 = cc in
     let less = named_shorter r2 in
     further (omega (arith, ap length at)) (ap (λ rest. is_comma (sort_of rest)) at)
 named_compared (more_roles {others = others} begins r) from2 end other from_is (last_role begins2) =
-    let at : end ≡ Symbol mark.Comma ∷ others = cc in
+    let at : end ≡ Symbol punctuator.Comma ∷ others = cc in
     let less = named_shorter r in
     nearer (omega (arith, ap length at)) (ap (λ rest. is_comma (sort_of rest)) at)
 named_compared (more_roles {others = others} {name = name} begins r) from2 end other from_is (more_roles {others = others2} {name = name2} {rest = rest2} begins2 r2) =
@@ -97,7 +97,7 @@ named_compared (more_roles {others = others} {name = name} begins r) from2 end o
     let others_are : others ≡ others2 = cc in
     widen (λ sort is. is) (λ is i. role (names i) ∷ is i) (named_compared r others2 end rest2 others_are r2)
 
-pub roles_compared : {version : ℕ} {from to : List Lexeme} {extra : List Role} → HasRoles version from extra to → (from2 end : List Lexeme) (other : List Role) → from ≡ from2 → HasRoles version from2 other end
+pub roles_compared : {version : ℕ} {from to : List Lexeme} {extra : List Role} → NamesRoles version from extra to → (from2 end : List Lexeme) (other : List Role) → from ≡ from2 → NamesRoles version from2 other end
     → Compared is_name extra other to end
 roles_compared no_roles from2 end other from_is no_roles = same refl from_is
 roles_compared no_roles from2 end other from_is (roles two begins r ends) =
@@ -154,13 +154,13 @@ properties_compared (empty_properties begins) from2 end other from_is no_propert
     nearer (omega (arith, ap length from_is, ap length begins)) (ap (λ rest. is_prop (sort_of rest)) (sym from_is ∙ begins))
 properties_compared (empty_properties begins) from2 end other from_is (empty_properties begins2) = same refl cc
 properties_compared (empty_properties {to = to} begins) from2 end other from_is (properties {inside = inside2} begins2 r2 ends2) =
-    let inside : inside2 ≡ Symbol mark.RightBrace ∷ to = cc in
+    let inside : inside2 ≡ Symbol punctuator.RightBrace ∷ to = cc in
     absurd (cc (given_begins r2, ap sort_of inside))
 properties_compared (properties begins r ends) from2 end other from_is no_properties =
     let less = given_shorter r in
     nearer (omega (arith, ap length from_is, ap length begins, ap length ends)) (ap (λ rest. is_prop (sort_of rest)) (sym from_is ∙ begins))
 properties_compared (properties {inside = inside} begins r ends) from2 end other from_is (empty_properties begins2) =
-    let inside2 : inside ≡ Symbol mark.RightBrace ∷ end = cc in
+    let inside2 : inside ≡ Symbol punctuator.RightBrace ∷ end = cc in
     absurd (cc (given_begins r, ap sort_of inside2))
 properties_compared (properties {inside = inside} begins r ends) from2 end other from_is (properties {inside = inside2} {behind = behind2} begins2 r2 ends2) =
     let insides : inside ≡ inside2 = cc in
@@ -175,7 +175,7 @@ ends_there going (properties begins r ends) = absurd cc
 
 -- the two optional parts behind a scope
 scope_tail : {version : ℕ} {whole other : Term} {behind behind2 after after2 to end : List Lexeme} {extra extra2 : List Role} {props props2 : List (List ℕ × Value)} → behind ≡ behind2
-    → HasRoles version behind extra after → HasProperties after props to → HasRoles version behind2 extra2 after2 → HasProperties after2 props2 end → (extra ≡ extra2 → props ≡ props2 → whole ≡ other)
+    → NamesRoles version behind extra after → HasProperties after props to → NamesRoles version behind2 extra2 after2 → HasProperties after2 props2 end → (extra ≡ extra2 → props ≡ props2 → whole ≡ other)
     → Compared step_goes whole other to end
 scope_tail {whole = whole} {other = other} {behind2 = behind2} {after = after} {after2 = after2} {to = to} {end = end} {extra = extra} {extra2 = extra2} {props2 = props2} at named given named2 given2 parts = go (roles_compared named behind2 after2 extra2 at named2)
   where
@@ -222,8 +222,8 @@ step_begins r = stands_begins r refl
 pub sequence_begins : {version room earlier : ℕ} {from to : List Lexeme} {whole : Term} → Stands version Sequence room earlier from whole to → begins_step (sort_of from) ≡ true
 sequence_begins r = stands_begins r refl
 
-pub input_given : (from : List Lexeme) (inside : List Lexeme) (variable owner variable2 owner2 : List ℕ) (given : List Lexeme) → from ≡ Name variable ∷ Symbol mark.At ∷ Name owner ∷ Symbol mark.Equal ∷ Reserved word.Input ∷ inside
-    → from ≡ Name variable2 ∷ Symbol mark.At ∷ Name owner2 ∷ Symbol mark.Equal ∷ given → given ≡ Reserved word.Input ∷ inside
+pub input_given : (from : List Lexeme) (inside : List Lexeme) (variable owner variable2 owner2 : List ℕ) (given : List Lexeme) → from ≡ Name variable ∷ Symbol punctuator.At ∷ Name owner ∷ Symbol punctuator.Equal ∷ Reserved word.Input ∷ inside
+    → from ≡ Name variable2 ∷ Symbol punctuator.At ∷ Name owner2 ∷ Symbol punctuator.Equal ∷ given → given ≡ Reserved word.Input ∷ inside
 input_given from inside variable owner variable2 owner2 given begins begins2 = cc
 
 pub compare : {version : ℕ} {form : Form} {room earlier : ℕ} {from to : List Lexeme} {whole : Term} → Stands version form room earlier from whole to → (room2 earlier2 : ℕ) (from2 end : List Lexeme) (other : Term)
@@ -280,12 +280,12 @@ compare {earlier = earlier} (interaction {left = left} {sent = sent} {received =
     let operations : operation ≡ operation2 = cc in
     let senders : sender ≡ sender2 = cc in
     let both = settle (expression_compared {room = left} {room2 = left2} (omega arith) sents is is2) (ap (λ rest. expressions.goes kind.Step Disjunction (sort_of rest)) ends) (ap (λ rest. expressions.goes kind.Step Disjunction (sort_of rest)) ends2) in
-    let tails : Symbol mark.RightParen ∷ Symbol mark.Arrow ∷ Name receiver ∷ Symbol mark.LeftParen ∷ Name variable ∷ Symbol mark.RightParen ∷ to
-    ≡ Symbol mark.RightParen ∷ Symbol mark.Arrow ∷ Name receiver2 ∷ Symbol mark.LeftParen ∷ Name variable2 ∷ Symbol mark.RightParen ∷ end = sym ends ∙ both.1 ∙ ends2 in
+    let tails : Symbol punctuator.RightParen ∷ Symbol punctuator.Arrow ∷ Name receiver ∷ Symbol punctuator.LeftParen ∷ Name variable ∷ Symbol punctuator.RightParen ∷ to
+    ≡ Symbol punctuator.RightParen ∷ Symbol punctuator.Arrow ∷ Name receiver2 ∷ Symbol punctuator.LeftParen ∷ Name variable2 ∷ Symbol punctuator.RightParen ∷ end = sym ends ∙ both.1 ∙ ends2 in
     let receivers : receiver ≡ receiver2 = cc in
     let variables : variable ≡ variable2 = cc in
     let rests : to ≡ end = cc in
-    same (λ i. Com (mark_at (earlier_is i)) (operations i) (role (senders i)) (both.0 i) (role (receivers i)) (variables i)) rests
+    same (λ i. Com (index_at (earlier_is i)) (operations i) (role (senders i)) (both.0 i) (role (receivers i)) (variables i)) rests
 compare (interaction rooms begins is ends) room2 earlier2 from2 end other room_is earlier_is from_is (input rooms2 begins2) = absurd cc
 compare (interaction rooms begins is ends) room2 earlier2 from2 end other room_is earlier_is from_is (assignment begins2 is2) = absurd cc
 compare (interaction rooms begins is ends) room2 earlier2 from2 end other room_is earlier_is from_is (choice begins2 is2 head2 r2 s2) = absurd cc
@@ -298,9 +298,9 @@ compare (input {to = to} {variable = variable} {owner = owner} rooms begins) roo
     let variables : variable ≡ variable2 = cc in
     let owners : owner ≡ owner2 = cc in
     let rests : to ≡ end = cc in
-    same (λ i. Input (mark_at (earlier_is i)) (variables i) (role (owners i))) rests
+    same (λ i. Input (index_at (earlier_is i)) (variables i) (role (owners i))) rests
 compare (input {to = to} {variable = variable} {owner = owner} rooms begins) room2 earlier2 from2 end other room_is earlier_is from_is (assignment {given = given2} {variable = variable2} {owner = owner2} begins2 is2) =
-    absurd (no_input is2.reads (Symbol mark.LeftParen ∷ Symbol mark.RightParen ∷ to) (input_given from2 _ variable owner variable2 owner2 given2 (sym from_is ∙ begins) begins2))
+    absurd (no_input is2.reads (Symbol punctuator.LeftParen ∷ Symbol punctuator.RightParen ∷ to) (input_given from2 _ variable owner variable2 owner2 given2 (sym from_is ∙ begins) begins2))
 compare (input rooms begins) room2 earlier2 from2 end other room_is earlier_is from_is (choice begins2 is2 head2 r2 s2) = absurd cc
 compare (input rooms begins) room2 earlier2 from2 end other room_is earlier_is from_is (loop begins2 is2 head2 r2) = absurd cc
 compare (input rooms begins) room2 earlier2 from2 end other room_is earlier_is from_is (scope begins2 r2 named2 given2) = absurd cc
@@ -308,12 +308,12 @@ compare (input rooms begins) room2 earlier2 from2 end other room_is earlier_is f
 compare (assignment begins is) room2 earlier2 from2 end other room_is earlier_is from_is (nothing begins2) = absurd cc
 compare (assignment begins is) room2 earlier2 from2 end other room_is earlier_is from_is (interaction rooms2 begins2 is2 ends2) = absurd cc
 compare (assignment {given = given} {variable = variable} {owner = owner} begins is) room2 earlier2 from2 end other room_is earlier_is from_is (input {variable = variable2} {owner = owner2} rooms2 begins2) =
-    absurd (no_input is.reads (Symbol mark.LeftParen ∷ Symbol mark.RightParen ∷ end) (input_given from2 _ variable2 owner2 variable owner given begins2 (sym from_is ∙ begins)))
+    absurd (no_input is.reads (Symbol punctuator.LeftParen ∷ Symbol punctuator.RightParen ∷ end) (input_given from2 _ variable2 owner2 variable owner given begins2 (sym from_is ∙ begins)))
 compare (assignment {given = given} {variable = variable} {owner = owner} begins is) room2 earlier2 from2 end other room_is earlier_is from_is (assignment {given = given2} {variable = variable2} {owner = owner2} begins2 is2) =
     let givens : given ≡ given2 = cc in
     let variables : variable ≡ variable2 = cc in
     let owners : owner ≡ owner2 = cc in
-    widen operator_step (λ values i. Set (mark_at (earlier_is i)) (variables i) (role (owners i)) (values i)) (expression_compared room_is givens is is2)
+    widen operator_step (λ values i. Set (index_at (earlier_is i)) (variables i) (role (owners i)) (values i)) (expression_compared room_is givens is is2)
 compare (assignment begins is) room2 earlier2 from2 end other room_is earlier_is from_is (choice begins2 is2 head2 r2 s2) = absurd cc
 compare (assignment begins is) room2 earlier2 from2 end other room_is earlier_is from_is (loop begins2 is2 head2 r2) = absurd cc
 compare (assignment begins is) room2 earlier2 from2 end other room_is earlier_is from_is (scope begins2 r2 named2 given2) = absurd cc
@@ -326,11 +326,11 @@ compare (choice {guarded = guarded} {head = head} {body = body} {behind = behind
     room2 earlier2 from2 end other room_is earlier_is from_is (choice {guarded = guarded2} {head = head2} {body = body2} {behind = behind2} {leader = leader2} {first = first2} {second = second2} begins2 is2 heads2 r2 s2) =
     let guards_at : guarded ≡ guarded2 = cc in
     let guards = settle (expression_compared room_is guards_at is is2) (ap (λ rest. expressions.goes kind.Step Disjunction (sort_of rest)) heads) (ap (λ rest. expressions.goes kind.Step Disjunction (sort_of rest)) heads2) in
-    let tails : Symbol mark.At ∷ Name leader ∷ body ≡ Symbol mark.At ∷ Name leader2 ∷ body2 = sym heads ∙ guards.1 ∙ heads2 in
+    let tails : Symbol punctuator.At ∷ Name leader ∷ body ≡ Symbol punctuator.At ∷ Name leader2 ∷ body2 = sym heads ∙ guards.1 ∙ heads2 in
     let leaders : leader ≡ leader2 = cc in
     let bodies : body ≡ body2 = cc in
     let firsts = settle (compare r room2 (suc earlier2) body2 behind2 first2 room_is (ap suc earlier_is) bodies r2) refl refl in
-    widen else_step (λ seconds i. If (mark_at (earlier_is i)) (role (leaders i)) (guards.0 i) (firsts.0 i) (seconds i))
+    widen else_step (λ seconds i. If (index_at (earlier_is i)) (role (leaders i)) (guards.0 i) (firsts.0 i) (seconds i))
     (compare s room2 (suc earlier2 + constructs first2) behind2 end second2 room_is (omega (arith, ap constructs firsts.0)) firsts.1 s2)
 compare (choice begins is head r s) room2 earlier2 from2 end other room_is earlier_is from_is (loop begins2 is2 head2 r2) = absurd cc
 compare (choice begins is head r s) room2 earlier2 from2 end other room_is earlier_is from_is (scope begins2 r2 named2 given2) = absurd cc
@@ -343,11 +343,11 @@ compare (loop begins is head r) room2 earlier2 from2 end other room_is earlier_i
 compare (loop {guarded = guarded} {body = body} {leader = leader} begins is heads r) room2 earlier2 from2 end other room_is earlier_is from_is (loop {guarded = guarded2} {body = body2} {leader = leader2} {inner = inner2} begins2 is2 heads2 r2) =
     let guards_at : guarded ≡ guarded2 = cc in
     let guards = settle (expression_compared room_is guards_at is is2) (ap (λ rest. expressions.goes kind.Step Disjunction (sort_of rest)) heads) (ap (λ rest. expressions.goes kind.Step Disjunction (sort_of rest)) heads2) in
-    let tails : Symbol mark.At ∷ Name leader ∷ body ≡ Symbol mark.At ∷ Name leader2 ∷ body2 = sym heads ∙ guards.1 ∙ heads2 in
+    let tails : Symbol punctuator.At ∷ Name leader ∷ body ≡ Symbol punctuator.At ∷ Name leader2 ∷ body2 = sym heads ∙ guards.1 ∙ heads2 in
     let leaders : leader ≡ leader2 = cc in
     let bodies : body ≡ body2 = cc in
     let inners = settle (compare r room2 (suc earlier2) body2 end inner2 room_is (ap suc earlier_is) bodies r2) refl refl in
-    same (λ i. While (mark_at (earlier_is i)) (role (leaders i)) (guards.0 i) (inners.0 i)) inners.1
+    same (λ i. While (index_at (earlier_is i)) (role (leaders i)) (guards.0 i) (inners.0 i)) inners.1
 compare (loop begins is head r) room2 earlier2 from2 end other room_is earlier_is from_is (scope begins2 r2 named2 given2) = absurd cc
 compare (loop begins is head r) room2 earlier2 from2 end other room_is earlier_is from_is (group rooms2 begins2 r2 ends2) = absurd cc
 compare (scope begins r named given) room2 earlier2 from2 end other room_is earlier_is from_is (nothing begins2) = absurd cc
@@ -360,7 +360,7 @@ compare (scope {body = body} {leader = leader} begins r named given) room2 earli
     let leaders : leader ≡ leader2 = cc in
     let bodies : body ≡ body2 = cc in
     let inners = settle (compare r room2 (suc earlier2) body2 behind2 inner2 room_is (ap suc earlier_is) bodies r2) refl refl in
-    scope_tail inners.1 named given named2 given2 (λ extras props i. Scope (mark_at (earlier_is i)) (role (leaders i)) (inners.0 i) (extras i) (props i) 0)
+    scope_tail inners.1 named given named2 given2 (λ extras props i. Scope (index_at (earlier_is i)) (role (leaders i)) (inners.0 i) (extras i) (props i) 0)
 compare (scope begins r named given) room2 earlier2 from2 end other room_is earlier_is from_is (group rooms2 begins2 r2 ends2) = absurd cc
 compare (group rooms begins r ends) room2 earlier2 from2 end other room_is earlier_is from_is (nothing begins2) = absurd cc
 compare (group rooms begins r ends) room2 earlier2 from2 end other room_is earlier_is from_is (interaction rooms2 begins2 is2 ends2) = absurd cc

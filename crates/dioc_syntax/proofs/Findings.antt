@@ -3,10 +3,10 @@ use Rattle.std.proofs.Common.{◌≡◌, ◌≢◌, ℕ, suc, ◌+◌, ◌-◌, 
 use Rattle.dioc_terms.specs.declared.names.Role.{Role}
 use Rattle.dioc_terms.specs.declared.expressions.Expr.{Expr}
 use Rattle.dioc_terms.specs.Expressions.{expression}
-use Rattle.dioc_terms.specs.Terms.{Skip, Seq, Par, If, While, Scope, term, constructs, depth, mark_at}
+use Rattle.dioc_terms.specs.Terms.{Skip, Seq, Par, If, While, Scope, term, constructs, depth, index_at}
 use Rattle.aioc_tokens.specs.declared.words.Sort.TheVariants as sorts
 use Rattle.aioc_tokens.specs.declared.words.Word.TheVariants as word
-use Rattle.aioc_tokens.specs.declared.words.Mark.TheVariants as mark
+use Rattle.aioc_tokens.specs.declared.words.Punctuator.TheVariants as punctuator
 use Rattle.aioc_tokens.specs.Lexemes.{Lexeme, sort_of}
 use Rattle.aioc_tokens.specs.Fronts.{Longest, NoFront}
 use Rattle.expr_syntax.specs.Grammar.{ExpressionAt}
@@ -16,7 +16,7 @@ use Rattle.dioc_syntax.specs.declared.found.ScopeParts.{ScopeParts}
 use Rattle.dioc_syntax.specs.declared.guards.Guard.{Guard}
 use Rattle.dioc_syntax.specs.Choreographies.{Choreography, Sequence, Step, Block, Otherwise, IsShallow}
 use Rattle.dioc_syntax.specs.Readers.{led_by, LeaderAt, IsGuard, NoGuard, no_expression, no_leader, ScopePartsAt, Finds, one_behind}
-use Rattle.dioc_syntax.proofs.Fronts.{no_mark, no_depth, no_second, choreography_alone, choreography_beside, sequence_alone, sequence_last, sequence_turn, block_front, block_none, block_room, block_open, else_missing, else_open, else_front}
+use Rattle.dioc_syntax.proofs.Fronts.{no_punctuator, no_depth, no_second, choreography_alone, choreography_beside, sequence_alone, sequence_last, sequence_turn, block_front, block_none, block_room, block_open, else_missing, else_open, else_front}
 use Rattle.dioc_syntax.proofs.StepFronts.{skip_front, choice_front, choice_guard, choice_head, choice_body, loop_front, loop_guard, loop_head, loop_body, scope_front, scope_head, scope_body, group_front, group_none, group_room, group_open}
 use Rattle.dioc_syntax.proofs.HeadSorts.{symbol_here, reserved_here, within_here, leader_begins}
 
@@ -27,17 +27,17 @@ module _ (room : ℕ) (text : List Lexeme) (at : ℕ) where
 
 module _ (version room deep earlier : ℕ) (text : List Lexeme) (at : ℕ) where
   -- sequences side by side
-  pub bar_missing : (first : FoundChoreo) → Finds (IsShallow version Sequence room deep earlier) 1 deep earlier text at first → sort_of (drop first.at text) ≢ sorts.Symbol mark.Bar
+  pub bar_missing : (first : FoundChoreo) → Finds (IsShallow version Sequence room deep earlier) 1 deep earlier text at first → sort_of (drop first.at text) ≢ sorts.Symbol punctuator.Bar
       → Finds (IsShallow version Choreography room deep earlier) 1 deep earlier text at first
-  bar_missing first one other = record { front = choreography_alone one.front (no_mark other); depth = one.depth; shallow = one.shallow; next = one.next; few = one.few; after = one.after; within = one.within }
+  bar_missing first one other = record { front = choreography_alone one.front (no_punctuator other); depth = one.depth; shallow = one.shallow; next = one.next; few = one.few; after = one.after; within = one.within }
 
   pub bar_deep : (first : FoundChoreo) → Finds (IsShallow version Sequence room deep earlier) 1 deep earlier text at first → first.depth ≡ deep → Finds (IsShallow version Choreography room deep earlier) 1 deep earlier text at first
   bar_deep first one full = record { front = choreography_alone one.front (no_depth (sym one.depth ∙ full)); depth = one.depth; shallow = one.shallow; next = one.next; few = one.few; after = one.after; within = one.within }
 
-  pub bar_open : (first : FoundChoreo) → Finds (IsShallow version Sequence room deep earlier) 1 deep earlier text at first → sort_of (drop first.at text) ≡ sorts.Symbol mark.Bar
+  pub bar_open : (first : FoundChoreo) → Finds (IsShallow version Sequence room deep earlier) 1 deep earlier text at first → sort_of (drop first.at text) ≡ sorts.Symbol punctuator.Bar
       → NoFront (IsShallow version Choreography room (deep - 1) first.next (drop (first.at + 1) text)) → Finds (IsShallow version Choreography room deep earlier) 1 deep earlier text at first
   bar_open first one sort none = record {
-    front = choreography_alone one.front (no_second (drop (first.at + 1) text) (symbol_here text mark.Bar first.at (first.at + 1) refl sort) (subst (λ n. NoFront (IsShallow version Choreography room (deep - 1) n (drop (first.at + 1) text))) one.next none));
+    front = choreography_alone one.front (no_second (drop (first.at + 1) text) (symbol_here text punctuator.Bar first.at (first.at + 1) refl sort) (subst (λ n. NoFront (IsShallow version Choreography room (deep - 1) n (drop (first.at + 1) text))) one.next none));
     depth = one.depth;
     shallow = one.shallow;
     next = one.next;
@@ -46,7 +46,7 @@ module _ (version room deep earlier : ℕ) (text : List Lexeme) (at : ℕ) where
     within = one.within;
   }
 
-  pub bar_found : (first second both : FoundChoreo) → Finds (IsShallow version Sequence room deep earlier) 1 deep earlier text at first → sort_of (drop first.at text) ≡ sorts.Symbol mark.Bar → first.depth ≢ deep
+  pub bar_found : (first second both : FoundChoreo) → Finds (IsShallow version Sequence room deep earlier) 1 deep earlier text at first → sort_of (drop first.at text) ≡ sorts.Symbol punctuator.Bar → first.depth ≢ deep
       → Finds (IsShallow version Choreography room (deep - 1) first.next) 1 (deep - 1) first.next text (first.at + 1) second → term both.choreo ≡ Par (term first.choreo) (term second.choreo)
       → both.depth ≡ suc (max first.depth second.depth) → both.at ≡ second.at → both.next ≡ second.next → Finds (IsShallow version Choreography room deep earlier) 1 deep earlier text at both
   bar_found first second both one sort deeper two joins deep_is at_is next_is =
@@ -61,7 +61,7 @@ module _ (version room deep earlier : ℕ) (text : List Lexeme) (at : ℕ) where
       let next1 = one.next in
       let next2 = two.next in
       record {
-        front = rw (joins, at_is) (choreography_beside one.front (symbol_here text mark.Bar first.at (first.at + 1) refl sort) (omega arith)
+        front = rw (joins, at_is) (choreography_beside one.front (symbol_here text punctuator.Bar first.at (first.at + 1) refl sort) (omega arith)
             (subst (λ n. Longest (IsShallow version Choreography room (deep - 1) n (drop (first.at + 1) text)) (term second.choreo) (drop second.at text)) one.next two.front));
         depth = deep_is ∙ omega arith ∙ sym (ap depth joins);
         shallow = omega arith;
@@ -72,18 +72,18 @@ module _ (version room deep earlier : ℕ) (text : List Lexeme) (at : ℕ) where
       }
 
   -- steps one after another
-  pub semicolon_missing : (first : FoundChoreo) → Finds (IsShallow version Step room deep earlier) 1 deep earlier text at first → sort_of (drop first.at text) ≢ sorts.Symbol mark.Semicolon
+  pub semicolon_missing : (first : FoundChoreo) → Finds (IsShallow version Step room deep earlier) 1 deep earlier text at first → sort_of (drop first.at text) ≢ sorts.Symbol punctuator.Semicolon
       → Finds (IsShallow version Sequence room deep earlier) 1 deep earlier text at first
   semicolon_missing first one other = record { front = sequence_alone one.front other; depth = one.depth; shallow = one.shallow; next = one.next; few = one.few; after = one.after; within = one.within }
 
-  pub semicolon_deep : (first : FoundChoreo) → Finds (IsShallow version Step room deep earlier) 1 deep earlier text at first → sort_of (drop first.at text) ≡ sorts.Symbol mark.Semicolon → first.depth ≡ deep
+  pub semicolon_deep : (first : FoundChoreo) → Finds (IsShallow version Step room deep earlier) 1 deep earlier text at first → sort_of (drop first.at text) ≡ sorts.Symbol punctuator.Semicolon → first.depth ≡ deep
       → Finds (IsShallow version Sequence room deep earlier) 1 deep earlier text at (one_behind first)
   semicolon_deep first one sort full =
-      let inside = within_here text mark.Semicolon first.at sort in
+      let inside = within_here text punctuator.Semicolon first.at sort in
       let few1 = one.few in
       let after1 = one.after in
       record {
-        front = sequence_last one.front (symbol_here text mark.Semicolon first.at (first.at + 1) refl sort) (no_depth (sym one.depth ∙ full));
+        front = sequence_last one.front (symbol_here text punctuator.Semicolon first.at (first.at + 1) refl sort) (no_depth (sym one.depth ∙ full));
         depth = one.depth;
         shallow = one.shallow;
         next = one.next;
@@ -92,14 +92,14 @@ module _ (version room deep earlier : ℕ) (text : List Lexeme) (at : ℕ) where
         within = omega arith;
       }
 
-  pub semicolon_open : (first : FoundChoreo) → Finds (IsShallow version Step room deep earlier) 1 deep earlier text at first → sort_of (drop first.at text) ≡ sorts.Symbol mark.Semicolon
+  pub semicolon_open : (first : FoundChoreo) → Finds (IsShallow version Step room deep earlier) 1 deep earlier text at first → sort_of (drop first.at text) ≡ sorts.Symbol punctuator.Semicolon
       → NoFront (IsShallow version Sequence room (deep - 1) first.next (drop (first.at + 1) text))
       → Finds (IsShallow version Sequence room deep earlier) 1 deep earlier text at (one_behind first)
   semicolon_open first one sort none =
-      let inside = within_here text mark.Semicolon first.at sort in
+      let inside = within_here text punctuator.Semicolon first.at sort in
       let few1 = one.few in
       let after1 = one.after in
-      let ends = symbol_here text mark.Semicolon first.at (first.at + 1) refl sort in
+      let ends = symbol_here text punctuator.Semicolon first.at (first.at + 1) refl sort in
       record {
         front = sequence_last one.front ends (no_second (drop (first.at + 1) text) ends (subst (λ n. NoFront (IsShallow version Sequence room (deep - 1) n (drop (first.at + 1) text))) one.next none));
         depth = one.depth;
@@ -110,7 +110,7 @@ module _ (version room deep earlier : ℕ) (text : List Lexeme) (at : ℕ) where
         within = omega arith;
       }
 
-  pub semicolon_found : (first second both : FoundChoreo) → Finds (IsShallow version Step room deep earlier) 1 deep earlier text at first → sort_of (drop first.at text) ≡ sorts.Symbol mark.Semicolon → first.depth ≢ deep
+  pub semicolon_found : (first second both : FoundChoreo) → Finds (IsShallow version Step room deep earlier) 1 deep earlier text at first → sort_of (drop first.at text) ≡ sorts.Symbol punctuator.Semicolon → first.depth ≢ deep
       → Finds (IsShallow version Sequence room (deep - 1) first.next) 1 (deep - 1) first.next text (first.at + 1) second → term both.choreo ≡ Seq (term first.choreo) (term second.choreo)
       → both.depth ≡ suc (max first.depth second.depth) → both.at ≡ second.at → both.next ≡ second.next → Finds (IsShallow version Sequence room deep earlier) 1 deep earlier text at both
   semicolon_found first second both one sort deeper two joins deep_is at_is next_is =
@@ -125,7 +125,7 @@ module _ (version room deep earlier : ℕ) (text : List Lexeme) (at : ℕ) where
       let next1 = one.next in
       let next2 = two.next in
       record {
-        front = rw (joins, at_is) (sequence_turn one.front (symbol_here text mark.Semicolon first.at (first.at + 1) refl sort) (omega arith)
+        front = rw (joins, at_is) (sequence_turn one.front (symbol_here text punctuator.Semicolon first.at (first.at + 1) refl sort) (omega arith)
             (subst (λ n. Longest (IsShallow version Sequence room (deep - 1) n (drop (first.at + 1) text)) (term second.choreo) (drop second.at text)) one.next two.front));
         depth = deep_is ∙ omega arith ∙ sym (ap depth joins);
         shallow = omega arith;
@@ -137,14 +137,14 @@ module _ (version room deep earlier : ℕ) (text : List Lexeme) (at : ℕ) where
 
 module _ (version room deep earlier : ℕ) (text : List Lexeme) (at : ℕ) where
   -- groups
-  pub group_found : (inner : FoundChoreo) → 0 < room → sort_of (drop at text) ≡ sorts.Symbol mark.LeftParen → Finds (IsShallow version Choreography (room - 1) deep earlier) 1 deep earlier text (at + 1) inner
-      → sort_of (drop inner.at text) ≡ sorts.Symbol mark.RightParen → Finds (IsShallow version Step room deep earlier) 1 deep earlier text at (one_behind inner)
+  pub group_found : (inner : FoundChoreo) → 0 < room → sort_of (drop at text) ≡ sorts.Symbol punctuator.LeftParen → Finds (IsShallow version Choreography (room - 1) deep earlier) 1 deep earlier text (at + 1) inner
+      → sort_of (drop inner.at text) ≡ sorts.Symbol punctuator.RightParen → Finds (IsShallow version Step room deep earlier) 1 deep earlier text at (one_behind inner)
   group_found inner some opens one closes =
-      let inside = within_here text mark.RightParen inner.at closes in
+      let inside = within_here text punctuator.RightParen inner.at closes in
       let few1 = one.few in
       let after1 = one.after in
       record {
-        front = group_front (symbol_here text mark.LeftParen at (at + 1) refl opens) some one.front (symbol_here text mark.RightParen inner.at (inner.at + 1) refl closes);
+        front = group_front (symbol_here text punctuator.LeftParen at (at + 1) refl opens) some one.front (symbol_here text punctuator.RightParen inner.at (inner.at + 1) refl closes);
         depth = one.depth;
         shallow = one.shallow;
         next = one.next;
@@ -153,25 +153,25 @@ module _ (version room deep earlier : ℕ) (text : List Lexeme) (at : ℕ) where
         within = omega arith;
       }
 
-  pub group_missing : sort_of (drop at text) ≡ sorts.Symbol mark.LeftParen → NoFront (IsShallow version Choreography (room - 1) deep earlier (drop (at + 1) text)) → NoFront (IsShallow version Step room deep earlier (drop at text))
-  group_missing opens none = group_none (symbol_here text mark.LeftParen at (at + 1) refl opens) none
+  pub group_missing : sort_of (drop at text) ≡ sorts.Symbol punctuator.LeftParen → NoFront (IsShallow version Choreography (room - 1) deep earlier (drop (at + 1) text)) → NoFront (IsShallow version Step room deep earlier (drop at text))
+  group_missing opens none = group_none (symbol_here text punctuator.LeftParen at (at + 1) refl opens) none
 
-  pub group_unclosed : (inner : FoundChoreo) → sort_of (drop at text) ≡ sorts.Symbol mark.LeftParen → Finds (IsShallow version Choreography (room - 1) deep earlier) 1 deep earlier text (at + 1) inner
-      → sort_of (drop inner.at text) ≢ sorts.Symbol mark.RightParen → NoFront (IsShallow version Step room deep earlier (drop at text))
-  group_unclosed inner opens one unclosed = group_open (symbol_here text mark.LeftParen at (at + 1) refl opens) one.front unclosed
+  pub group_unclosed : (inner : FoundChoreo) → sort_of (drop at text) ≡ sorts.Symbol punctuator.LeftParen → Finds (IsShallow version Choreography (room - 1) deep earlier) 1 deep earlier text (at + 1) inner
+      → sort_of (drop inner.at text) ≢ sorts.Symbol punctuator.RightParen → NoFront (IsShallow version Step room deep earlier (drop at text))
+  group_unclosed inner opens one unclosed = group_open (symbol_here text punctuator.LeftParen at (at + 1) refl opens) one.front unclosed
 
-  pub group_roomless : sort_of (drop at text) ≡ sorts.Symbol mark.LeftParen → room ≡ 0 → NoFront (IsShallow version Step room deep earlier (drop at text))
-  group_roomless opens full = group_room (symbol_here text mark.LeftParen at (at + 1) refl opens) full
+  pub group_roomless : sort_of (drop at text) ≡ sorts.Symbol punctuator.LeftParen → room ≡ 0 → NoFront (IsShallow version Step room deep earlier (drop at text))
+  group_roomless opens full = group_room (symbol_here text punctuator.LeftParen at (at + 1) refl opens) full
 
   -- blocks
-  pub block_found : (inner : FoundChoreo) → 0 < room → sort_of (drop at text) ≡ sorts.Symbol mark.LeftBrace → Finds (IsShallow version Choreography (room - 1) deep earlier) 1 deep earlier text (at + 1) inner
-      → sort_of (drop inner.at text) ≡ sorts.Symbol mark.RightBrace → Finds (IsShallow version Block room deep earlier) 1 deep earlier text at (one_behind inner)
+  pub block_found : (inner : FoundChoreo) → 0 < room → sort_of (drop at text) ≡ sorts.Symbol punctuator.LeftBrace → Finds (IsShallow version Choreography (room - 1) deep earlier) 1 deep earlier text (at + 1) inner
+      → sort_of (drop inner.at text) ≡ sorts.Symbol punctuator.RightBrace → Finds (IsShallow version Block room deep earlier) 1 deep earlier text at (one_behind inner)
   block_found inner some opens one closes =
-      let inside = within_here text mark.RightBrace inner.at closes in
+      let inside = within_here text punctuator.RightBrace inner.at closes in
       let few1 = one.few in
       let after1 = one.after in
       record {
-        front = block_front some (symbol_here text mark.LeftBrace at (at + 1) refl opens) one.front (symbol_here text mark.RightBrace inner.at (inner.at + 1) refl closes);
+        front = block_front some (symbol_here text punctuator.LeftBrace at (at + 1) refl opens) one.front (symbol_here text punctuator.RightBrace inner.at (inner.at + 1) refl closes);
         depth = one.depth;
         shallow = one.shallow;
         next = one.next;
@@ -180,15 +180,15 @@ module _ (version room deep earlier : ℕ) (text : List Lexeme) (at : ℕ) where
         within = omega arith;
       }
 
-  pub block_missing : sort_of (drop at text) ≡ sorts.Symbol mark.LeftBrace → NoFront (IsShallow version Choreography (room - 1) deep earlier (drop (at + 1) text)) → NoFront (IsShallow version Block room deep earlier (drop at text))
-  block_missing opens none = block_none (drop (at + 1) text) (symbol_here text mark.LeftBrace at (at + 1) refl opens) none
+  pub block_missing : sort_of (drop at text) ≡ sorts.Symbol punctuator.LeftBrace → NoFront (IsShallow version Choreography (room - 1) deep earlier (drop (at + 1) text)) → NoFront (IsShallow version Block room deep earlier (drop at text))
+  block_missing opens none = block_none (drop (at + 1) text) (symbol_here text punctuator.LeftBrace at (at + 1) refl opens) none
 
-  pub block_unclosed : (inner : FoundChoreo) → sort_of (drop at text) ≡ sorts.Symbol mark.LeftBrace → Finds (IsShallow version Choreography (room - 1) deep earlier) 1 deep earlier text (at + 1) inner
-      → sort_of (drop inner.at text) ≢ sorts.Symbol mark.RightBrace → NoFront (IsShallow version Block room deep earlier (drop at text))
-  block_unclosed inner opens one unclosed = block_open (symbol_here text mark.LeftBrace at (at + 1) refl opens) one.front unclosed
+  pub block_unclosed : (inner : FoundChoreo) → sort_of (drop at text) ≡ sorts.Symbol punctuator.LeftBrace → Finds (IsShallow version Choreography (room - 1) deep earlier) 1 deep earlier text (at + 1) inner
+      → sort_of (drop inner.at text) ≢ sorts.Symbol punctuator.RightBrace → NoFront (IsShallow version Block room deep earlier (drop at text))
+  block_unclosed inner opens one unclosed = block_open (symbol_here text punctuator.LeftBrace at (at + 1) refl opens) one.front unclosed
 
-  pub block_roomless : sort_of (drop at text) ≡ sorts.Symbol mark.LeftBrace → room ≡ 0 → NoFront (IsShallow version Block room deep earlier (drop at text))
-  block_roomless opens full = block_room (drop (at + 1) text) full (symbol_here text mark.LeftBrace at (at + 1) refl opens)
+  pub block_roomless : sort_of (drop at text) ≡ sorts.Symbol punctuator.LeftBrace → room ≡ 0 → NoFront (IsShallow version Block room deep earlier (drop at text))
+  block_roomless opens full = block_room (drop (at + 1) text) full (symbol_here text punctuator.LeftBrace at (at + 1) refl opens)
 
   -- second branches
   pub else_absent : (found : FoundChoreo) → 0 < deep → at ≤ length text → Longest (IsShallow version Otherwise room deep earlier (drop at text)) Skip (drop at text)
@@ -234,7 +234,7 @@ module _ (version room deep earlier : ℕ) (text : List Lexeme) (at : ℕ) where
   pub choice_found : (guard : Guard) (first second whole : FoundChoreo) → 0 < deep → sort_of (drop at text) ≡ sorts.Reserved word.If → IsGuard room text (at + 1) guard
       → Finds (IsShallow version Block room (deep - 1) (earlier + 1)) 1 (deep - 1) (earlier + 1) text guard.at first
       → Finds (IsShallow version Otherwise room (deep - 1) first.next) 0 (deep - 1) first.next text first.at second
-      → term whole.choreo ≡ If (mark_at earlier) guard.leader (expression guard.expr) (term first.choreo) (term second.choreo) → whole.depth ≡ suc (max first.depth second.depth) → whole.at ≡ second.at → whole.next ≡ second.next
+      → term whole.choreo ≡ If (index_at earlier) guard.leader (expression guard.expr) (term first.choreo) (term second.choreo) → whole.depth ≡ suc (max first.depth second.depth) → whole.at ≡ second.at → whole.next ≡ second.next
       → Finds (IsShallow version Step room deep earlier) 1 deep earlier text at whole
   choice_found guard first second whole some sort guards one two joins deep_is at_is next_is =
       let depth1 = one.depth in
@@ -270,7 +270,7 @@ module _ (version room deep earlier : ℕ) (text : List Lexeme) (at : ℕ) where
       choice_body (reserved_here text word.If at (at + 1) refl sort) guards.front guards.leads (subst (λ n. NoFront (IsShallow version Block room (deep - 1) n (drop guard.at text))) (omega arith) none)
 
   pub loop_found : (guard : Guard) (inner whole : FoundChoreo) → 0 < deep → sort_of (drop at text) ≡ sorts.Reserved word.While → IsGuard room text (at + 1) guard
-      → Finds (IsShallow version Block room (deep - 1) (earlier + 1)) 1 (deep - 1) (earlier + 1) text guard.at inner → term whole.choreo ≡ While (mark_at earlier) guard.leader (expression guard.expr) (term inner.choreo)
+      → Finds (IsShallow version Block room (deep - 1) (earlier + 1)) 1 (deep - 1) (earlier + 1) text guard.at inner → term whole.choreo ≡ While (index_at earlier) guard.leader (expression guard.expr) (term inner.choreo)
       → whole.depth ≡ suc inner.depth → whole.at ≡ inner.at → whole.next ≡ inner.next → Finds (IsShallow version Step room deep earlier) 1 deep earlier text at whole
   loop_found guard inner whole some sort guards one joins deep_is at_is next_is =
       let depth1 = one.depth in
@@ -305,7 +305,7 @@ module _ (version room deep earlier : ℕ) (text : List Lexeme) (at : ℕ) where
 
   pub scope_found : (leader : Role) (inner whole : FoundChoreo) (parts : ScopeParts) → 0 < deep → sort_of (drop at text) ≡ sorts.Reserved word.Scope → LeaderAt text (at + 1) (Some leader)
       → Finds (IsShallow version Block room (deep - 1) (earlier + 1)) 1 (deep - 1) (earlier + 1) text (at + 3) inner → ScopePartsAt version text inner.at parts → parts.leader ≡ leader
-      → term whole.choreo ≡ Scope (mark_at earlier) parts.leader (term inner.choreo) parts.extra parts.props 0 → whole.depth ≡ suc inner.depth → whole.at ≡ parts.at → whole.next ≡ inner.next
+      → term whole.choreo ≡ Scope (index_at earlier) parts.leader (term inner.choreo) parts.extra parts.props 0 → whole.depth ≡ suc inner.depth → whole.at ≡ parts.at → whole.next ≡ inner.next
       → Finds (IsShallow version Step room deep earlier) 1 deep earlier text at whole
   scope_found leader inner whole parts some sort led_is one tail leader_is joins deep_is at_is next_is =
       let depth1 = one.depth in
@@ -315,7 +315,7 @@ module _ (version room deep earlier : ℕ) (text : List Lexeme) (at : ℕ) where
       let after2 = tail.after in
       let next1 = one.next in
       let leads = led leader led_is in
-      let whole_is : term whole.choreo ≡ Scope (mark_at earlier) leader (term inner.choreo) parts.extra parts.props 0 = joins ∙ ap (λ who. Scope (mark_at earlier) who (term inner.choreo) parts.extra parts.props 0) leader_is in
+      let whole_is : term whole.choreo ≡ Scope (index_at earlier) leader (term inner.choreo) parts.extra parts.props 0 = joins ∙ ap (λ who. Scope (index_at earlier) who (term inner.choreo) parts.extra parts.props 0) leader_is in
       record {
         front = rw (whole_is, at_is) (scope_front (reserved_here text word.Scope at (at + 1) refl sort) leads
             (subst (λ n. Longest (IsShallow version Block room (deep - 1) n (drop (at + 3) text)) (term inner.choreo) (drop inner.at text)) (omega arith) one.front) tail.roles tail.props);

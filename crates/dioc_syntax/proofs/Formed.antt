@@ -7,9 +7,9 @@ use Rattle.dioc_terms.specs.declared.bundles.Bundle.{Bundle}
 use Rattle.dioc_terms.specs.Bundles.{IsFormed, IsFormedTerm, IsFormedRule, is_identifier, is_constant, names_no_roles, has_no_priority, adds, numbers_from, is_formed_binding, is_formed_inputs, is_formed_timed, is_formed_entry, is_formed_last}
 use Rattle.dioc_terms.specs.Expressions.{Const}
 use Rattle.dioc_terms.specs.Supported.{IsSupported, is_one_interaction}
-use Rattle.dioc_terms.specs.Terms.{Com, mark_at}
+use Rattle.dioc_terms.specs.Terms.{Com, index_at}
 use Rattle.aioc_tokens.specs.declared.words.Word.TheVariants.{Aioc}
-use Rattle.aioc_tokens.specs.declared.words.Mark.TheVariants.{LeftBrace}
+use Rattle.aioc_tokens.specs.declared.words.Punctuator.TheVariants.{LeftBrace}
 use Rattle.aioc_tokens.specs.Lexemes.{Lexeme, Reserved, Symbol, HasLexemes}
 use Rattle.expr_syntax.proofs.ReadFormed.{CanBeWritten, identifier_valid, constant_valid, all_valid}
 use Rattle.dioc_syntax.specs.Choreographies.{role}
@@ -17,9 +17,9 @@ use Rattle.dioc_syntax.specs.Grammar.{IsBundle}
 
 -- the bundle of an interaction of valid names
 interaction_formed : (o a c x : List ℕ) (v : Value) → is_identifier o ≡ true → is_identifier a ≡ true → is_identifier c ≡ true → is_identifier x ≡ true → is_constant v ≡ true
-    → IsFormedTerm (Com (mark_at 0) o (role a) (Const v) (role c) x)
+    → IsFormedTerm (Com (index_at 0) o (role a) (Const v) (role c) x)
 interaction_formed o a c x v op sender receiver variable constant = record {
-  marks = refl;
+  punctuators = refl;
   parts = λ j. op j && sender j && (constant j && true) && receiver j && variable j;
   depth = omega arith;
 }

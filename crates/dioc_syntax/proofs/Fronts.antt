@@ -2,8 +2,8 @@
 use Rattle.std.proofs.Common.{◌≡◌, ◌≢◌, ℕ, suc, ◌+◌, ◌-◌, ◌<◌, ◌≤◌, false, List, ◌∷◌, length, refl, ap, sym, ◌∙◌, subst, arith}
 use Rattle.dioc_terms.specs.Terms.{Term, Skip, Seq, Par, If, While, Scope, constructs, depth}
 use Rattle.aioc_tokens.specs.declared.words.Word.TheVariants as word
-use Rattle.aioc_tokens.specs.declared.words.Mark.{Mark}
-use Rattle.aioc_tokens.specs.declared.words.Mark.TheVariants as mark
+use Rattle.aioc_tokens.specs.declared.words.Punctuator.{Punctuator}
+use Rattle.aioc_tokens.specs.declared.words.Punctuator.TheVariants as punctuator
 use Rattle.aioc_tokens.specs.declared.words.Sort.TheVariants as sorts
 use Rattle.aioc_tokens.specs.Lexemes.{Lexeme, Reserved, Symbol, sort_of}
 use Rattle.aioc_tokens.specs.Fronts.{Longest, NoFront}
@@ -52,13 +52,13 @@ pub moved : {version : ℕ} {form : Form} {room room2 deep earlier earlier2 : �
 moved {version} {form} {room} {room2} {deep} {earlier} {earlier2} {from} {from2} {to} {whole} rooms places lists is =
     subst (λ n. IsShallow version form n deep earlier2 from2 whole to) rooms (subst (λ n. IsShallow version form room deep n from2 whole to) places (subst (λ list. IsShallow version form room deep earlier list whole to) lists is))
 
--- No second part follows the first: its mark doesn't stand there, or nothing may be deeper, or nothing of the form stands behind the mark.
-pub record NoSecond (version : ℕ) (form : Form) (sign : Mark) (room deep earlier : ℕ) (first : Term) (from : List Lexeme) : Type 0 where
+-- No second part follows the first: its punctuator doesn't stand there, or nothing may be deeper, or nothing of the form stands behind the punctuator.
+pub record NoSecond (version : ℕ) (form : Form) (sign : Punctuator) (room deep earlier : ℕ) (first : Term) (from : List Lexeme) : Type 0 where
   pub none : (second : Term) (behind end : List Lexeme) → from ≡ Symbol sign ∷ behind → suc (depth first) ≤ deep → IsShallow version form room (deep - 1) (earlier + constructs first) behind second end → ⊥
 
-module _ {version : ℕ} {form : Form} {sign : Mark} {room deep earlier : ℕ} {first : Term} {from : List Lexeme} where
-  pub no_mark : sort_of from ≢ sorts.Symbol sign → NoSecond version form sign room deep earlier first from
-  no_mark other = record { none = λ second behind end begins deeper is. other (ap sort_of begins) }
+module _ {version : ℕ} {form : Form} {sign : Punctuator} {room deep earlier : ℕ} {first : Term} {from : List Lexeme} where
+  pub no_punctuator : sort_of from ≢ sorts.Symbol sign → NoSecond version form sign room deep earlier first from
+  no_punctuator other = record { none = λ second behind end begins deeper is. other (ap sort_of begins) }
 
   pub no_depth : depth first ≡ deep → NoSecond version form sign room deep earlier first from
   no_depth full = record { none = λ second behind end begins deeper is. omega arith }
@@ -81,7 +81,7 @@ module _ {version room deep earlier : ℕ} {from : List Lexeme} where
       go other end shallow (one_part r) = none other end (record { stands = r; shallow = shallow })
       go other end shallow (beside {middle = middle} {first = first} {second = second} r ends s) = let depths = par_depth first second deep shallow in none first middle (record { stands = r; shallow = omega (arith, depths.0) })
 
-  pub choreography_alone : {first : Term} {middle : List Lexeme} → Longest (IsShallow version Sequence room deep earlier from) first middle → NoSecond version Choreography mark.Bar room deep earlier first middle
+  pub choreography_alone : {first : Term} {middle : List Lexeme} → Longest (IsShallow version Sequence room deep earlier from) first middle → NoSecond version Choreography punctuator.Bar room deep earlier first middle
       → Longest (IsShallow version Choreography room deep earlier from) first middle
   choreography_alone {first} {middle} front none = record { reads = record { stands = one_part front.reads.stands; shallow = front.reads.shallow }; longest = λ other end is. go other end is.shallow is.stands }
     where
@@ -92,7 +92,7 @@ module _ {version room deep earlier : ℕ} {from : List Lexeme} where
           let both = settled front (record { stands = r; shallow = omega (arith, depths.0) }) (ap (λ rest. sequence_goes (sort_of rest)) ends) in
           absurd (none.none second2 behind2 end (both.1 ∙ ends) (omega (arith, depths.0, ap depth both.0)) (moved refl (omega (arith, ap constructs both.0)) refl (record { stands = s; shallow = depths.1 })))
 
-  pub choreography_beside : {first second : Term} {middle behind to : List Lexeme} → Longest (IsShallow version Sequence room deep earlier from) first middle → middle ≡ Symbol mark.Bar ∷ behind → suc (depth first) ≤ deep
+  pub choreography_beside : {first second : Term} {middle behind to : List Lexeme} → Longest (IsShallow version Sequence room deep earlier from) first middle → middle ≡ Symbol punctuator.Bar ∷ behind → suc (depth first) ≤ deep
       → Longest (IsShallow version Choreography room (deep - 1) (earlier + constructs first) behind) second to → Longest (IsShallow version Choreography room deep earlier from) (Par first second) to
   choreography_beside {first} {second} {middle} {behind} {to} front ends deeper rest = record {
     reads = record { stands = beside front.reads.stands ends rest.reads.stands; shallow = let less = rest.reads.shallow in omega arith };
@@ -117,7 +117,7 @@ module _ {version room deep earlier : ℕ} {from : List Lexeme} where
       go other end shallow (last_step {middle = middle} r ends) = none other middle (record { stands = r; shallow = shallow })
       go other end shallow (in_turn {middle = middle} {first = first} {second = second} r ends s) = let depths = seq_depth first second deep shallow in none first middle (record { stands = r; shallow = omega (arith, depths.0) })
 
-  pub sequence_alone : {first : Term} {middle : List Lexeme} → Longest (IsShallow version Step room deep earlier from) first middle → sort_of middle ≢ sorts.Symbol mark.Semicolon
+  pub sequence_alone : {first : Term} {middle : List Lexeme} → Longest (IsShallow version Step room deep earlier from) first middle → sort_of middle ≢ sorts.Symbol punctuator.Semicolon
       → Longest (IsShallow version Sequence room deep earlier from) first middle
   sequence_alone {first} {middle} front other = record { reads = record { stands = one_step front.reads.stands; shallow = front.reads.shallow }; longest = λ other end is. go other end is.shallow is.stands }
     where
@@ -131,8 +131,8 @@ module _ {version room deep earlier : ℕ} {from : List Lexeme} where
           let both = settled front (record { stands = r; shallow = omega (arith, depths.0) }) (ap (λ rest. step_goes (sort_of rest)) ends) in
           absurd (other (ap sort_of (both.1 ∙ ends)))
 
-  pub sequence_last : {first : Term} {middle behind : List Lexeme} → Longest (IsShallow version Step room deep earlier from) first middle → middle ≡ Symbol mark.Semicolon ∷ behind
-      → NoSecond version Sequence mark.Semicolon room deep earlier first middle → Longest (IsShallow version Sequence room deep earlier from) first behind
+  pub sequence_last : {first : Term} {middle behind : List Lexeme} → Longest (IsShallow version Step room deep earlier from) first middle → middle ≡ Symbol punctuator.Semicolon ∷ behind
+      → NoSecond version Sequence punctuator.Semicolon room deep earlier first middle → Longest (IsShallow version Sequence room deep earlier from) first behind
   sequence_last {first} {middle} {behind} front ends none = record { reads = record { stands = last_step front.reads.stands ends; shallow = front.reads.shallow }; longest = λ other end is. go other end is.shallow is.stands }
     where
       go : (other : Term) (end : List Lexeme) → depth other ≤ deep → Stands version Sequence room earlier from other end → length behind ≤ length end
@@ -145,7 +145,7 @@ module _ {version room deep earlier : ℕ} {from : List Lexeme} where
           let both = settled front (record { stands = r; shallow = omega (arith, depths.0) }) (ap (λ rest. step_goes (sort_of rest)) ends2) in
           absurd (none.none second2 behind2 end (both.1 ∙ ends2) (omega (arith, depths.0, ap depth both.0)) (moved refl (omega (arith, ap constructs both.0)) refl (record { stands = s; shallow = depths.1 })))
 
-  pub sequence_turn : {first second : Term} {middle behind to : List Lexeme} → Longest (IsShallow version Step room deep earlier from) first middle → middle ≡ Symbol mark.Semicolon ∷ behind → suc (depth first) ≤ deep
+  pub sequence_turn : {first second : Term} {middle behind to : List Lexeme} → Longest (IsShallow version Step room deep earlier from) first middle → middle ≡ Symbol punctuator.Semicolon ∷ behind → suc (depth first) ≤ deep
       → Longest (IsShallow version Sequence room (deep - 1) (earlier + constructs first) behind) second to → Longest (IsShallow version Sequence room deep earlier from) (Seq first second) to
   sequence_turn {first} {second} {middle} {behind} {to} front ends deeper rest = record {
     reads = record { stands = in_turn front.reads.stands ends rest.reads.stands; shallow = let less = rest.reads.shallow in omega arith };
@@ -171,19 +171,19 @@ record Blocked (version room deep earlier : ℕ) (inside : List Lexeme) (whole :
   some : 0 < room
   middle : List Lexeme
   is : IsShallow version Choreography (room - 1) deep earlier inside whole middle
-  ends : middle ≡ Symbol mark.RightBrace ∷ to
+  ends : middle ≡ Symbol punctuator.RightBrace ∷ to
 
-as_block : {version room deep earlier : ℕ} {from inside to : List Lexeme} {whole : Term} → from ≡ Symbol mark.LeftBrace ∷ inside → depth whole ≤ deep → Stands version Block room earlier from whole to
+as_block : {version room deep earlier : ℕ} {from inside to : List Lexeme} {whole : Term} → from ≡ Symbol punctuator.LeftBrace ∷ inside → depth whole ≤ deep → Stands version Block room earlier from whole to
     → Blocked version room deep earlier inside whole to
 as_block begins shallow (block {middle = middle} rooms begins2 r ends) =
     record { some = omega arith; middle = middle; is = moved (omega arith) refl (behind_is refl begins2 begins) (record { stands = r; shallow = shallow }); ends = ends }
 
-no_block : {version room earlier : ℕ} {from to : List Lexeme} {whole : Term} → sort_of from ≢ sorts.Symbol mark.LeftBrace → Stands version Block room earlier from whole to → ⊥
+no_block : {version room earlier : ℕ} {from to : List Lexeme} {whole : Term} → sort_of from ≢ sorts.Symbol punctuator.LeftBrace → Stands version Block room earlier from whole to → ⊥
 no_block other (block rooms begins r ends) = other (ap sort_of begins)
 
 module _ {version room deep earlier : ℕ} {from : List Lexeme} where
-  pub block_front : {inside middle to : List Lexeme} {whole : Term} → 0 < room → from ≡ Symbol mark.LeftBrace ∷ inside → Longest (IsShallow version Choreography (room - 1) deep earlier inside) whole middle
-      → middle ≡ Symbol mark.RightBrace ∷ to → Longest (IsShallow version Block room deep earlier from) whole to
+  pub block_front : {inside middle to : List Lexeme} {whole : Term} → 0 < room → from ≡ Symbol punctuator.LeftBrace ∷ inside → Longest (IsShallow version Choreography (room - 1) deep earlier inside) whole middle
+      → middle ≡ Symbol punctuator.RightBrace ∷ to → Longest (IsShallow version Block room deep earlier from) whole to
   block_front {inside} {middle} {to} {whole} some begins front ends = record {
     reads = record { stands = block {left = room - 1} (omega arith) begins front.reads.stands ends; shallow = front.reads.shallow };
     longest = λ other end is.
@@ -192,18 +192,18 @@ module _ {version room deep earlier : ℕ} {from : List Lexeme} where
         omega (arith, ap length (behind_is both.1 ends holds.ends));
   }
 
-  pub block_begins : sort_of from ≢ sorts.Symbol mark.LeftBrace → NoFront (IsShallow version Block room deep earlier from)
+  pub block_begins : sort_of from ≢ sorts.Symbol punctuator.LeftBrace → NoFront (IsShallow version Block room deep earlier from)
   block_begins other whole end is = no_block other is.stands
 
-  pub block_room : (inside : List Lexeme) → room ≡ 0 → from ≡ Symbol mark.LeftBrace ∷ inside → NoFront (IsShallow version Block room deep earlier from)
+  pub block_room : (inside : List Lexeme) → room ≡ 0 → from ≡ Symbol punctuator.LeftBrace ∷ inside → NoFront (IsShallow version Block room deep earlier from)
   block_room inside full begins other end is = let holds = as_block begins is.shallow is.stands in let some = holds.some in omega arith
 
-  pub block_none : (inside : List Lexeme) → from ≡ Symbol mark.LeftBrace ∷ inside → NoFront (IsShallow version Choreography (room - 1) deep earlier inside) → NoFront (IsShallow version Block room deep earlier from)
+  pub block_none : (inside : List Lexeme) → from ≡ Symbol punctuator.LeftBrace ∷ inside → NoFront (IsShallow version Choreography (room - 1) deep earlier inside) → NoFront (IsShallow version Block room deep earlier from)
   block_none inside begins none other end is = let holds = as_block begins is.shallow is.stands in none other holds.middle holds.is
 
   -- the longest choreography behind a `{` isn't followed by `}`
-  pub block_open : {inside middle : List Lexeme} {inner : Term} → from ≡ Symbol mark.LeftBrace ∷ inside → Longest (IsShallow version Choreography (room - 1) deep earlier inside) inner middle
-      → sort_of middle ≢ sorts.Symbol mark.RightBrace → NoFront (IsShallow version Block room deep earlier from)
+  pub block_open : {inside middle : List Lexeme} {inner : Term} → from ≡ Symbol punctuator.LeftBrace ∷ inside → Longest (IsShallow version Choreography (room - 1) deep earlier inside) inner middle
+      → sort_of middle ≢ sorts.Symbol punctuator.RightBrace → NoFront (IsShallow version Block room deep earlier from)
   block_open begins front unclosed other end is =
       let holds = as_block begins is.shallow is.stands in
       let both = settled front holds.is (ap (λ rest. choreography_goes (sort_of rest)) holds.ends) in

@@ -14,11 +14,11 @@ use Rattle.dioc_terms.specs.declared.names.Index.{Index}
 use Rattle.dioc_terms.specs.declared.values.Value.{Value}
 use Rattle.dioc_terms.specs.declared.values.Value.TheVariants as value
 use Rattle.dioc_terms.specs.Expressions.{Expression, Const, Var, expression_depth}
-use Rattle.dioc_terms.specs.Terms.{Term, Skip, Com, Set, Input, Seq, Par, If, While, Scope, constructs, depth, marked_from}
+use Rattle.dioc_terms.specs.Terms.{Term, Skip, Com, Set, Input, Seq, Par, If, While, Scope, constructs, depth, indexed_from}
 use Rattle.dioc_terms.specs.Names as names
 use Rattle.dioc_terms.specs.Bundles.{is_identifier, is_constant, is_formed_step, is_step_expression, is_formed_role, is_formed_binding, has_formed_parts, names_no_roles, IsFormedTerm}
 use Rattle.aioc_tokens.specs.declared.words.Word.TheVariants as word
-use Rattle.aioc_tokens.specs.declared.words.Mark.TheVariants as mark
+use Rattle.aioc_tokens.specs.declared.words.Punctuator.TheVariants as punctuator
 use Rattle.aioc_tokens.specs.declared.words.Sort.{Sort}
 use Rattle.aioc_tokens.specs.declared.words.Sort.TheVariants as sorts
 use Rattle.aioc_tokens.specs.Lexemes.{Lexeme, Name, Reserved, Symbol, sort_of, HasSpelling, HasLexemes}
@@ -36,7 +36,7 @@ use Rattle.expr_syntax.specs.declared.levels.Level.{Level}
 use Rattle.expr_syntax.specs.declared.levels.Level.TheVariants.{Disjunction, Conjunction, Negation, Comparison, Sum, Product, Unary}
 use Rattle.expr_syntax.proofs.RoundTrip.{written_all}
 use Rattle.expr_syntax.proofs.RoundTrip.{written_reads as expression_reads}
-use Rattle.dioc_syntax.specs.Choreographies.{NamesRoles, last_role, more_roles, HasRoles, no_roles, roles, GivesProperties, last_property, more_properties, HasProperties, no_properties, properties, Choreography, Sequence, Step, Block, Otherwise, Stands, one_part, beside, one_step, in_turn, nothing, interaction, input, assignment, choice, loop, scope, group, block, otherwise, IsChoreography}
+use Rattle.dioc_syntax.specs.Choreographies.{NamesRoles, last_role, more_roles, NamesRoles, no_roles, roles, GivesProperties, last_property, more_properties, HasProperties, no_properties, properties, Choreography, Sequence, Step, Block, Otherwise, Stands, one_part, beside, one_step, in_turn, nothing, interaction, input, assignment, choice, loop, scope, group, block, otherwise, IsChoreography}
 use Rattle.dioc_syntax.specs.Writing.{is_joined, is_parallel, written_names, written_roles, written_property, written_list, written_properties, written}
 use Rattle.dioc_syntax.specs.Laws.{closes, FitsVersion}
 use Rattle.dioc_syntax.proofs.Tables.{choreography_goes}
@@ -47,8 +47,8 @@ both_true : (a b : Bool) → a && b ≡ true → (a ≡ true) × (b ≡ true)
 both_true true b is = (refl, is)
 both_true false b is = absurd cc
 
--- marks don't change how many constructs there are
-constructs_marked : (n : ℕ) (whole : Term) → constructs (marked_from n whole) ≡ constructs whole
+-- punctuators don't change how many constructs there are
+constructs_marked : (n : ℕ) (whole : Term) → constructs (indexed_from n whole) ≡ constructs whole
 constructs_marked n Skip = refl
 constructs_marked n (Com index operation sender value receiver variable) = refl
 constructs_marked n (Set index variable owner value) = refl
@@ -62,11 +62,11 @@ constructs_marked n (Scope index leader inner extra props level) = ap suc (const
 -- what may stand behind an expression of a choreography
 abbrev pub quiet : Sort → Bool
 quiet sorts.End = true
-quiet (sorts.Symbol mark.RightBrace) = true
-quiet (sorts.Symbol mark.RightParen) = true
-quiet (sorts.Symbol mark.Semicolon) = true
-quiet (sorts.Symbol mark.Bar) = true
-quiet (sorts.Symbol mark.At) = true
+quiet (sorts.Symbol punctuator.RightBrace) = true
+quiet (sorts.Symbol punctuator.RightParen) = true
+quiet (sorts.Symbol punctuator.Semicolon) = true
+quiet (sorts.Symbol punctuator.Bar) = true
+quiet (sorts.Symbol punctuator.At) = true
 quiet _ = false
 
 no_operator : (level : Level) (sort : Sort) → quiet sort ≡ true → operator kind.Step level sort ≡ None
@@ -91,31 +91,31 @@ no_operator Negation sort is = none sort
 no_operator Comparison sort is = none sort is
   where
     none : (sort : Sort) → quiet sort ≡ true → operator kind.Step Comparison sort ≡ None
-    none (sorts.Symbol mark.RightBrace) is = refl
-    none (sorts.Symbol mark.RightParen) is = refl
-    none (sorts.Symbol mark.Semicolon) is = refl
-    none (sorts.Symbol mark.Bar) is = refl
-    none (sorts.Symbol mark.At) is = refl
+    none (sorts.Symbol punctuator.RightBrace) is = refl
+    none (sorts.Symbol punctuator.RightParen) is = refl
+    none (sorts.Symbol punctuator.Semicolon) is = refl
+    none (sorts.Symbol punctuator.Bar) is = refl
+    none (sorts.Symbol punctuator.At) is = refl
     none (sorts.Symbol _) is = absurd cc
     none _ is = refl
 no_operator Sum sort is = none sort is
   where
     none : (sort : Sort) → quiet sort ≡ true → operator kind.Step Sum sort ≡ None
-    none (sorts.Symbol mark.RightBrace) is = refl
-    none (sorts.Symbol mark.RightParen) is = refl
-    none (sorts.Symbol mark.Semicolon) is = refl
-    none (sorts.Symbol mark.Bar) is = refl
-    none (sorts.Symbol mark.At) is = refl
+    none (sorts.Symbol punctuator.RightBrace) is = refl
+    none (sorts.Symbol punctuator.RightParen) is = refl
+    none (sorts.Symbol punctuator.Semicolon) is = refl
+    none (sorts.Symbol punctuator.Bar) is = refl
+    none (sorts.Symbol punctuator.At) is = refl
     none (sorts.Symbol _) is = absurd cc
     none _ is = refl
 no_operator Product sort is = none sort is
   where
     none : (sort : Sort) → quiet sort ≡ true → operator kind.Step Product sort ≡ None
-    none (sorts.Symbol mark.RightBrace) is = refl
-    none (sorts.Symbol mark.RightParen) is = refl
-    none (sorts.Symbol mark.Semicolon) is = refl
-    none (sorts.Symbol mark.Bar) is = refl
-    none (sorts.Symbol mark.At) is = refl
+    none (sorts.Symbol punctuator.RightBrace) is = refl
+    none (sorts.Symbol punctuator.RightParen) is = refl
+    none (sorts.Symbol punctuator.Semicolon) is = refl
+    none (sorts.Symbol punctuator.Bar) is = refl
+    none (sorts.Symbol punctuator.At) is = refl
     none (sorts.Symbol _) is = absurd cc
     none _ is = refl
 no_operator Unary sort is = none sort
@@ -133,9 +133,9 @@ names_stand : (first : Role) (rest : List Role) (others : List Lexeme) → Names
 names_stand first [] others = last_role {name = first.0} refl
 names_stand first (next ∷ rest) others = more_roles {name = first.0} refl (names_stand next rest others)
 
-roles_stand : (version : ℕ) (extra : List Role) (others : List Lexeme) → (version ≡ 2) ⊎ (extra ≡ []) → HasRoles version (written_roles extra others) extra others
+roles_stand : (version : ℕ) (extra : List Role) (others : List Lexeme) → (version ≡ 2) ⊎ (extra ≡ []) → NamesRoles version (written_roles extra others) extra others
 roles_stand version [] others fits = no_roles
-roles_stand version (first ∷ rest) others (inl two) = roles two refl (names_stand first rest (Symbol mark.RightBrace ∷ others)) refl
+roles_stand version (first ∷ rest) others (inl two) = roles two refl (names_stand first rest (Symbol punctuator.RightBrace ∷ others)) refl
 roles_stand version (first ∷ rest) others (inr none) = absurd cc
 
 decimal_number : (most n : ℕ) → n < 2 ^ 64 → n ≤ most → number_up_to most (decimal n) ≡ Some n
@@ -161,41 +161,41 @@ list_stands first [] others is =
 list_stands first (next ∷ rest) others is =
     let parts = both_true (is_formed_binding first) (list_all is_formed_binding (next ∷ rest)) is in
     let bound = both_true (is_identifier first.0) (is_constant first.1) parts.0 in
-    more_properties {key = first.0} refl (value_stands first.1 (Symbol mark.Comma ∷ written_list (next ∷ rest) others) bound.1) refl (list_stands next rest others parts.1)
+    more_properties {key = first.0} refl (value_stands first.1 (Symbol punctuator.Comma ∷ written_list (next ∷ rest) others) bound.1) refl (list_stands next rest others parts.1)
 
 properties_stand : (props : List (List ℕ × Value)) (others : List Lexeme) → list_all is_formed_binding props ≡ true → HasProperties (written_properties props others) props others
 properties_stand [] others is = no_properties
-properties_stand (first ∷ rest) others is = properties refl (list_stands first rest (Symbol mark.RightBrace ∷ others) is) refl
+properties_stand (first ∷ rest) others is = properties refl (list_stands first rest (Symbol punctuator.RightBrace ∷ others) is) refl
 
 -- how a written choreography stands: as a step, as a sequence, and as a whole
 record StandsWritten (version room earlier : ℕ) (whole : Term) (others : List Lexeme) : Type 0 where
-  step : is_joined whole ≡ false → Stands version Step room earlier (written whole others) (marked_from earlier whole) others
-  sequence : is_parallel whole ≡ false → Stands version Sequence room earlier (written whole others) (marked_from earlier whole) others
-  full : Stands version Choreography room earlier (written whole others) (marked_from earlier whole) others
+  step : is_joined whole ≡ false → Stands version Step room earlier (written whole others) (indexed_from earlier whole) others
+  sequence : is_parallel whole ≡ false → Stands version Sequence room earlier (written whole others) (indexed_from earlier whole) others
+  full : Stands version Choreography room earlier (written whole others) (indexed_from earlier whole) others
 
-step_stands : {version room earlier : ℕ} {whole : Term} {others : List Lexeme} → Stands version Step room earlier (written whole others) (marked_from earlier whole) others → StandsWritten version room earlier whole others
+step_stands : {version room earlier : ℕ} {whole : Term} {others : List Lexeme} → Stands version Step room earlier (written whole others) (indexed_from earlier whole) others → StandsWritten version room earlier whole others
 step_stands r = record { step = λ is. r; sequence = λ is. one_step r; full = one_part (one_step r) }
 
 -- a part, in brackets where it needs them
-bracketed_stands : (version room earlier : ℕ) (whole : Term) (others : List Lexeme) → 0 < room → StandsWritten version (room - 1) earlier whole (Symbol mark.RightParen ∷ others)
-    → Stands version Step room earlier (Symbol mark.LeftParen ∷ written whole (Symbol mark.RightParen ∷ others)) (marked_from earlier whole) others
+bracketed_stands : (version room earlier : ℕ) (whole : Term) (others : List Lexeme) → 0 < room → StandsWritten version (room - 1) earlier whole (Symbol punctuator.RightParen ∷ others)
+    → Stands version Step room earlier (Symbol punctuator.LeftParen ∷ written whole (Symbol punctuator.RightParen ∷ others)) (indexed_from earlier whole) others
 bracketed_stands version room earlier whole others roomy inside = group {left = room - 1} (omega arith) refl inside.full refl
 
-block_stands : (version room earlier : ℕ) (whole : Term) (others : List Lexeme) → 0 < room → StandsWritten version (room - 1) earlier whole (Symbol mark.RightBrace ∷ others)
-    → Stands version Block room earlier (Symbol mark.LeftBrace ∷ written whole (Symbol mark.RightBrace ∷ others)) (marked_from earlier whole) others
+block_stands : (version room earlier : ℕ) (whole : Term) (others : List Lexeme) → 0 < room → StandsWritten version (room - 1) earlier whole (Symbol punctuator.RightBrace ∷ others)
+    → Stands version Block room earlier (Symbol punctuator.LeftBrace ∷ written whole (Symbol punctuator.RightBrace ∷ others)) (indexed_from earlier whole) others
 block_stands version room earlier whole others roomy inside = block {left = room - 1} (omega arith) refl inside.full refl
 
 step_part : (bracketed : Bool) (version room earlier : ℕ) (whole : Term) (others : List Lexeme) → 0 < room
-    → (bracketed ≡ false → Stands version Step room earlier (written whole others) (marked_from earlier whole) others)
-    → (bracketed ≡ true → StandsWritten version (room - 1) earlier whole (Symbol mark.RightParen ∷ others))
-    → Stands version Step room earlier (opened bracketed (written whole (closed bracketed others))) (marked_from earlier whole) others
+    → (bracketed ≡ false → Stands version Step room earlier (written whole others) (indexed_from earlier whole) others)
+    → (bracketed ≡ true → StandsWritten version (room - 1) earlier whole (Symbol punctuator.RightParen ∷ others))
+    → Stands version Step room earlier (opened bracketed (written whole (closed bracketed others))) (indexed_from earlier whole) others
 step_part false version room earlier whole others roomy simple held = simple refl
 step_part true version room earlier whole others roomy simple held = bracketed_stands version room earlier whole others roomy (held refl)
 
 sequence_part : (bracketed : Bool) (version room earlier : ℕ) (whole : Term) (others : List Lexeme) → 0 < room
-    → (bracketed ≡ false → Stands version Sequence room earlier (written whole others) (marked_from earlier whole) others)
-    → (bracketed ≡ true → StandsWritten version (room - 1) earlier whole (Symbol mark.RightParen ∷ others))
-    → Stands version Sequence room earlier (opened bracketed (written whole (closed bracketed others))) (marked_from earlier whole) others
+    → (bracketed ≡ false → Stands version Sequence room earlier (written whole others) (indexed_from earlier whole) others)
+    → (bracketed ≡ true → StandsWritten version (room - 1) earlier whole (Symbol punctuator.RightParen ∷ others))
+    → Stands version Sequence room earlier (opened bracketed (written whole (closed bracketed others))) (indexed_from earlier whole) others
 sequence_part false version room earlier whole others roomy simple held = simple refl
 sequence_part true version room earlier whole others roomy simple held = one_step (bracketed_stands version room earlier whole others roomy (held refl))
 
@@ -219,7 +219,7 @@ written_stands : (version : ℕ) (whole : Term) (room earlier : ℕ) (others : L
     → StandsWritten version room earlier whole others
 written_stands version Skip room earlier others formed fits roomy calm = step_stands (nothing refl)
 written_stands version (Com index operation sender value receiver variable) room earlier others formed fits roomy calm =
-    let tail = Symbol mark.RightParen ∷ Symbol mark.Arrow ∷ Name receiver.0 ∷ Symbol mark.LeftParen ∷ Name variable ∷ Symbol mark.RightParen ∷ others in
+    let tail = Symbol punctuator.RightParen ∷ Symbol punctuator.Arrow ∷ Name receiver.0 ∷ Symbol punctuator.LeftParen ∷ Name variable ∷ Symbol punctuator.RightParen ∷ others in
     let one = both_true (is_identifier operation && is_formed_role sender && is_formed_step value && is_formed_role receiver) (is_identifier variable) formed in
     let two = both_true (is_identifier operation && is_formed_role sender && is_formed_step value) (is_formed_role receiver) one.0 in
     let three = both_true (is_identifier operation && is_formed_role sender) (is_formed_step value) two.0 in
@@ -234,13 +234,13 @@ written_stands version (Seq first second) room earlier others formed fits roomy 
     let fits_second = fits_right version (names_no_roles first) (names_no_roles second) fits in
     let places = earlier + constructs first in
     let right = opened (is_parallel second) (written second (closed (is_parallel second) others)) in
-    let r = step_part (is_joined first) version room earlier first (Symbol mark.Semicolon ∷ right) (omega arith)
-    (λ simple. (written_stands version first room earlier (Symbol mark.Semicolon ∷ right) parts.0 fits_first (omega arith) refl).step simple)
-    (λ held. written_stands version first (room - 1) earlier (Symbol mark.RightParen ∷ Symbol mark.Semicolon ∷ right) parts.0 fits_first (omega arith) refl) in
+    let r = step_part (is_joined first) version room earlier first (Symbol punctuator.Semicolon ∷ right) (omega arith)
+    (λ simple. (written_stands version first room earlier (Symbol punctuator.Semicolon ∷ right) parts.0 fits_first (omega arith) refl).step simple)
+    (λ held. written_stands version first (room - 1) earlier (Symbol punctuator.RightParen ∷ Symbol punctuator.Semicolon ∷ right) parts.0 fits_first (omega arith) refl) in
     let s = sequence_part (is_parallel second) version room places second others (omega arith)
     (λ simple. (written_stands version second room places others parts.1 fits_second (omega arith) calm).sequence simple)
-    (λ held. written_stands version second (room - 1) places (Symbol mark.RightParen ∷ others) parts.1 fits_second (omega arith) refl) in
-    let whole = in_turn r refl (subst (λ n. Stands version Sequence room n right (marked_from places second) others) (ap (λ n. earlier + n) (sym (constructs_marked earlier first))) s) in
+    (λ held. written_stands version second (room - 1) places (Symbol punctuator.RightParen ∷ others) parts.1 fits_second (omega arith) refl) in
+    let whole = in_turn r refl (subst (λ n. Stands version Sequence room n right (indexed_from places second) others) (ap (λ n. earlier + n) (sym (constructs_marked earlier first))) s) in
     record { step = λ is. absurd cc; sequence = λ is. whole; full = one_part whole }
 written_stands version (Par first second) room earlier others formed fits roomy calm =
     let parts = both_true (has_formed_parts first) (has_formed_parts second) formed in
@@ -248,11 +248,11 @@ written_stands version (Par first second) room earlier others formed fits roomy 
     let fits_second = fits_right version (names_no_roles first) (names_no_roles second) fits in
     let places = earlier + constructs first in
     let right = written second others in
-    let r = sequence_part (is_parallel first) version room earlier first (Symbol mark.Bar ∷ right) (omega arith)
-    (λ simple. (written_stands version first room earlier (Symbol mark.Bar ∷ right) parts.0 fits_first (omega arith) refl).sequence simple)
-    (λ held. written_stands version first (room - 1) earlier (Symbol mark.RightParen ∷ Symbol mark.Bar ∷ right) parts.0 fits_first (omega arith) refl) in
+    let r = sequence_part (is_parallel first) version room earlier first (Symbol punctuator.Bar ∷ right) (omega arith)
+    (λ simple. (written_stands version first room earlier (Symbol punctuator.Bar ∷ right) parts.0 fits_first (omega arith) refl).sequence simple)
+    (λ held. written_stands version first (room - 1) earlier (Symbol punctuator.RightParen ∷ Symbol punctuator.Bar ∷ right) parts.0 fits_first (omega arith) refl) in
     let s = (written_stands version second room places others parts.1 fits_second (omega arith) calm).full in
-    let whole = beside r refl (subst (λ n. Stands version Choreography room n right (marked_from places second) others) (ap (λ n. earlier + n) (sym (constructs_marked earlier first))) s) in
+    let whole = beside r refl (subst (λ n. Stands version Choreography room n right (indexed_from places second) others) (ap (λ n. earlier + n) (sym (constructs_marked earlier first))) s) in
     record { step = λ is. absurd cc; sequence = λ is. absurd cc; full = whole }
 written_stands version (If index leader guard first second) room earlier others formed fits roomy calm =
     let one = both_true (is_formed_role leader && is_formed_step guard && has_formed_parts first) (has_formed_parts second) formed in
@@ -261,24 +261,24 @@ written_stands version (If index leader guard first second) room earlier others 
     let fits_first = fits_left version (names_no_roles first) (names_no_roles second) fits in
     let fits_second = fits_right version (names_no_roles first) (names_no_roles second) fits in
     let places = suc earlier + constructs first in
-    let other = Symbol mark.LeftBrace ∷ written second (Symbol mark.RightBrace ∷ others) in
+    let other = Symbol punctuator.LeftBrace ∷ written second (Symbol punctuator.RightBrace ∷ others) in
     let behind = Reserved word.Else ∷ other in
     let r = block_stands version room (suc earlier) first behind (omega arith)
-    (written_stands version first (room - 1) (suc earlier) (Symbol mark.RightBrace ∷ behind) two.1 fits_first (omega arith) refl) in
+    (written_stands version first (room - 1) (suc earlier) (Symbol punctuator.RightBrace ∷ behind) two.1 fits_first (omega arith) refl) in
     let s = block_stands version room places second others (omega arith)
-    (written_stands version second (room - 1) places (Symbol mark.RightBrace ∷ others) one.1 fits_second (omega arith) refl) in
+    (written_stands version second (room - 1) places (Symbol punctuator.RightBrace ∷ others) one.1 fits_second (omega arith) refl) in
     step_stands
     (choice {leader = leader.0} refl
-    (expression_stands guard room (Symbol mark.At ∷ Name leader.0 ∷ Symbol mark.LeftBrace ∷ written first (Symbol mark.RightBrace ∷ behind)) three.1 (omega arith) refl) refl r
-    (subst (λ n. Stands version Otherwise room n behind (marked_from places second) others) (ap (λ n. suc earlier + n) (sym (constructs_marked (suc earlier) first))) (otherwise refl s)))
+    (expression_stands guard room (Symbol punctuator.At ∷ Name leader.0 ∷ Symbol punctuator.LeftBrace ∷ written first (Symbol punctuator.RightBrace ∷ behind)) three.1 (omega arith) refl) refl r
+    (subst (λ n. Stands version Otherwise room n behind (indexed_from places second) others) (ap (λ n. suc earlier + n) (sym (constructs_marked (suc earlier) first))) (otherwise refl s)))
 written_stands version (While index leader guard inner) room earlier others formed fits roomy calm =
     let one = both_true (is_formed_role leader && is_formed_step guard) (has_formed_parts inner) formed in
     let two = both_true (is_formed_role leader) (is_formed_step guard) one.0 in
     let r = block_stands version room (suc earlier) inner others (omega arith)
-    (written_stands version inner (room - 1) (suc earlier) (Symbol mark.RightBrace ∷ others) one.1 fits (omega arith) refl) in
+    (written_stands version inner (room - 1) (suc earlier) (Symbol punctuator.RightBrace ∷ others) one.1 fits (omega arith) refl) in
     step_stands
     (loop {leader = leader.0} refl
-    (expression_stands guard room (Symbol mark.At ∷ Name leader.0 ∷ Symbol mark.LeftBrace ∷ written inner (Symbol mark.RightBrace ∷ others)) two.1 (omega arith) refl) refl r)
+    (expression_stands guard room (Symbol punctuator.At ∷ Name leader.0 ∷ Symbol punctuator.LeftBrace ∷ written inner (Symbol punctuator.RightBrace ∷ others)) two.1 (omega arith) refl) refl r)
 written_stands version (Scope index leader inner extra props level) room earlier others formed fits roomy calm =
     let one = both_true (is_formed_role leader && has_formed_parts inner && list_all is_formed_role extra) (list_all is_formed_binding props) formed in
     let two = both_true (is_formed_role leader && has_formed_parts inner) (list_all is_formed_role extra) one.0 in
@@ -286,7 +286,7 @@ written_stands version (Scope index leader inner extra props level) room earlier
     let scoped = fits_scope version index leader inner extra props level fits in
     let tail = written_roles extra (written_properties props others) in
     let r = block_stands version room (suc earlier) inner tail (omega arith)
-    (written_stands version inner (room - 1) (suc earlier) (Symbol mark.RightBrace ∷ tail) three.1 scoped.0 (omega arith) refl) in
+    (written_stands version inner (room - 1) (suc earlier) (Symbol punctuator.RightBrace ∷ tail) three.1 scoped.0 (omega arith) refl) in
     step_stands (scope {leader = leader.0} refl r (roles_stand version extra (written_properties props others) scoped.1) (properties_stand props others one.1))
 
 longest_go : {whole other : Term} {to end : List Lexeme} → choreography_goes (sort_of to) ≡ false → Compared choreography_goes whole other to end → length to ≤ length end
@@ -296,8 +296,8 @@ longest_go stops (nearer less going) = omega arith
 
 closes_quiet : (sort : Sort) → closes sort ≡ true → (quiet sort ≡ true) × (choreography_goes sort ≡ false)
 closes_quiet sorts.End is = (refl, refl)
-closes_quiet (sorts.Symbol mark.RightBrace) is = (refl, refl)
-closes_quiet (sorts.Symbol mark.RightParen) is = (refl, refl)
+closes_quiet (sorts.Symbol punctuator.RightBrace) is = (refl, refl)
+closes_quiet (sorts.Symbol punctuator.RightParen) is = (refl, refl)
 closes_quiet _ is = absurd cc
 
 pub written_reads : (version : ℕ) (whole : Term) (room : ℕ) (others : List Lexeme) → IsFormedTerm whole → FitsVersion version whole → 319 ≤ room → closes (sort_of others) ≡ true
@@ -305,7 +305,7 @@ pub written_reads : (version : ℕ) (whole : Term) (room : ℕ) (others : List L
 written_reads version whole room others formed fits roomy closed_is =
     let shallow = formed.depth in
     let calm = closes_quiet (sort_of others) closed_is in
-    let r = subst (λ term. Stands version Choreography room 0 (written whole others) term others) (sym formed.marks) (written_stands version whole room 0 others formed.parts fits (omega arith) calm.0).full in
+    let r = subst (λ term. Stands version Choreography room 0 (written whole others) term others) (sym formed.punctuators) (written_stands version whole room 0 others formed.parts fits (omega arith) calm.0).full in
     record {
       reads = record { stands = r; shallow = shallow };
       longest = λ other end is. longest_go calm.1 (compare r room 0 (written whole others) end other refl refl refl is.stands);
@@ -342,7 +342,7 @@ roles_free = refl
 
 roles_all : (extra : List Role) (others : List Lexeme) → list_all is_formed_role extra ≡ true → AllByRecursion HasSpelling others → AllByRecursion HasSpelling (written_roles extra others)
 roles_all [] others is behind = behind
-roles_all (first ∷ rest) others is behind = (name_spelled (codes "roles") roles_free, (tt, names_all first rest (Symbol mark.RightBrace ∷ others) is (tt, behind)))
+roles_all (first ∷ rest) others is behind = (name_spelled (codes "roles") roles_free, (tt, names_all first rest (Symbol punctuator.RightBrace ∷ others) is (tt, behind)))
 
 property_all : (property : List ℕ × Value) (others : List Lexeme) → is_formed_binding property ≡ true → AllByRecursion HasSpelling others → AllByRecursion HasSpelling (written_property property others)
 property_all property others is behind =
@@ -354,11 +354,11 @@ list_all_spelled : (first : List ℕ × Value) (rest : List (List ℕ × Value))
 list_all_spelled first [] others is behind = property_all first others (both_true (is_formed_binding first) true is).0 behind
 list_all_spelled first (next ∷ rest) others is behind =
     let parts = both_true (is_formed_binding first) (list_all is_formed_binding (next ∷ rest)) is in
-    property_all first (Symbol mark.Comma ∷ written_list (next ∷ rest) others) parts.0 (tt, list_all_spelled next rest others parts.1 behind)
+    property_all first (Symbol punctuator.Comma ∷ written_list (next ∷ rest) others) parts.0 (tt, list_all_spelled next rest others parts.1 behind)
 
 properties_all : (props : List (List ℕ × Value)) (others : List Lexeme) → list_all is_formed_binding props ≡ true → AllByRecursion HasSpelling others → AllByRecursion HasSpelling (written_properties props others)
 properties_all [] others is behind = behind
-properties_all (first ∷ rest) others is behind = (tt, (tt, list_all_spelled first rest (Symbol mark.RightBrace ∷ others) is (tt, behind)))
+properties_all (first ∷ rest) others is behind = (tt, (tt, list_all_spelled first rest (Symbol punctuator.RightBrace ∷ others) is (tt, behind)))
 
 written_spellings : (whole : Term) (others : List Lexeme) → has_formed_parts whole ≡ true → AllByRecursion HasSpelling others → AllByRecursion HasSpelling (written whole others)
 written_spellings Skip others formed rest = (tt, rest)
@@ -375,7 +375,7 @@ written_spellings (Com index operation sender value receiver variable) others fo
           (
             tt,
             expression_spelled value
-                (Symbol mark.RightParen ∷ Symbol mark.Arrow ∷ Name receiver.0 ∷ Symbol mark.LeftParen ∷ Name variable ∷ Symbol mark.RightParen ∷ others) three.1
+                (Symbol punctuator.RightParen ∷ Symbol punctuator.Arrow ∷ Name receiver.0 ∷ Symbol punctuator.LeftParen ∷ Name variable ∷ Symbol punctuator.RightParen ∷ others) three.1
                 (tt, (tt, (name_spelled receiver.0 two.1, (tt, (name_spelled variable one.1, (tt, rest)))))),
           ),
         ),
@@ -391,37 +391,37 @@ written_spellings (Input index variable owner) others formed rest =
 written_spellings (Seq first second) others formed rest =
     let parts = both_true (has_formed_parts first) (has_formed_parts second) formed in
     let right = opened (is_parallel second) (written second (closed (is_parallel second) others)) in
-    opened_all (is_joined first) (written first (closed (is_joined first) (Symbol mark.Semicolon ∷ right)))
-    (written_spellings first (closed (is_joined first) (Symbol mark.Semicolon ∷ right)) parts.0
-    (closed_all (is_joined first) (Symbol mark.Semicolon ∷ right)
+    opened_all (is_joined first) (written first (closed (is_joined first) (Symbol punctuator.Semicolon ∷ right)))
+    (written_spellings first (closed (is_joined first) (Symbol punctuator.Semicolon ∷ right)) parts.0
+    (closed_all (is_joined first) (Symbol punctuator.Semicolon ∷ right)
     (tt, opened_all (is_parallel second) (written second (closed (is_parallel second) others)) (written_spellings second (closed (is_parallel second) others) parts.1 (closed_all (is_parallel second) others rest)))))
 written_spellings (Par first second) others formed rest =
     let parts = both_true (has_formed_parts first) (has_formed_parts second) formed in
     let right = written second others in
-    opened_all (is_parallel first) (written first (closed (is_parallel first) (Symbol mark.Bar ∷ right)))
-    (written_spellings first (closed (is_parallel first) (Symbol mark.Bar ∷ right)) parts.0 (closed_all (is_parallel first) (Symbol mark.Bar ∷ right) (tt, written_spellings second others parts.1 rest)))
+    opened_all (is_parallel first) (written first (closed (is_parallel first) (Symbol punctuator.Bar ∷ right)))
+    (written_spellings first (closed (is_parallel first) (Symbol punctuator.Bar ∷ right)) parts.0 (closed_all (is_parallel first) (Symbol punctuator.Bar ∷ right) (tt, written_spellings second others parts.1 rest)))
 written_spellings (If index leader guard first second) others formed rest =
     let one = both_true (is_formed_role leader && is_formed_step guard && has_formed_parts first) (has_formed_parts second) formed in
     let two = both_true (is_formed_role leader && is_formed_step guard) (has_formed_parts first) one.0 in
     let three = both_true (is_formed_role leader) (is_formed_step guard) two.0 in
-    let behind = Symbol mark.RightBrace ∷ Reserved word.Else ∷ Symbol mark.LeftBrace ∷ written second (Symbol mark.RightBrace ∷ others) in (
+    let behind = Symbol punctuator.RightBrace ∷ Reserved word.Else ∷ Symbol punctuator.LeftBrace ∷ written second (Symbol punctuator.RightBrace ∷ others) in (
       tt,
-      expression_spelled guard (Symbol mark.At ∷ Name leader.0 ∷ Symbol mark.LeftBrace ∷ written first behind) three.1
-          (tt, (name_spelled leader.0 three.0, (tt, written_spellings first behind two.1 (tt, (tt, (tt, written_spellings second (Symbol mark.RightBrace ∷ others) one.1 (tt, rest))))))),
+      expression_spelled guard (Symbol punctuator.At ∷ Name leader.0 ∷ Symbol punctuator.LeftBrace ∷ written first behind) three.1
+          (tt, (name_spelled leader.0 three.0, (tt, written_spellings first behind two.1 (tt, (tt, (tt, written_spellings second (Symbol punctuator.RightBrace ∷ others) one.1 (tt, rest))))))),
     )
 written_spellings (While index leader guard inner) others formed rest =
     let one = both_true (is_formed_role leader && is_formed_step guard) (has_formed_parts inner) formed in
     let two = both_true (is_formed_role leader) (is_formed_step guard) one.0 in (
       tt,
-      expression_spelled guard (Symbol mark.At ∷ Name leader.0 ∷ Symbol mark.LeftBrace ∷ written inner (Symbol mark.RightBrace ∷ others)) two.1
-          (tt, (name_spelled leader.0 two.0, (tt, written_spellings inner (Symbol mark.RightBrace ∷ others) one.1 (tt, rest)))),
+      expression_spelled guard (Symbol punctuator.At ∷ Name leader.0 ∷ Symbol punctuator.LeftBrace ∷ written inner (Symbol punctuator.RightBrace ∷ others)) two.1
+          (tt, (name_spelled leader.0 two.0, (tt, written_spellings inner (Symbol punctuator.RightBrace ∷ others) one.1 (tt, rest)))),
     )
 written_spellings (Scope index leader inner extra props level) others formed rest =
     let one = both_true (is_formed_role leader && has_formed_parts inner && list_all is_formed_role extra) (list_all is_formed_binding props) formed in
     let two = both_true (is_formed_role leader && has_formed_parts inner) (list_all is_formed_role extra) one.0 in
     let three = both_true (is_formed_role leader) (has_formed_parts inner) two.0 in
     let tail = written_roles extra (written_properties props others) in
-    (tt, (tt, (name_spelled leader.0 three.0, (tt, written_spellings inner (Symbol mark.RightBrace ∷ tail) three.1 (tt, roles_all extra (written_properties props others) two.1 (properties_all props others one.1 rest))))))
+    (tt, (tt, (name_spelled leader.0 three.0, (tt, written_spellings inner (Symbol punctuator.RightBrace ∷ tail) three.1 (tt, roles_all extra (written_properties props others) two.1 (properties_all props others one.1 rest))))))
 
 pub written_lexemes : (whole : Term) → has_formed_parts whole ≡ true → HasLexemes (spelled (written whole [])) (written whole [])
 written_lexemes whole formed = spelled_lexemes (written whole []) (written_spellings whole [] formed tt)

@@ -3,10 +3,10 @@ use Rattle.std.proofs.Common.{◌≡◌, ◌≢◌, ℕ, ◌+◌, ◌-◌, ◌<�
 use Rattle.dioc_terms.specs.declared.expressions.Expr.{Expr}
 use Rattle.dioc_terms.specs.declared.choreographies.Choreo.{Choreo}
 use Rattle.dioc_terms.specs.declared.choreographies.Choreo as choreo
-use Rattle.dioc_terms.specs.Terms.{term, constructs, depth, mark_at}
+use Rattle.dioc_terms.specs.Terms.{term, constructs, depth, index_at}
 use Rattle.aioc_tokens.specs.declared.words.Sort.TheVariants as sorts
 use Rattle.aioc_tokens.specs.declared.words.Word.TheVariants as word
-use Rattle.aioc_tokens.specs.declared.words.Mark.TheVariants as mark
+use Rattle.aioc_tokens.specs.declared.words.Punctuator.TheVariants as punctuator
 use Rattle.aioc_tokens.specs.Lexemes.{Lexeme, Name, Reserved, Symbol, sort_of, Begins}
 use Rattle.aioc_tokens.specs.Fronts.{Longest}
 use Rattle.expr_syntax.specs.Grammar.{ExpressionAt}
@@ -32,10 +32,10 @@ module _ (room earlier : ℕ) (text : List Lexeme) (at : ℕ) where
   -- interactions
   module _ (operation sender : List ℕ) (head : drop at text ≡ sent_by operation sender (drop (at + 4) text)) where
     pub interaction_found : (names : List ℕ × List ℕ) (sent : Expr × ℕ) → room ≢ 0 → ExpressionAt kind.Step (room - 1) text (at + 4) (Some sent) → HeadAt received_by 6 text sent.1 (Some names)
-        → LeafFoundAt room earlier text at (Some (record { choreo = choreo.Com (mark_at earlier) operation (role sender) sent.0 (role names.0) names.1; depth = 1; at = sent.1 + 6; next = earlier + 1 }))
+        → LeafFoundAt room earlier text at (Some (record { choreo = choreo.Com (index_at earlier) operation (role sender) sent.0 (role names.0) names.1; depth = 1; at = sent.1 + 6; next = earlier + 1 }))
     interaction_found names sent roomy read tail version deep some =
         let after = read.after in
-        leaf_finds (choreo.Com (mark_at earlier) operation (role sender) sent.0 (role names.0) names.1) (sent.1 + 6) some (interaction_front head some (omega arith) read.front tail.0) refl refl (omega arith) tail.1
+        leaf_finds (choreo.Com (index_at earlier) operation (role sender) sent.0 (role names.0) names.1) (sent.1 + 6) some (interaction_front head some (omega arith) read.front tail.0) refl refl (omega arith) tail.1
 
     pub interaction_missing : ExpressionAt kind.Step (room - 1) text (at + 4) None → LeafFoundAt room earlier text at None
     interaction_missing none version deep some = interaction_none head none
@@ -45,29 +45,29 @@ module _ (room earlier : ℕ) (text : List Lexeme) (at : ℕ) where
 
   -- inputs and assignments
   module _ (variable owner : List ℕ) (head : drop at text ≡ set_by variable owner (drop (at + 4) text)) where
-    input_begins : sort_of (drop (at + 4) text) ≡ sorts.Reserved word.Input → drop at text ≡ Name variable ∷ Symbol mark.At ∷ Name owner ∷ Symbol mark.Equal ∷ Reserved word.Input ∷ drop (at + 5) text
-    input_begins sort = head ∙ ap (λ others. Name variable ∷ Symbol mark.At ∷ Name owner ∷ Symbol mark.Equal ∷ others) (reserved_here text word.Input (at + 4) (at + 5) (omega arith) sort)
+    input_begins : sort_of (drop (at + 4) text) ≡ sorts.Reserved word.Input → drop at text ≡ Name variable ∷ Symbol punctuator.At ∷ Name owner ∷ Symbol punctuator.Equal ∷ Reserved word.Input ∷ drop (at + 5) text
+    input_begins sort = head ∙ ap (λ others. Name variable ∷ Symbol punctuator.At ∷ Name owner ∷ Symbol punctuator.Equal ∷ others) (reserved_here text word.Input (at + 4) (at + 5) (omega arith) sort)
 
-    pub input_found : room ≢ 0 → sort_of (drop (at + 4) text) ≡ sorts.Reserved word.Input → Begins (sorts.Symbol mark.LeftParen ∷ sorts.Symbol mark.RightParen ∷ []) (drop (at + 5) text)
-        → LeafFoundAt room earlier text at (Some (record { choreo = choreo.Input (mark_at earlier) variable (role owner); depth = 1; at = at + 7; next = earlier + 1 }))
+    pub input_found : room ≢ 0 → sort_of (drop (at + 4) text) ≡ sorts.Reserved word.Input → Begins (sorts.Symbol punctuator.LeftParen ∷ sorts.Symbol punctuator.RightParen ∷ []) (drop (at + 5) text)
+        → LeafFoundAt room earlier text at (Some (record { choreo = choreo.Input (index_at earlier) variable (role owner); depth = 1; at = at + 7; next = earlier + 1 }))
     input_found roomy sort brackets version deep some =
-        let second = (follows text (sorts.Symbol mark.LeftParen) (sorts.Symbol mark.RightParen ∷ []) (at + 5) (at + 6) (omega arith) brackets).1 in
-        let closes : drop (at + 5) text ≡ Symbol mark.LeftParen ∷ Symbol mark.RightParen ∷ drop (at + 7) text =
-        symbol_here text mark.LeftParen (at + 5) (at + 6) (omega arith) brackets.0 ∙ ap (λ others. Symbol mark.LeftParen ∷ others) (symbol_here text mark.RightParen (at + 6) (at + 7) (omega arith) second.0) in
-        leaf_finds (choreo.Input (mark_at earlier) variable (role owner)) (at + 7) some (input_front (input_begins sort) some (omega arith) closes) refl refl (omega arith)
+        let second = (follows text (sorts.Symbol punctuator.LeftParen) (sorts.Symbol punctuator.RightParen ∷ []) (at + 5) (at + 6) (omega arith) brackets).1 in
+        let closes : drop (at + 5) text ≡ Symbol punctuator.LeftParen ∷ Symbol punctuator.RightParen ∷ drop (at + 7) text =
+        symbol_here text punctuator.LeftParen (at + 5) (at + 6) (omega arith) brackets.0 ∙ ap (λ others. Symbol punctuator.LeftParen ∷ others) (symbol_here text punctuator.RightParen (at + 6) (at + 7) (omega arith) second.0) in
+        leaf_finds (choreo.Input (index_at earlier) variable (role owner)) (at + 7) some (input_front (input_begins sort) some (omega arith) closes) refl refl (omega arith)
         (omega (arith, ap length closes, length-drop (at + 5) text))
 
     pub input_roomless : room ≡ 0 → sort_of (drop (at + 4) text) ≡ sorts.Reserved word.Input → LeafFoundAt room earlier text at None
     input_roomless full sort version deep some = input_room (input_begins sort) full
 
-    pub input_missing : sort_of (drop (at + 4) text) ≡ sorts.Reserved word.Input → (Begins (sorts.Symbol mark.LeftParen ∷ sorts.Symbol mark.RightParen ∷ []) (drop (at + 5) text) → ⊥) → LeafFoundAt room earlier text at None
+    pub input_missing : sort_of (drop (at + 4) text) ≡ sorts.Reserved word.Input → (Begins (sorts.Symbol punctuator.LeftParen ∷ sorts.Symbol punctuator.RightParen ∷ []) (drop (at + 5) text) → ⊥) → LeafFoundAt room earlier text at None
     input_missing sort none version deep some = input_open (input_begins sort) none
 
     pub assignment_found : (expr : Expr) (next : ℕ) → sort_of (drop (at + 4) text) ≢ sorts.Reserved word.Input → ExpressionAt kind.Step room text (at + 4) (Some (expr, next))
-        → LeafFoundAt room earlier text at (Some (record { choreo = choreo.Set (mark_at earlier) variable (role owner) expr; depth = 1; at = next; next = earlier + 1 }))
+        → LeafFoundAt room earlier text at (Some (record { choreo = choreo.Set (index_at earlier) variable (role owner) expr; depth = 1; at = next; next = earlier + 1 }))
     assignment_found expr next other read version deep some =
         let after = read.after in
-        leaf_finds (choreo.Set (mark_at earlier) variable (role owner) expr) next some (assignment_front head some other read.front) refl refl (omega arith) read.within
+        leaf_finds (choreo.Set (index_at earlier) variable (role owner) expr) next some (assignment_front head some other read.front) refl refl (omega arith) read.within
 
     pub assignment_missing : sort_of (drop (at + 4) text) ≢ sorts.Reserved word.Input → ExpressionAt kind.Step room text (at + 4) None → LeafFoundAt room earlier text at None
     assignment_missing other none version deep some = assignment_none head other none

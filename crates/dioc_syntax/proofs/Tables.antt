@@ -1,7 +1,7 @@
 -- Which tokens can go on behind what stands in a form, and which begin a step.
 use Rattle.std.proofs.Common.{◌≡◌, Bool, true, false, ◌||◌, refl}
 use Rattle.aioc_tokens.specs.declared.words.Word.TheVariants as word
-use Rattle.aioc_tokens.specs.declared.words.Mark.TheVariants as mark
+use Rattle.aioc_tokens.specs.declared.words.Punctuator.TheVariants as punctuator
 use Rattle.aioc_tokens.specs.declared.words.Sort.{Sort}
 use Rattle.aioc_tokens.specs.declared.words.Sort.TheVariants as sorts
 use Rattle.expr_syntax.specs.declared.levels.ExprKind.TheVariants as kind
@@ -22,15 +22,15 @@ is_name sorts.Name = true
 is_name _ = false
 
 abbrev pub is_comma : Sort → Bool
-is_comma (sorts.Symbol mark.Comma) = true
+is_comma (sorts.Symbol punctuator.Comma) = true
 is_comma _ = false
 
 abbrev pub is_bar : Sort → Bool
-is_bar (sorts.Symbol mark.Bar) = true
+is_bar (sorts.Symbol punctuator.Bar) = true
 is_bar _ = false
 
 abbrev pub is_semicolon : Sort → Bool
-is_semicolon (sorts.Symbol mark.Semicolon) = true
+is_semicolon (sorts.Symbol punctuator.Semicolon) = true
 is_semicolon _ = false
 
 -- the first tokens of a step
@@ -40,7 +40,7 @@ begins_step (sorts.Reserved word.If) = true
 begins_step (sorts.Reserved word.While) = true
 begins_step (sorts.Reserved word.Scope) = true
 begins_step sorts.Name = true
-begins_step (sorts.Symbol mark.LeftParen) = true
+begins_step (sorts.Symbol punctuator.LeftParen) = true
 begins_step _ = false
 
 -- behind a step: an operator of its expression, an `else`, the further roles of a scope (`roles` is a name) or its properties

@@ -4,9 +4,9 @@ use Rattle.dioc_terms.specs.declared.values.Value.{Value}
 use Rattle.dioc_terms.specs.declared.values.Value.TheVariants.{Nil}
 use Rattle.dioc_terms.specs.declared.bundles.Bundle.{Bundle}
 use Rattle.dioc_terms.specs.Expressions.{Const}
-use Rattle.dioc_terms.specs.Terms.{Term, Com, term, cast_of, mark_at}
+use Rattle.dioc_terms.specs.Terms.{Term, Com, term, cast_of, index_at}
 use Rattle.aioc_tokens.specs.declared.words.Word.TheVariants.{Aioc}
-use Rattle.aioc_tokens.specs.declared.words.Mark.TheVariants.{LeftBrace, LeftParen, RightParen, Colon, Arrow}
+use Rattle.aioc_tokens.specs.declared.words.Punctuator.TheVariants.{LeftBrace, LeftParen, RightParen, Colon, Arrow}
 use Rattle.aioc_tokens.specs.Lexemes.{Lexeme, Name, Reserved, Symbol}
 use Rattle.aioc_tokens.proofs.Readings.{one_reading}
 use Rattle.expr_syntax.specs.Constants.{constant}
@@ -40,7 +40,7 @@ one_interaction n from c d to end a b =
     let value : a.value ≡ b.value = ap front found in
     let receiver : a.receiver ≡ b.receiver = cc in
     let variable : a.variable ≡ b.variable = cc in
-    (◌∙◌ {a = c} a.is_com ((λ j. Com (mark_at n) (operation j) (role (sender j)) (Const (value j)) (role (receiver j)) (variable j)) ∙ sym b.is_com), cc)
+    (◌∙◌ {a = c} a.is_com ((λ j. Com (index_at n) (operation j) (role (sender j)) (Const (value j)) (role (receiver j)) (variable j)) ∙ sym b.is_com), cc)
 
 pub one_bundle : (bytes : List ℕ) (b other : Bundle) → Spells bytes b → Spells bytes other → SameBundle b other
 one_bundle bytes b other first second =

@@ -4,9 +4,9 @@ use Rattle.dioc_terms.specs.declared.values.Value.{Value}
 use Rattle.dioc_terms.specs.declared.bundles.Bundle.{Bundle}
 use Rattle.dioc_terms.specs.Bundles.{IsFormed}
 use Rattle.dioc_terms.specs.Expressions.{Const}
-use Rattle.dioc_terms.specs.Terms.{Term, Com, term, cast_of, mark_at}
+use Rattle.dioc_terms.specs.Terms.{Term, Com, term, cast_of, index_at}
 use Rattle.aioc_tokens.specs.declared.words.Word.TheVariants.{Aioc}
-use Rattle.aioc_tokens.specs.declared.words.Mark.TheVariants.{LeftBrace, RightBrace, LeftParen, RightParen, Colon, Arrow}
+use Rattle.aioc_tokens.specs.declared.words.Punctuator.TheVariants.{LeftBrace, RightBrace, LeftParen, RightParen, Colon, Arrow}
 use Rattle.aioc_tokens.specs.Lexemes.{Lexeme, Name, Reserved, Symbol, HasLexemes}
 use Rattle.expr_syntax.specs.Constants.{constant}
 use Rattle.dioc_syntax.specs.Choreographies.{role}
@@ -24,7 +24,7 @@ pub record IsInteraction (before : ℕ) (from : List Lexeme) (stands : Term) (to
   pub begins : from ≡ Name operation ∷ Symbol Colon ∷ Name sender ∷ Symbol LeftParen ∷ sent
   pub sends : constant sent ≡ Some (value, received)
   pub ends : received ≡ Symbol RightParen ∷ Symbol Arrow ∷ Name receiver ∷ Symbol LeftParen ∷ Name variable ∷ Symbol RightParen ∷ to
-  pub is_com : stands ≡ Com (mark_at before) operation (role sender) (Const value) (role receiver) variable
+  pub is_com : stands ≡ Com (index_at before) operation (role sender) (Const value) (role receiver) variable
 
 -- The lexemes are those of a bundle:
 --   bundle = "aioc" "{" step "}"

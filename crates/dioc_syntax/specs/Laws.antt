@@ -1,8 +1,8 @@
 -- What holds of every text of a choreography.
 use Rattle.std.specs.Prelude.{◌≡◌, ℕ, ◌≤◌, ◌⊎◌, Bool, true, false, List, [], drop}
-use Rattle.dioc_terms.specs.Terms.{Term, marked}
+use Rattle.dioc_terms.specs.Terms.{Term, indexed}
 use Rattle.dioc_terms.specs.Bundles.{has_formed_parts, names_no_roles, IsFormedTerm}
-use Rattle.aioc_tokens.specs.declared.words.Mark.TheVariants as mark
+use Rattle.aioc_tokens.specs.declared.words.Punctuator.TheVariants as punctuator
 use Rattle.aioc_tokens.specs.declared.words.Sort.{Sort}
 use Rattle.aioc_tokens.specs.declared.words.Sort.TheVariants as sorts
 use Rattle.aioc_tokens.specs.Lexemes.{Lexeme, sort_of, HasLexemes}
@@ -17,9 +17,9 @@ abbrev pub OneChoreography : Type 0
 OneChoreography = (version room : ℕ) (from to end : List Lexeme) (whole other : Term) → Longest (IsChoreography version room from) whole to → Longest (IsChoreography version room from) other end →
     (whole ≡ other) × (to ≡ end)
 
--- a choreography has the marks that its text gives it
+-- a choreography has the punctuators that its text gives it
 abbrev pub ReadIsMarked : Type 0
-ReadIsMarked = (version room : ℕ) (from to : List Lexeme) (whole : Term) → IsChoreography version room from whole to → whole ≡ marked whole
+ReadIsMarked = (version room : ℕ) (from to : List Lexeme) (whole : Term) → IsChoreography version room from whole to → whole ≡ indexed whole
 
 -- version 2 alone names further roles of a scope
 abbrev pub FitsVersion : ℕ → Term → Type 0
@@ -33,8 +33,8 @@ ReadIsFormed = (bytes : List ℕ) (found : List Lexeme) (at version room : ℕ) 
 -- what closes a choreography: the end, or a bracket
 abbrev pub closes : Sort → Bool
 closes sorts.End = true
-closes (sorts.Symbol mark.RightBrace) = true
-closes (sorts.Symbol mark.RightParen) = true
+closes (sorts.Symbol punctuator.RightBrace) = true
+closes (sorts.Symbol punctuator.RightParen) = true
 closes _ = false
 
 -- the text that is written of a choreography has the lexemes that were written

@@ -5,32 +5,32 @@ use Rattle.dioc_terms.specs.declared.values.Value.{Value}
 use Rattle.dioc_terms.specs.Expressions.{Expression, expression}
 use Rattle.dioc_terms.specs.Terms.{Term, term, constructs, depth}
 use Rattle.aioc_tokens.specs.declared.words.Word.TheVariants as word
-use Rattle.aioc_tokens.specs.declared.words.Mark.TheVariants as mark
+use Rattle.aioc_tokens.specs.declared.words.Punctuator.TheVariants as punctuator
 use Rattle.aioc_tokens.specs.Lexemes.{Lexeme, Name, Reserved, Symbol}
 use Rattle.aioc_tokens.specs.Fronts.{Longest, NoFront}
 use Rattle.expr_syntax.specs.Constants.{constant, before}
 use Rattle.expr_syntax.specs.Grammar.{IsExpression}
 use Rattle.expr_syntax.specs.declared.levels.ExprKind.TheVariants as kind
-use Rattle.dioc_syntax.specs.Choreographies.{NamesRoles, HasRoles, GivesProperties, HasProperties, Form, Step, IsShallow}
+use Rattle.dioc_syntax.specs.Choreographies.{NamesRoles, NamesRoles, GivesProperties, HasProperties, Form, Step, IsShallow}
 use Rattle.dioc_syntax.specs.declared.found.FoundChoreo.{FoundChoreo}
 use Rattle.dioc_syntax.specs.declared.found.ScopeParts.{ScopeParts}
 use Rattle.dioc_syntax.specs.declared.guards.Guard.{Guard}
 
 -- `o : a (` and what follows
 abbrev pub sent_by : List ℕ → List ℕ → List Lexeme → List Lexeme
-sent_by operation sender others = Name operation ∷ Symbol mark.Colon ∷ Name sender ∷ Symbol mark.LeftParen ∷ others
+sent_by operation sender others = Name operation ∷ Symbol punctuator.Colon ∷ Name sender ∷ Symbol punctuator.LeftParen ∷ others
 
 -- `) -> b ( x )` and what follows
 abbrev pub received_by : List ℕ → List ℕ → List Lexeme → List Lexeme
-received_by receiver variable others = Symbol mark.RightParen ∷ Symbol mark.Arrow ∷ Name receiver ∷ Symbol mark.LeftParen ∷ Name variable ∷ Symbol mark.RightParen ∷ others
+received_by receiver variable others = Symbol punctuator.RightParen ∷ Symbol punctuator.Arrow ∷ Name receiver ∷ Symbol punctuator.LeftParen ∷ Name variable ∷ Symbol punctuator.RightParen ∷ others
 
 -- `x @ r =` and what follows
 abbrev pub set_by : List ℕ → List ℕ → List Lexeme → List Lexeme
-set_by variable owner others = Name variable ∷ Symbol mark.At ∷ Name owner ∷ Symbol mark.Equal ∷ others
+set_by variable owner others = Name variable ∷ Symbol punctuator.At ∷ Name owner ∷ Symbol punctuator.Equal ∷ others
 
 -- `@ r` and what follows
 abbrev pub led_by : List ℕ → List Lexeme → List Lexeme
-led_by leader others = Symbol mark.At ∷ Name leader ∷ others
+led_by leader others = Symbol punctuator.At ∷ Name leader ∷ others
 
 -- Such a head of so many lexemes stands at a place of the text, with these two names, or none stands there.
 abbrev pub HeadAt : (List ℕ → List ℕ → List Lexeme → List Lexeme) → ℕ → List Lexeme → ℕ → Option (List ℕ × List ℕ) → Type 0
@@ -66,11 +66,11 @@ NamesAt text at (Some read) = Longest (NamesRoles (drop at text)) read.0 (drop r
 
 -- the longest further roles at a place, and the place behind them
 abbrev pub RolesAt : ℕ → List Lexeme → ℕ → List Role × ℕ → Type 0
-RolesAt version text at read = Longest (HasRoles version (drop at text)) read.0 (drop read.1 text) × (at ≤ read.1) × (read.1 ≤ length text)
+RolesAt version text at read = Longest (NamesRoles version (drop at text)) read.0 (drop read.1 text) × (at ≤ read.1) × (read.1 ≤ length text)
 
 -- `N . k = v` with the place behind it, or nothing
 pub record IsPair (text : List Lexeme) (at : ℕ) (pair : List ℕ × Value) (next : ℕ) : Type 0 where
-  pub head : drop at text ≡ Reserved word.N ∷ Symbol mark.Dot ∷ Name pair.0 ∷ Symbol mark.Equal ∷ drop (at + 4) text
+  pub head : drop at text ≡ Reserved word.N ∷ Symbol punctuator.Dot ∷ Name pair.0 ∷ Symbol punctuator.Equal ∷ drop (at + 4) text
   pub value : constant (drop (at + 4) text) ≡ Some (before (drop next text) pair.1)
   pub after : at < next
   pub within : next ≤ length text
@@ -91,7 +91,7 @@ PropertiesAt text at read = Longest (HasProperties (drop at text)) read.0 (drop 
 -- what a scope has behind its body at a place
 pub record ScopePartsAt (version : ℕ) (text : List Lexeme) (at : ℕ) (parts : ScopeParts) : Type 0 where
   pub between : ℕ
-  pub roles : Longest (HasRoles version (drop at text)) parts.extra (drop between text)
+  pub roles : Longest (NamesRoles version (drop at text)) parts.extra (drop between text)
   pub props : Longest (HasProperties (drop between text)) parts.props (drop parts.at text)
   pub after : at ≤ parts.at
   pub within : parts.at ≤ length text

@@ -9,7 +9,7 @@ ghost use Rattle.dioc_terms.specs.declared.bundles.Bundle.{Bundle};
 ghost use Rattle.dioc_syntax.specs.Grammar.{IsBundle, Spells, SpellsNone};
 
 use crate::names::{name_at, role_at};
-use aioc_tokens::{Lexed, Mark, Sort, TokenFault, Word, place, tokens};
+use aioc_tokens::{Lexed, Punctuator, Sort, TokenFault, Word, place, tokens};
 use dioc_terms::{Bundle, Choreo, Expr, Index, Items, Memory, SyntaxFault, Trace, Value, roles};
 use expr_syntax::constant_at;
 use std::alloc::Global;
@@ -60,22 +60,22 @@ impl From<Memory> for Stop {
 // The lexemes before what is sent.
 const HEAD: [Sort; 6] = [
     Sort::Reserved(Word::Aioc),
-    Sort::Symbol(Mark::LeftBrace),
+    Sort::Symbol(Punctuator::LeftBrace),
     Sort::Name,
-    Sort::Symbol(Mark::Colon),
+    Sort::Symbol(Punctuator::Colon),
     Sort::Name,
-    Sort::Symbol(Mark::LeftParen),
+    Sort::Symbol(Punctuator::LeftParen),
 ];
 
 // The lexemes behind it.
 const TAIL: [Sort; 7] = [
-    Sort::Symbol(Mark::RightParen),
-    Sort::Symbol(Mark::Arrow),
+    Sort::Symbol(Punctuator::RightParen),
+    Sort::Symbol(Punctuator::Arrow),
     Sort::Name,
-    Sort::Symbol(Mark::LeftParen),
+    Sort::Symbol(Punctuator::LeftParen),
     Sort::Name,
-    Sort::Symbol(Mark::RightParen),
-    Sort::Symbol(Mark::RightBrace),
+    Sort::Symbol(Punctuator::RightParen),
+    Sort::Symbol(Punctuator::RightBrace),
 ];
 
 fn bundle_at(alloc: Global, text: &Lexed<'_>) -> Result<Bundle, Stop>

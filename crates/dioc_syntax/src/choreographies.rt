@@ -1,7 +1,7 @@
 //! Choreographies at a place of a text.
 
 ghost use Rattle.std.specs.Prelude.{◌≡◌, ℕ, ◌≤◌, drop, length, Err, IfOk};
-ghost use Rattle.dioc_terms.specs.Terms.{term, marked};
+ghost use Rattle.dioc_terms.specs.Terms.{term, indexed};
 ghost use Rattle.dioc_terms.specs.declared.faults.SyntaxFault.TheVariants as fault;
 ghost use Rattle.aioc_tokens.specs.Fronts.{NoFront};
 ghost use Rattle.aioc_tokens.specs.Lexing.{Lexes, place_of};
@@ -35,7 +35,7 @@ pub fn read_choreo(
     requires few { length tokens.now ≤ 4294967295 }
     ensures found { IfOk result (λ read. ReadsAt version bracket_limit (lexemes bytes.now tokens.now) at (term read.0) read.1) }
     ensures within { IfOk result (λ read. read.1 ≤ length tokens.now) }
-    ensures marked { IfOk result (λ read. term read.0 ≡ marked (term read.0)) }
+    ensures indexed { IfOk result (λ read. term read.0 ≡ indexed (term read.0)) }
     ensures syntax { (byte : ℕ) → result ≡ Err (fault.Syntax byte) → NoFront (IsChoreography version bracket_limit (drop at (lexemes bytes.now tokens.now))) }
     ensures place { (byte : ℕ) → result ≡ Err (fault.Syntax byte) → byte ≡ place_of bytes.now tokens.now at }
 {

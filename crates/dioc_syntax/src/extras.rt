@@ -4,23 +4,23 @@ ghost use Rattle.std.specs.Prelude.{◌≡◌, [], ◌≤◌, ◌<◌, ◌^◌, 
 ghost use Rattle.dioc_syntax.specs.Readers.{NamesAt, RolesAt, PairAt, PairsAt, PropertiesAt};
 
 use crate::names::{name_at, role_at};
-use aioc_tokens::{Lexed, Mark, Sort, Word};
+use aioc_tokens::{Lexed, Punctuator, Sort, Word};
 use dioc_terms::{Bindings, Items, Memory, Name, Role, Roles, Value};
 use expr_syntax::constant_at;
 use std::alloc::Global;
 
 /// `, r`
-const ANOTHER: [Sort; 2] = [Sort::Symbol(Mark::Comma), Sort::Name];
+const ANOTHER: [Sort; 2] = [Sort::Symbol(Punctuator::Comma), Sort::Name];
 
 /// `prop {`
-const PROPERTIES: [Sort; 2] = [Sort::Reserved(Word::Prop), Sort::Symbol(Mark::LeftBrace)];
+const PROPERTIES: [Sort; 2] = [Sort::Reserved(Word::Prop), Sort::Symbol(Punctuator::LeftBrace)];
 
 /// `N . k =`
 const PAIR: [Sort; 4] = [
     Sort::Reserved(Word::N),
-    Sort::Symbol(Mark::Dot),
+    Sort::Symbol(Punctuator::Dot),
     Sort::Name,
-    Sort::Symbol(Mark::Equal),
+    Sort::Symbol(Punctuator::Equal),
 ];
 
 /// The further roles at a place of the text, and the place behind them. Version 2 alone has them:
@@ -41,14 +41,14 @@ pub fn roles_at(
     if version != 2 || !text.named(at, b"roles") {
         return Ok(none_at(alloc, at));
     }
-    if !text.has(at + 1, Sort::Symbol(Mark::LeftBrace)) {
+    if !text.has(at + 1, Sort::Symbol(Punctuator::LeftBrace)) {
         return Ok(none_at(alloc, at));
     }
     let (roles, next) = match names_at(alloc, text, at + 2)? {
         Some(read) => read,
         None => return Ok(none_at(alloc, at)),
     };
-    if !text.has(next, Sort::Symbol(Mark::RightBrace)) {
+    if !text.has(next, Sort::Symbol(Punctuator::RightBrace)) {
         return Ok(none_at(alloc, at));
     }
     Ok((roles, next + 1))
@@ -96,14 +96,14 @@ pub fn properties_at(
     if !text.begins(at, &PROPERTIES) {
         return Ok(none_at(alloc, at));
     }
-    if text.has(at + 2, Sort::Symbol(Mark::RightBrace)) {
+    if text.has(at + 2, Sort::Symbol(Punctuator::RightBrace)) {
         return Ok(none_at(alloc, at + 3));
     }
     let (props, next) = match pairs_at(alloc, text, at + 2)? {
         Some(read) => read,
         None => return Ok(none_at(alloc, at)),
     };
-    if !text.has(next, Sort::Symbol(Mark::RightBrace)) {
+    if !text.has(next, Sort::Symbol(Punctuator::RightBrace)) {
         return Ok(none_at(alloc, at));
     }
     Ok((props, next + 1))
@@ -120,7 +120,7 @@ fn pairs_at(alloc: Global, text: &Lexed<'_>, at: usize) -> Result<Option<(Bindin
     };
     let mut props = Vec::new(alloc);
     props.push(first)?;
-    while text.has(next, Sort::Symbol(Mark::Comma)) {
+    while text.has(next, Sort::Symbol(Punctuator::Comma)) {
         match pair_at(alloc, text, next + 1)? {
             Some((pair, behind)) => {
                 props.push(pair)?;

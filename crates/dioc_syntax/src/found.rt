@@ -2,7 +2,7 @@
 
 ghost use Rattle.std.specs.Prelude.{◌≡◌, ◌+◌, ◌-◌, ◌<◌, ◌^◌, suc, max, None, Err, IfOk};
 ghost use Rattle.dioc_terms.specs.Expressions.{expression};
-ghost use Rattle.dioc_terms.specs.Terms.{term, mark_at, Seq, Par, If, While, Scope};
+ghost use Rattle.dioc_terms.specs.Terms.{term, index_at, Seq, Par, If, While, Scope};
 
 use crate::guards::Guard;
 use dioc_terms::{Bindings, Choreo, Index, Memory, Role, Roles};
@@ -98,7 +98,7 @@ pub fn choice(
 ) -> Result<FoundChoreo, Memory>
     requires first { first.depth < 2 ^ 64 - 1 }
     requires second { second.depth < 2 ^ 64 - 1 }
-    ensures choreo { IfOk result (λ found. term found.choreo ≡ If (mark_at earlier) guard.leader (expression guard.expr) (term first.choreo) (term second.choreo)) }
+    ensures choreo { IfOk result (λ found. term found.choreo ≡ If (index_at earlier) guard.leader (expression guard.expr) (term first.choreo) (term second.choreo)) }
     ensures depth { IfOk result (λ found. found.depth ≡ suc (max first.depth second.depth)) }
     ensures at { IfOk result (λ found. found.at ≡ second.at) }
     ensures next { IfOk result (λ found. found.next ≡ second.next) }
@@ -132,7 +132,7 @@ pub fn turns(
     inner: FoundChoreo,
 ) -> Result<FoundChoreo, Memory>
     requires { inner.depth < 2 ^ 64 - 1 }
-    ensures choreo { IfOk result (λ found. term found.choreo ≡ While (mark_at earlier) guard.leader (expression guard.expr) (term inner.choreo)) }
+    ensures choreo { IfOk result (λ found. term found.choreo ≡ While (index_at earlier) guard.leader (expression guard.expr) (term inner.choreo)) }
     ensures depth { IfOk result (λ found. found.depth ≡ suc inner.depth) }
     ensures at { IfOk result (λ found. found.at ≡ inner.at) }
     ensures next { IfOk result (λ found. found.next ≡ inner.next) }
@@ -173,7 +173,7 @@ pub fn scoped(
     inner: FoundChoreo,
 ) -> Result<FoundChoreo, Memory>
     requires { inner.depth < 2 ^ 64 - 1 }
-    ensures choreo { IfOk result (λ found. term found.choreo ≡ Scope (mark_at earlier) parts.leader (term inner.choreo) parts.extra parts.props 0) }
+    ensures choreo { IfOk result (λ found. term found.choreo ≡ Scope (index_at earlier) parts.leader (term inner.choreo) parts.extra parts.props 0) }
     ensures depth { IfOk result (λ found. found.depth ≡ suc inner.depth) }
     ensures at { IfOk result (λ found. found.at ≡ parts.at) }
     ensures next { IfOk result (λ found. found.next ≡ inner.next) }

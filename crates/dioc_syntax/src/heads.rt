@@ -4,38 +4,38 @@ ghost use Rattle.std.specs.Prelude.{◌≡◌, ◌<◌, ◌^◌, IfOk};
 ghost use Rattle.dioc_syntax.specs.Readers.{sent_by, received_by, set_by, led_by, HeadAt, LeaderAt};
 
 use crate::names::{name_at, role_at};
-use aioc_tokens::{Lexed, Mark, Sort};
+use aioc_tokens::{Lexed, Punctuator, Sort};
 use dioc_terms::{Memory, Name, Role};
 use std::alloc::Global;
 
 /// `o : a (`
 const SENDER: [Sort; 4] = [
     Sort::Name,
-    Sort::Symbol(Mark::Colon),
+    Sort::Symbol(Punctuator::Colon),
     Sort::Name,
-    Sort::Symbol(Mark::LeftParen),
+    Sort::Symbol(Punctuator::LeftParen),
 ];
 
 /// `) -> b ( x )`
 const RECEIVER: [Sort; 6] = [
-    Sort::Symbol(Mark::RightParen),
-    Sort::Symbol(Mark::Arrow),
+    Sort::Symbol(Punctuator::RightParen),
+    Sort::Symbol(Punctuator::Arrow),
     Sort::Name,
-    Sort::Symbol(Mark::LeftParen),
+    Sort::Symbol(Punctuator::LeftParen),
     Sort::Name,
-    Sort::Symbol(Mark::RightParen),
+    Sort::Symbol(Punctuator::RightParen),
 ];
 
 /// `x @ r =`
 const TARGET: [Sort; 4] = [
     Sort::Name,
-    Sort::Symbol(Mark::At),
+    Sort::Symbol(Punctuator::At),
     Sort::Name,
-    Sort::Symbol(Mark::Equal),
+    Sort::Symbol(Punctuator::Equal),
 ];
 
 /// `@ r`
-const LEADER: [Sort; 2] = [Sort::Symbol(Mark::At), Sort::Name];
+const LEADER: [Sort; 2] = [Sort::Symbol(Punctuator::At), Sort::Name];
 
 /// The operation and the sender at a place of the text: `o : a (`.
 pub fn sender_at(alloc: Global, text: &Lexed<'_>, at: usize) -> Result<Option<(Name, Name)>, Memory>

@@ -3,7 +3,7 @@
 ghost use Rattle.std.specs.Prelude.{◌≡◌, ◌+◌, ◌-◌, ◌<◌, ◌≤◌, ◌^◌, drop, length, IfOk};
 ghost use Rattle.aioc_tokens.specs.declared.words.Sort.{Sort};
 ghost use Rattle.aioc_tokens.specs.declared.words.Word.{Word};
-ghost use Rattle.aioc_tokens.specs.declared.words.Mark.{Mark};
+ghost use Rattle.aioc_tokens.specs.declared.words.Punctuator.{Punctuator};
 ghost use Rattle.aioc_tokens.specs.Lexemes.{sort_of};
 ghost use Rattle.dioc_terms.specs.Terms.{term, Skip};
 ghost use Rattle.dioc_syntax.specs.Choreographies.{Choreography, Sequence, Step, Block, Otherwise, IsShallow};
@@ -16,7 +16,7 @@ use crate::found::{
 use crate::guards::guard_at;
 use crate::heads::leader_at;
 use crate::steps::named_step_at;
-use aioc_tokens::{Lexed, Mark, Sort, Word};
+use aioc_tokens::{Lexed, Punctuator, Sort, Word};
 use dioc_terms::{Choreo, Memory, Role};
 use std::alloc::Global;
 
@@ -44,7 +44,7 @@ pub fn choreo_at(
         Some(first) => first,
         None => return Ok(None),
     };
-    if !text.has(first.at, Sort::Symbol(Mark::Bar)) || first.depth == deep {
+    if !text.has(first.at, Sort::Symbol(Punctuator::Bar)) || first.depth == deep {
         return Ok(Some(first));
     }
     match choreo_at(
@@ -85,7 +85,7 @@ fn sequence_at(
         Some(first) => first,
         None => return Ok(None),
     };
-    if !text.has(first.at, Sort::Symbol(Mark::Semicolon)) {
+    if !text.has(first.at, Sort::Symbol(Punctuator::Semicolon)) {
         return Ok(Some(first));
     }
     if first.depth == deep {
@@ -141,7 +141,7 @@ fn step_at(
     }
     match text.sort(at) {
         Sort::Name => named_step_at(alloc, text, room, at, earlier),
-        Sort::Symbol(Mark::LeftParen) => group_at(alloc, text, version, room, deep, at, earlier),
+        Sort::Symbol(Punctuator::LeftParen) => group_at(alloc, text, version, room, deep, at, earlier),
         Sort::Reserved(Word::Skip) => Ok(Some(nothing(at + 1, earlier))),
         Sort::Reserved(Word::If) => branch_at(alloc, text, version, room, deep, at, earlier),
         Sort::Reserved(Word::While) => loop_at(alloc, text, version, room, deep, at, earlier),
@@ -178,7 +178,7 @@ fn group_at(
     at: usize,
     earlier: u32,
 ) -> Result<Option<FoundChoreo>, Memory>
-    requires sort { sort_of (drop at text.now) ≡ Sort.Symbol Mark.LeftParen }
+    requires sort { sort_of (drop at text.now) ≡ Sort.Symbol Punctuator.LeftParen }
     requires within { at < length text.now }
     requires small { length text.now < 2 ^ 63 }
     requires few { earlier + (length text.now - at) ≤ 4294967295 }
@@ -191,7 +191,7 @@ fn group_at(
         Some(inner) => inner,
         None => return Ok(None),
     };
-    if text.has(inner.at, Sort::Symbol(Mark::RightParen)) {
+    if text.has(inner.at, Sort::Symbol(Punctuator::RightParen)) {
         Ok(Some(ended(inner)))
     } else {
         Ok(refused(inner))
@@ -214,14 +214,14 @@ fn block_at(
     requires { earlier + (length text.now - at) ≤ 4294967295 }
     ensures { IfOk result (λ found. FormAt version Block room deep earlier text.now at found) }
 {
-    if !text.has(at, Sort::Symbol(Mark::LeftBrace)) || room == 0 {
+    if !text.has(at, Sort::Symbol(Punctuator::LeftBrace)) || room == 0 {
         return Ok(None);
     }
     let inner = match choreo_at(alloc, text, version, room - 1, deep, at + 1, earlier)? {
         Some(inner) => inner,
         None => return Ok(None),
     };
-    if text.has(inner.at, Sort::Symbol(Mark::RightBrace)) {
+    if text.has(inner.at, Sort::Symbol(Punctuator::RightBrace)) {
         Ok(Some(ended(inner)))
     } else {
         Ok(refused(inner))

@@ -8,15 +8,15 @@ ghost use Rattle.dioc_syntax.specs.Readers.{sent_by, set_by, LeafFoundAt};
 
 use crate::found::{FoundChoreo, lost, refused};
 use crate::heads::{receiver_at, sender_at, target_at};
-use aioc_tokens::{Lexed, Mark, Sort, Word};
+use aioc_tokens::{Lexed, Punctuator, Sort, Word};
 use dioc_terms::{Choreo, Index, Memory, Name, Role};
 use expr_syntax::{ExprKind, expr_at};
 use std::alloc::Global;
 
 /// `( )`
 const BRACKETS: [Sort; 2] = [
-    Sort::Symbol(Mark::LeftParen),
-    Sort::Symbol(Mark::RightParen),
+    Sort::Symbol(Punctuator::LeftParen),
+    Sort::Symbol(Punctuator::RightParen),
 ];
 
 /// The step at a place of the text that begins with a name there: an interaction, an input or an assignment.

@@ -6,8 +6,8 @@ use borrow.Author.Differences.{le-true, le-false}
 use Rattle.std.proofs.lemmas.Int.{ints}
 use Rattle.std.proofs.lemmas.List.Elements.{filter-append}
 use Rattle.dioc_terms.specs.declared.processes.ScopeHead.{ScopeHead}
-use Rattle.dioc_terms.specs.declared.bundles.Rule.{Rule}
-use Rattle.dioc_terms.specs.RuleLaws.{better, chosen_among, ChoicesGoOn, AddsGoOn}
+use Rattle.dioc_terms.specs.Plain.{PlainRule}
+use Rattle.dioc_terms.specs.RuleLaws.{greater_of, chosen_among, ChoicesGoOn, AddsGoOn}
 use Rattle.dioc_terms.specs.Rules.{Book, is_named, add_rule, fits, no_lower, first_greatest, choose}
 use Rattle.dioc_terms.specs.Stores.{Store}
 
@@ -60,7 +60,7 @@ best_of_three true false ac a b c up down = refl
 best_of_three false true ac a b c up down = refl
 best_of_three false false ac a b c up down = cond-false ac a c (down refl refl)
 
-module _ (rules : List Rule) where
+module _ (rules : List PlainRule) where
   -- the best of one and what comes after
   abbrev ahead : ℕ → Option ℕ → Option ℕ
   ahead m None = Some m
@@ -76,14 +76,14 @@ module _ (rules : List Rule) where
   abbrev pub is_rule : ℕ → Bool
   is_rule m = is_some (slice_get rules m)
 
-  there : (m : ℕ) → is_rule m ≡ true → (rule : Rule) × (slice_get rules m ≡ Some rule)
+  there : (m : ℕ) → is_rule m ≡ true → (rule : PlainRule) × (slice_get rules m ≡ Some rule)
   there m h = known (slice_get rules m) h
     where
-      known : (found : Option Rule) → is_some found ≡ true → (rule : Rule) × (found ≡ Some rule)
+      known : (found : Option PlainRule) → is_some found ≡ true → (rule : PlainRule) × (found ≡ Some rule)
       known (Some rule) k = (rule, refl)
       known None k = cc
 
-  compares : (m n : ℕ) (a b : Rule) → slice_get rules m ≡ Some a → slice_get rules n ≡ Some b → no_lower rules m n ≡ int_le b.priority a.priority
+  compares : (m n : ℕ) (a b : PlainRule) → slice_get rules m ≡ Some a → slice_get rules n ≡ Some b → no_lower rules m n ≡ int_le b.priority a.priority
   compares m n a b e f = rw (e, f)
 
   -- comparisons of rules that are there go in chains, both ways, and are total
@@ -133,21 +133,21 @@ module _ (rules : List Rule) where
   ahead_if m n k true = refl
   ahead_if m n k false = refl
 
-  better_if : (m n k : ℕ) (t : Bool) → better rules (if t then Some m else Some n) k ≡ (if t then better rules (Some m) k else better rules (Some n) k)
+  better_if : (m n k : ℕ) (t : Bool) → greater_of rules (if t then Some m else Some n) k ≡ (if t then greater_of rules (Some m) k else greater_of rules (Some n) k)
   better_if m n k true = refl
   better_if m n k false = refl
 
   -- the best of a list and one more, from left to right
   pub best_after : (ms : List ℕ) (m : ℕ) → list_all is_rule ms ≡ true → is_rule m ≡ true
-      → first_greatest rules (ms ++ m ∷ []) ≡ better rules (first_greatest rules ms) m
+      → first_greatest rules (ms ++ m ∷ []) ≡ greater_of rules (first_greatest rules ms) m
   best_after [] m all h = refl
   best_after (x ∷ ms) m all h =
       let parts = and_parts (is_rule x) (list_all is_rule ms) all in
       greatest_ahead x (ms ++ m ∷ []) ∙ ap (ahead x) (best_after ms m parts.1 h)
       ∙ with_rest (first_greatest rules ms) parts.0 (λ n e. best_passes is_rule ms parts.1 n e)
-      ∙ ap (λ best. better rules best m) (sym (greatest_ahead x ms))
+      ∙ ap (λ best. greater_of rules best m) (sym (greatest_ahead x ms))
     where
-      with_rest : (best : Option ℕ) → is_rule x ≡ true → ((n : ℕ) → best ≡ Some n → is_rule n ≡ true) → ahead x (better rules best m) ≡ better rules (ahead x best) m
+      with_rest : (best : Option ℕ) → is_rule x ≡ true → ((n : ℕ) → best ≡ Some n → is_rule n ≡ true) → ahead x (greater_of rules best m) ≡ greater_of rules (ahead x best) m
       with_rest None here later = refl
       with_rest (Some n) here later =
           ahead_if x n m (no_lower rules n m)
@@ -203,7 +203,7 @@ module _ (rules : List Rule) where
       (λ no. absurd (both_ways (fits rules book head s m) (missing (slice_get rules m) refl no) h))
       (cases_Bool (is_rule m))
     where
-      missing : (found : Option Rule) → slice_get rules m ≡ found → is_some found ≡ false → fits rules book head s m ≡ false
+      missing : (found : Option PlainRule) → slice_get rules m ≡ found → is_some found ≡ false → fits rules book head s m ≡ false
       missing None e k = rw e
       missing (Some rule) e k = cc
 
@@ -216,16 +216,16 @@ module _ (rules : List Rule) where
 
   -- from left to right: one more rule counts where it fits, and is chosen where the best so far has a lower priority
   pub chosen_after : (book : Book) (head : ScopeHead) (s : Store) (ms : List ℕ) (m : ℕ)
-      → chosen_among rules book head s (ms ++ m ∷ []) ≡ (if fits rules book head s m then better rules (chosen_among rules book head s ms) m else chosen_among rules book head s ms)
+      → chosen_among rules book head s (ms ++ m ∷ []) ≡ (if fits rules book head s m then greater_of rules (chosen_among rules book head s ms) m else chosen_among rules book head s ms)
   chosen_after book head s ms m =
       ap (first_greatest rules) (filter-append (fits rules book head s) ms (m ∷ []))
       ∙ ⊎_elim
       (λ yes. ap (λ l. first_greatest rules (filter (fits rules book head s) ms ++ l)) (cond-true (fits rules book head s m) (m ∷ []) [] yes)
       ∙ best_after (filter (fits rules book head s) ms) m (all_kept (fits rules book head s) is_rule ms (fits_there book head s)) (fits_there book head s m yes)
-      ∙ sym (cond-true (fits rules book head s m) (better rules (chosen_among rules book head s ms) m) (chosen_among rules book head s ms) yes))
+      ∙ sym (cond-true (fits rules book head s m) (greater_of rules (chosen_among rules book head s ms) m) (chosen_among rules book head s ms) yes))
       (λ no. ap (λ l. first_greatest rules (filter (fits rules book head s) ms ++ l)) (cond-false (fits rules book head s m) (m ∷ []) [] no)
       ∙ ap (first_greatest rules) (append_nil (filter (fits rules book head s) ms))
-      ∙ sym (cond-false (fits rules book head s m) (better rules (chosen_among rules book head s ms) m) (chosen_among rules book head s ms) no))
+      ∙ sym (cond-false (fits rules book head s m) (greater_of rules (chosen_among rules book head s ms) m) (chosen_among rules book head s ms) no))
       (cases_Bool (fits rules book head s m))
     where
       append_nil : (l : List ℕ) → l ++ [] ≡ l

@@ -1,5 +1,5 @@
 -- What it means that a bundle is formed: it is one that a text can spell.
-use Rattle.std.specs.Prelude.{◌≡◌, ℕ, zero, suc, ◌-◌, ◌≤◌, ◌⊎◌, ◌^◌, List, [], ◌∷◌, length, Bool, true, false, ◌&&◌, not, nat_le, nat_lt, Option, Some, None, All, pos, negsuc, int_le}
+use Rattle.std.specs.Prelude.{◌≡◌, ℕ, zero, suc, ◌-◌, ◌≤◌, ◌⊎◌, List, [], ◌∷◌, length, Bool, true, false, ◌&&◌, not, nat_le, nat_lt, Option, Some, None, All, pos, negsuc, int_le}
 use Rattle.std.specs.Ordering.{int_eq}
 use Rattle.std.specs.List.{list_all}
 use Rattle.dioc_terms.specs.declared.names.Role.{Role}
@@ -17,24 +17,20 @@ use Rattle.dioc_terms.specs.declared.entries.Chosen.{Chosen}
 use Rattle.dioc_terms.specs.declared.entries.Chosen.TheVariants as chosen
 use Rattle.dioc_terms.specs.declared.entries.Entry.{Entry}
 use Rattle.dioc_terms.specs.declared.entries.Entry.TheVariants as entry
-use Rattle.dioc_terms.specs.declared.bundles.Rule.{Rule}
 use Rattle.dioc_terms.specs.declared.bundles.Change.{Change}
 use Rattle.dioc_terms.specs.declared.bundles.Change.TheVariants as change
 use Rattle.dioc_terms.specs.declared.bundles.Timed.{Timed}
 use Rattle.dioc_terms.specs.declared.bundles.Last.{Last}
 use Rattle.dioc_terms.specs.declared.bundles.Last.TheVariants.{Ended, Stopped}
-use Rattle.dioc_terms.specs.declared.bundles.Bundle.{Bundle}
+use Rattle.dioc_terms.specs.Limits.{largest, greatest_place, most_depth, most_expression_depth, most_priority}
 use Rattle.dioc_terms.specs.Names.{is_name, is_reserved, is_text}
-use Rattle.dioc_terms.specs.Expressions.{Expression, Const, Var, Prop, Env, Not, Neg, Bin, expression, expression_depth}
-use Rattle.dioc_terms.specs.Terms.{Term, Skip, Com, Set, Input, Seq, Par, If, While, Scope, term, cast_of, marked, depth}
+use Rattle.dioc_terms.specs.Expressions.{Expression, Const, Var, Prop, Env, Not, Neg, Bin, expression_depth}
+use Rattle.dioc_terms.specs.Plain.{PlainRule, PlainBundle}
+use Rattle.dioc_terms.specs.Terms.{Term, Skip, Com, Set, Input, Seq, Par, If, While, Scope, cast_of, indexed, depth}
 
 -- a name that the grammar takes for one
 abbrev pub is_identifier : List ℕ → Bool
 is_identifier name = is_name name && not (is_reserved name)
-
--- the largest whole number of 64 bits with a sign
-abbrev pub largest : ℕ
-largest = 9223372036854775807
 
 -- a value that a text can spell
 abbrev pub is_constant : Value → Bool
@@ -68,10 +64,10 @@ is_condition (Bin op a b) = not (joins op) && is_condition a && is_condition b
 
 -- such an expression, of a depth of at most 64
 abbrev pub is_formed_step : Expression → Bool
-is_formed_step e = is_step_expression e && nat_le (expression_depth e) 64
+is_formed_step e = is_step_expression e && nat_le (expression_depth e) most_expression_depth
 
 abbrev pub is_formed_condition : Expression → Bool
-is_formed_condition e = is_condition e && nat_le (expression_depth e) 64
+is_formed_condition e = is_condition e && nat_le (expression_depth e) most_expression_depth
 
 abbrev pub is_formed_role : Role → Bool
 is_formed_role r = is_identifier r.0
@@ -102,18 +98,18 @@ names_no_roles (Scope i r I [] props level) = names_no_roles I
 names_no_roles (Scope i r I (q ∷ qs) props level) = false
 names_no_roles _ = true
 
--- a choreography of a text: with the marks that the text gives it, and not too deep
+-- a choreography of a text: with the indices that the text gives it, and not too deep
 pub record IsFormedTerm (I : Term) : Type 0 where
-  pub marks : I ≡ marked I
+  pub indices : I ≡ indexed I
   pub parts : has_formed_parts I ≡ true
-  pub depth : depth I ≤ 256
+  pub depth : depth I ≤ most_depth
 
-pub record IsFormedRule (rule : Rule) : Type 0 where
+pub record IsFormedRule (rule : PlainRule) : Type 0 where
   pub name : is_identifier rule.name ≡ true
-  pub least : int_le (negsuc 999999) rule.priority ≡ true
-  pub most : int_le rule.priority (pos 1000000) ≡ true
-  pub condition : is_formed_condition (expression rule.cond) ≡ true
-  pub body : IsFormedTerm (term rule.body)
+  pub least : int_le (negsuc (most_priority - 1)) rule.priority ≡ true
+  pub most : int_le rule.priority (pos most_priority) ≡ true
+  pub condition : is_formed_condition rule.cond ≡ true
+  pub body : IsFormedTerm rule.body
 
 -- each number from the first on, so many of them
 abbrev pub numbers_from : ℕ → ℕ → List ℕ
@@ -147,7 +143,7 @@ note_fits Choice (note.Flag b) = true
 note_fits Go (note.Flag b) = true
 note_fits Turn note.Done = true
 note_fits Begin note.Keep = true
-note_fits Begin (note.Part n) = nat_lt n (2 ^ 32)
+note_fits Begin (note.Part n) = nat_le n greatest_place
 note_fits End note.Done = true
 note_fits Out note.Done = true
 note_fits _ _ = false
@@ -160,14 +156,14 @@ variable_fits _ None = true
 variable_fits _ (Some x) = false
 
 abbrev pub is_formed_index : Index → Bool
-is_formed_index i = nat_lt i.epoch (2 ^ 32) && nat_lt i.place (2 ^ 32)
+is_formed_index i = nat_le i.epoch greatest_place && nat_le i.place greatest_place
 
 abbrev pub is_formed_key : Key → Bool
 is_formed_key k = is_formed_role k.from && is_formed_role k.to && is_formed_index k.index
 
 abbrev pub is_formed_choice : Chosen → Bool
 is_formed_choice chosen.Keep = true
-is_formed_choice (chosen.Rule name n) = is_identifier name && nat_lt n (2 ^ 32)
+is_formed_choice (chosen.Rule name n) = is_identifier name && nat_le n greatest_place
 
 -- an entry that a line of a trace can be
 abbrev pub is_formed_entry : Entry → Bool
@@ -186,19 +182,19 @@ is_formed_last None = true
 is_formed_last (Some (Ended n)) = nat_le n largest
 is_formed_last (Some (Stopped n)) = nat_le n largest
 
-abbrev pub has_no_priority : Rule → Bool
-has_no_priority rule = int_eq rule.priority (pos 0) && names_no_roles (term rule.body)
+abbrev pub has_no_priority : PlainRule → Bool
+has_no_priority rule = int_eq rule.priority (pos 0) && names_no_roles rule.body
 
 -- version 1 knows neither named roles nor priorities
-abbrev pub IsOfVersion : ℕ → Bundle → Type 0
+abbrev pub IsOfVersion : ℕ → PlainBundle → Type 0
 IsOfVersion version b =
-    ((version ≡ 1) × (names_no_roles (term b.choreo) ≡ true) × (list_all has_no_priority b.rules ≡ true)) ⊎ (version ≡ 2)
+    ((version ≡ 1) × (names_no_roles b.choreo ≡ true) × (list_all has_no_priority b.rules ≡ true)) ⊎ (version ≡ 2)
 
 -- a bundle that a text of some length can spell
-pub record IsFormed (b : Bundle) : Type 0 where
+pub record IsFormed (b : PlainBundle) : Type 0 where
   pub version : IsOfVersion b.version b
-  pub cast : b.cast ≡ cast_of (term b.choreo)
-  pub choreo : IsFormedTerm (term b.choreo)
+  pub cast : b.cast ≡ cast_of b.choreo
+  pub choreo : IsFormedTerm b.choreo
   pub rules : All IsFormedRule b.rules
   pub opening : b.opening ≤ length b.rules
   pub added : adds b.script ≡ numbers_from b.opening (length b.rules - b.opening)

@@ -1,3 +1,4 @@
+pub mod Attempts
 pub mod Bundles
 pub mod Conditions
 pub mod Equality
@@ -6,13 +7,14 @@ pub mod EqualityLemmas
 pub mod Expressions
 pub mod KeptStores
 pub mod Leaves
+pub mod Limits
 pub mod Messages
-pub mod Moves
 pub mod Names
+pub mod Plain
 pub mod Processes
 pub mod RuleLaws
 pub mod Rules
-pub mod SeenValues
+pub mod BorrowedValues
 pub mod Stores
 pub mod Supported
 pub mod TermLaws

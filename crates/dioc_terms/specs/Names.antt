@@ -1,7 +1,8 @@
 -- What the bytes of a name and of a text may be, and which words are no names in a bundle's text.
-use Rattle.std.specs.Prelude.{ℕ, List, [], ◌∷◌, Bool, false, ◌&&◌, ◌||◌, ◌==◌, nat_le, IsTrue, length, codes}
+use Rattle.std.specs.Prelude.{ℕ, ◌-◌, List, [], ◌∷◌, Bool, false, ◌&&◌, ◌||◌, ◌==◌, nat_le, IsTrue, length, codes}
 use Rattle.std.specs.List.{list_all, list_any}
 use Rattle.std.specs.Str.{bytes_eq}
+use Rattle.dioc_terms.specs.Limits.{most_name_bytes, most_text_bytes}
 
 abbrev pub is_letter : ℕ → Bool
 is_letter byte = (nat_le 65 byte && nat_le byte 90) || (nat_le 97 byte && nat_le byte 122)
@@ -16,7 +17,7 @@ is_word byte = is_letter byte || is_digit byte || byte == 95
 -- a letter, and then at most 63 letters, digits or `_`
 abbrev pub is_name : List ℕ → Bool
 is_name [] = false
-is_name (byte ∷ rest) = is_letter byte && list_all is_word rest && nat_le (length rest) 63
+is_name (byte ∷ rest) = is_letter byte && list_all is_word rest && nat_le (length rest) (most_name_bytes - 1)
 
 abbrev pub IsName : List ℕ → Type 0
 IsName bytes = IsTrue (is_name bytes)
@@ -27,7 +28,7 @@ is_printable byte = nat_le 32 byte && nat_le byte 126
 
 -- at most 1,024 printable bytes
 abbrev pub is_text : List ℕ → Bool
-is_text bytes = nat_le (length bytes) 1024 && list_all is_printable bytes
+is_text bytes = nat_le (length bytes) most_text_bytes && list_all is_printable bytes
 
 abbrev pub IsText : List ℕ → Type 0
 IsText bytes = IsTrue (is_text bytes)

@@ -3,13 +3,13 @@ use Rattle.std.specs.Prelude.{ℕ, zero, suc, List, [], ◌∷◌, Bool, true, f
 use Rattle.std.specs.List.{list_all}
 use Rattle.dioc_terms.specs.declared.values.Value.{Value}
 use Rattle.dioc_terms.specs.declared.processes.ScopeHead.{ScopeHead}
-use Rattle.dioc_terms.specs.declared.bundles.Rule.{Rule}
 use Rattle.dioc_terms.specs.declared.bundles.Change.{Change}
 use Rattle.dioc_terms.specs.declared.bundles.Change.TheVariants as change
 use Rattle.dioc_terms.specs.Equality.{name_eq, member}
-use Rattle.dioc_terms.specs.Expressions.{expression}
+use Rattle.dioc_terms.specs.Limits.{top_level}
+use Rattle.dioc_terms.specs.Plain.{PlainRule}
 use Rattle.dioc_terms.specs.Stores.{Store}
-use Rattle.dioc_terms.specs.Terms.{term, mentions}
+use Rattle.dioc_terms.specs.Terms.{mentions}
 use Rattle.dioc_terms.specs.Values.{holds, bound}
 
 pub record Book : Type 0 where
@@ -18,12 +18,12 @@ pub record Book : Type 0 where
   -- the value of each key; an unset key is Nil
   pub environment : List ℕ → Value
 
-module _ (rules : List Rule) where
+module _ (rules : List PlainRule) where
   -- whether rule m has that name
   abbrev pub is_named : List ℕ → ℕ → Bool
   is_named name m = named_rule (slice_get rules m)
     where
-      named_rule : Option Rule → Bool
+      named_rule : Option PlainRule → Bool
       named_rule None = false
       named_rule (Some rule) = name_eq rule.name name
 
@@ -36,7 +36,7 @@ module _ (rules : List Rule) where
   abbrev pub added : ℕ → List ℕ → List ℕ
   added m order = by_rule (slice_get rules m)
     where
-      by_rule : Option Rule → List ℕ
+      by_rule : Option PlainRule → List ℕ
       by_rule None = order
       by_rule (Some rule) = add_rule m rule.name order
 
@@ -52,27 +52,27 @@ module _ (rules : List Rule) where
   abbrev pub fits : Book → ScopeHead → Store → ℕ → Bool
   fits book head s m = rule_fits (slice_get rules m)
     where
-      rule_fits : Option Rule → Bool
+      rule_fits : Option PlainRule → Bool
       rule_fits None = false
-      rule_fits (Some rule) = holds (expression rule.cond) s (bound head.props) book.environment
-          && list_all (λ q. member q head.roles) (mentions (term rule.body)) && nat_lt head.level 16
+      rule_fits (Some rule) = holds rule.cond s (bound head.props) book.environment
+          && list_all (λ q. member q head.roles) (mentions rule.body) && nat_lt head.level top_level
 
   -- whether rule m has no lower priority than rule n
   abbrev pub no_lower : ℕ → ℕ → Bool
   no_lower m n = compare_rules (slice_get rules m) (slice_get rules n)
     where
-      compare_rules : Option Rule → Option Rule → Bool
+      compare_rules : Option PlainRule → Option PlainRule → Bool
       compare_rules (Some a) (Some b) = int_le b.priority a.priority
       compare_rules _ _ = true
 
   -- of these rules the first of those with the greatest priority
   abbrev pub first_greatest : List ℕ → Option ℕ
   first_greatest [] = None
-  first_greatest (m ∷ ms) = better (first_greatest ms)
+  first_greatest (m ∷ ms) = greater_of (first_greatest ms)
     where
-      better : Option ℕ → Option ℕ
-      better None = Some m
-      better (Some n) = if no_lower m n then Some m else Some n
+      greater_of : Option ℕ → Option ℕ
+      greater_of None = Some m
+      greater_of (Some n) = if no_lower m n then Some m else Some n
 
   -- what the book chooses for a scope, given its leader's store
   abbrev pub choose : Book → ScopeHead → Store → Option ℕ
@@ -84,5 +84,5 @@ module _ (rules : List Rule) where
   opening_order (suc n) = added n (opening_order n)
 
 -- the book of a run's start: the opening rules, and the environment of the bundle, where the last pair of a key counts
-abbrev pub opening_book : List Rule → ℕ → List (List ℕ × Value) → Book
+abbrev pub opening_book : List PlainRule → ℕ → List (List ℕ × Value) → Book
 opening_book rules opening env = record { order = opening_order rules opening; environment = bound env }

@@ -128,23 +128,23 @@ constructs (If i r g I J) = suc (constructs I + constructs J)
 constructs (While i r g I) = suc (constructs I)
 constructs (Scope i r I extra props level) = suc (constructs I)
 
-abbrev pub mark_at : ℕ → Index
-mark_at n = record { epoch = 0; place = n }
+abbrev pub index_at : ℕ → Index
+index_at n = record { epoch = 0; place = n }
 
 -- the marks of a text where n indexed constructs begin before the term: epoch 0, places in order, levels 0
-abbrev pub marked_from : ℕ → Term → Term
-marked_from n Skip = Skip
-marked_from n (Com i o a e b x) = Com (mark_at n) o a e b x
-marked_from n (Set i x r e) = Set (mark_at n) x r e
-marked_from n (Input i x r) = Input (mark_at n) x r
-marked_from n (Seq I J) = Seq (marked_from n I) (marked_from (n + constructs I) J)
-marked_from n (Par I J) = Par (marked_from n I) (marked_from (n + constructs I) J)
-marked_from n (If i r g I J) = If (mark_at n) r g (marked_from (suc n) I) (marked_from (suc n + constructs I) J)
-marked_from n (While i r g I) = While (mark_at n) r g (marked_from (suc n) I)
-marked_from n (Scope i r I extra props level) = Scope (mark_at n) r (marked_from (suc n) I) extra props 0
+abbrev pub indexed_from : ℕ → Term → Term
+indexed_from n Skip = Skip
+indexed_from n (Com i o a e b x) = Com (index_at n) o a e b x
+indexed_from n (Set i x r e) = Set (index_at n) x r e
+indexed_from n (Input i x r) = Input (index_at n) x r
+indexed_from n (Seq I J) = Seq (indexed_from n I) (indexed_from (n + constructs I) J)
+indexed_from n (Par I J) = Par (indexed_from n I) (indexed_from (n + constructs I) J)
+indexed_from n (If i r g I J) = If (index_at n) r g (indexed_from (suc n) I) (indexed_from (suc n + constructs I) J)
+indexed_from n (While i r g I) = While (index_at n) r g (indexed_from (suc n) I)
+indexed_from n (Scope i r I extra props level) = Scope (index_at n) r (indexed_from (suc n) I) extra props 0
 
-abbrev pub marked : Term → Term
-marked I = marked_from 0 I
+abbrev pub indexed : Term → Term
+indexed I = indexed_from 0 I
 
 -- how many nodes, each Skip, Seq and Par counted
 abbrev pub nodes : Term → ℕ

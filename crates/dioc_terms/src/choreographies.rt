@@ -5,7 +5,7 @@ ghost use Rattle.dioc_terms.specs.Expressions.{expression};
 ghost use Rattle.dioc_terms.specs.Leaves.{is_leaf_term};
 ghost use Rattle.dioc_terms.specs.Terms.{term, Com, Set, Input, If, While, Scope};
 
-use crate::copies::boxed;
+use crate::copies::new_box;
 use crate::expressions::Expr;
 use crate::faults::Memory;
 use crate::lists::{Bindings, Roles};
@@ -116,7 +116,7 @@ impl Choreo {
     fn to_box(&self, alloc: Global) -> Result<Box<Choreo>, Memory>
         ensures { IfOk result (λ copy. term copy.value ≡ term self.now) }
     {
-        boxed(alloc, self.copy(alloc)?)
+        new_box(alloc, self.copy(alloc)?)
     }
 }
 

@@ -1,6 +1,6 @@
-//! Copies of values.
+//! Copies of values, boxes for them, and how a value is let go where memory runs out.
 
-ghost use Rattle.std.specs.Prelude.{◌≡◌, IfOk};
+ghost use Rattle.std.specs.Prelude.{◌≡◌, IfOk, Err};
 
 use crate::entries::Entry;
 use crate::faults::Memory;
@@ -69,9 +69,16 @@ impl TryCopy for (Name, Value) {
     }
 }
 
-/// The value in a box.
-pub(crate) fn boxed<T: Drop>(alloc: Global, value: T) -> Result<Box<T>, Memory>
+/// A box with the value, or want of memory for it; the value is then let go.
+pub fn new_box<T: Drop>(alloc: Global, value: T) -> Result<Box<T>, Memory>
     ensures { IfOk result (λ made. made.value ≡ value) }
 {
     Ok(Box::new(alloc, value)?)
+}
+
+/// Lets go of a value, for want of memory.
+pub fn give_up<T: Drop, U: Drop>(_value: T, fault: Memory) -> Result<U, Memory>
+    ensures { result ≡ Err fault }
+{
+    Err(fault)
 }

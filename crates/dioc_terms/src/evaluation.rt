@@ -4,14 +4,14 @@ ghost use Rattle.std.specs.Prelude.{◌≡◌, true, IfOk};
 ghost use Rattle.dioc_terms.specs.Conditions.{has_no_join, ConditionsJoinNothing};
 ghost use Rattle.dioc_terms.specs.Expressions.{expression};
 ghost use Rattle.dioc_terms.specs.KeptStores.{store_of};
-ghost use Rattle.dioc_terms.specs.SeenValues.{seen_value};
+ghost use Rattle.dioc_terms.specs.BorrowedValues.{borrowed_value};
 ghost use Rattle.dioc_terms.specs.Stores.{variable};
 ghost use Rattle.dioc_terms.specs.Values.{operate, eval, value_in, bound, holds, join_texts};
 
+use crate::borrowed::{BorrowedValue, denied, negated, operate};
 use crate::expressions::{Expr, Oper};
 use crate::faults::Memory;
 use crate::names::Name;
-use crate::seen::{Seen, denied, negated, operate};
 use crate::stores::Store;
 use crate::values::Value;
 use std::alloc::Global;
@@ -75,9 +75,9 @@ fn condition_value<'a>(
     store: &'a Store,
     props: &'a [(Name, Value)],
     env: &'a [(Name, Value)],
-) -> Seen<'a>
+) -> BorrowedValue<'a>
     requires { has_no_join (expression cond.now) ≡ true }
-    ensures { seen_value result ≡ value_in (variable (store_of store.now)) (bound props.now) (bound env.now) (expression cond.now) }
+    ensures { borrowed_value result ≡ value_in (variable (store_of store.now)) (bound props.now) (bound env.now) (expression cond.now) }
 {
     match cond {
         Expr::Const(value) => value.seen(),
@@ -95,10 +95,10 @@ fn condition_value<'a>(
 }
 
 /// The value that the last pair of a name gives it, Nil where no pair has the name.
-fn last_of<'a>(pairs: &'a [(Name, Value)], name: &Name) -> Seen<'a>
-    ensures { seen_value result ≡ bound pairs.now name.now }
+fn last_of<'a>(pairs: &'a [(Name, Value)], name: &Name) -> BorrowedValue<'a>
+    ensures { borrowed_value result ≡ bound pairs.now name.now }
 {
-    let mut last = Seen::Nil;
+    let mut last = BorrowedValue::Nil;
     for (key, value) in pairs {
         if key == name {
             last = value.seen();

@@ -3,7 +3,7 @@
 ghost use Rattle.std.specs.Prelude.{◌≡◌, IfOk};
 ghost use Rattle.dioc_terms.specs.Expressions.{expression};
 
-use crate::copies::boxed;
+use crate::copies::new_box;
 use crate::faults::Memory;
 use crate::names::Name;
 use crate::values::Value;
@@ -72,11 +72,11 @@ impl Expr {
             Expr::Var(name) => Ok(Expr::Var(name.copy(alloc)?)),
             Expr::Prop(name) => Ok(Expr::Prop(name.copy(alloc)?)),
             Expr::Env(name) => Ok(Expr::Env(name.copy(alloc)?)),
-            Expr::Not(inner) => Ok(Expr::Not(boxed(alloc, inner.copy(alloc)?)?)),
-            Expr::Neg(inner) => Ok(Expr::Neg(boxed(alloc, inner.copy(alloc)?)?)),
+            Expr::Not(inner) => Ok(Expr::Not(new_box(alloc, inner.copy(alloc)?)?)),
+            Expr::Neg(inner) => Ok(Expr::Neg(new_box(alloc, inner.copy(alloc)?)?)),
             Expr::Bin(oper, left, right) => {
-                let left = boxed(alloc, left.copy(alloc)?)?;
-                let right = boxed(alloc, right.copy(alloc)?)?;
+                let left = new_box(alloc, left.copy(alloc)?)?;
+                let right = new_box(alloc, right.copy(alloc)?)?;
                 Ok(Expr::Bin(*oper, left, right))
             }
         }

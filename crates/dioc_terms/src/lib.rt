@@ -1,6 +1,7 @@
 //! What every other crate speaks of: names, values, terms, processes, messages, entries and bundles.
 #![tactic(auto)]
 
+mod borrowed;
 mod bundles;
 mod choreographies;
 mod copies;
@@ -9,25 +10,32 @@ mod equality;
 mod evaluation;
 mod expressions;
 mod faults;
+mod forms;
+mod limits;
 mod lists;
 mod mentions;
 mod names;
 mod processes;
 mod rule_laws;
-mod seen;
 mod stamps;
 mod stores;
 mod term_laws;
 mod values;
+mod visibility;
 
 pub use bundles::{Bundle, Change, Last, Rule, Timed, Trace};
 pub use choreographies::Choreo;
-pub use copies::TryCopy;
+pub use copies::{TryCopy, give_up, new_box};
 pub use entries::{Act, Chosen, Entry, Note};
 pub use equality::equality_decides;
 pub use evaluation::{conditions_join_nothing, eval, test};
 pub use expressions::{Expr, Oper};
 pub use faults::{Memory, NameFault, SyntaxFault, TextFault};
+pub use limits::{
+    MOST_BODY_DEPTH, MOST_BODY_NODES, MOST_BRACKETS, MOST_BYTES, MOST_CHANGES, MOST_DEPTH,
+    MOST_EXPRESSION_DEPTH, MOST_NAME_BYTES, MOST_NODES, MOST_PRIORITY, MOST_ROLES, MOST_RULES,
+    MOST_TEXT_BYTES,
+};
 pub use lists::{Bindings, Entries, Items, Keys, Roles, Values};
 pub use mentions::roles;
 pub use names::{Index, Name, Role, Text};

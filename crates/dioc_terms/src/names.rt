@@ -150,7 +150,7 @@ impl Text {
 
 impl Text {
     ghost use Rattle.dioc_terms.specs.Values.{joined, text_lt};
-    ghost use Rattle.dioc_terms.specs.SeenValues.{text_or_nil};
+    ghost use Rattle.dioc_terms.specs.BorrowedValues.{text_or_nil};
 
     /// The text with another one after it, `None` where that has more than 1,024 bytes.
     pub(crate) fn join(&self, alloc: Global, other: &Text) -> Result<Option<Text>, Memory>

@@ -1,11 +1,10 @@
 //! The processes of roles, and the messages between them.
 
 ghost use Rattle.std.specs.Prelude.{◌≡◌, true, IfOk};
-ghost use Rattle.dioc_terms.specs.Expressions.{expression};
 ghost use Rattle.dioc_terms.specs.Leaves.{is_follower, is_leaf_process};
-ghost use Rattle.dioc_terms.specs.Processes.{process, letters, load, Send, Recv, Assign, Read, IfLead, IfFollow, WhileLead, WhileFollow, ScopeLead, ScopeFollow};
+ghost use Rattle.dioc_terms.specs.Processes.{process, letters, load, ScopeLead};
 
-use crate::copies::boxed;
+use crate::copies::new_box;
 use crate::expressions::Expr;
 use crate::faults::Memory;
 use crate::lists::{Bindings, Keys, Roles};
@@ -326,8 +325,8 @@ impl Messages {
             Messages::Nothing => Ok(Messages::Nothing),
             Messages::More(key, payload, rest) => {
                 let key = key.copy(alloc)?;
-                let payload = boxed(alloc, payload.copy(alloc)?)?;
-                let rest = boxed(alloc, rest.copy(alloc)?)?;
+                let payload = new_box(alloc, payload.copy(alloc)?)?;
+                let rest = new_box(alloc, rest.copy(alloc)?)?;
                 Ok(Messages::More(key, payload, rest))
             }
         }
@@ -352,14 +351,17 @@ impl Proc {
             } => {
                 let yes = yes.to_box(alloc)?;
                 let no = no.to_box(alloc)?;
-                copy_of_if_lead(alloc, *index, guard, others, yes, no)
+                Proc::lead_choice(alloc, *index, guard, others.copy(alloc)?, yes, no)
             }
             Proc::WhileLead {
                 index,
                 guard,
                 others,
                 body,
-            } => copy_of_while_lead(alloc, *index, guard, others, body.to_box(alloc)?),
+            } => {
+                let body = body.to_box(alloc)?;
+                Proc::lead_loop(alloc, *index, guard, others.copy(alloc)?, body)
+            },
             Proc::ScopeLead { head, others, body } => copy_of_scope_lead(
                 alloc,
                 head,
@@ -380,7 +382,7 @@ impl Proc {
     fn to_box(&self, alloc: Global) -> Result<Box<Proc>, Memory>
         ensures { IfOk result (λ copy. process copy.value ≡ process self.now) }
     {
-        boxed(alloc, self.copy(alloc)?)
+        new_box(alloc, self.copy(alloc)?)
     }
 }
 
@@ -399,18 +401,18 @@ fn copy_of_follower(alloc: Global, follower: &Proc) -> Result<Proc, Memory>
         } => {
             let yes = yes.to_box(alloc)?;
             let no = no.to_box(alloc)?;
-            copy_of_if_follow(alloc, *index, leader, yes, no)
+            Proc::follow_choice(alloc, *index, leader, yes, no)
         }
         Proc::WhileFollow {
             index,
             leader,
             body,
-        } => copy_of_while_follow(alloc, *index, leader, body.to_box(alloc)?),
+        } => Proc::follow_loop(alloc, *index, leader, body.to_box(alloc)?),
         Proc::ScopeFollow {
             index,
             leader,
             body,
-        } => copy_of_scope_follow(alloc, *index, leader, body.to_box(alloc)?),
+        } => Proc::follow_scope(alloc, *index, leader, body.to_box(alloc)?),
         _ => unreachable!(),
     }
 }
@@ -427,15 +429,15 @@ fn copy_of_leaf(alloc: Global, leaf: &Proc) -> Result<Proc, Memory>
             op,
             to,
             expr,
-        } => copy_of_send(alloc, *index, op, to, expr),
+        } => Proc::send(alloc, *index, op, to, expr),
         Proc::Recv {
             index,
             op,
             from,
             var,
-        } => copy_of_recv(alloc, *index, op, from, var),
-        Proc::Assign { index, var, expr } => copy_of_assign(alloc, *index, var, expr),
-        Proc::Read { index, var } => copy_of_read(alloc, *index, var),
+        } => Proc::receive(alloc, *index, op, from, var),
+        Proc::Assign { index, var, expr } => Proc::assign(alloc, *index, var, expr),
+        Proc::Read { index, var } => Proc::read(alloc, *index, var),
         Proc::Gather { keys } => Ok(Proc::Gather {
             keys: keys.copy(alloc)?,
         }),
@@ -443,127 +445,7 @@ fn copy_of_leaf(alloc: Global, leaf: &Proc) -> Result<Proc, Memory>
     }
 }
 
-fn copy_of_send(
-    alloc: Global,
-    index: Index,
-    op: &Name,
-    to: &Role,
-    expr: &Expr,
-) -> Result<Proc, Memory>
-    ensures { IfOk result (λ copy. process copy ≡ Send index op.now to.now (expression expr.now)) }
-{
-    Ok(Proc::Send {
-        index,
-        op: op.copy(alloc)?,
-        to: to.copy(alloc)?,
-        expr: expr.copy(alloc)?,
-    })
-}
-
-fn copy_of_recv(
-    alloc: Global,
-    index: Index,
-    op: &Name,
-    from: &Role,
-    var: &Name,
-) -> Result<Proc, Memory>
-    ensures { IfOk result (λ copy. process copy ≡ Recv index op.now from.now var.now) }
-{
-    Ok(Proc::Recv {
-        index,
-        op: op.copy(alloc)?,
-        from: from.copy(alloc)?,
-        var: var.copy(alloc)?,
-    })
-}
-
-fn copy_of_assign(alloc: Global, index: Index, var: &Name, expr: &Expr) -> Result<Proc, Memory>
-    ensures { IfOk result (λ copy. process copy ≡ Assign index var.now (expression expr.now)) }
-{
-    Ok(Proc::Assign {
-        index,
-        var: var.copy(alloc)?,
-        expr: expr.copy(alloc)?,
-    })
-}
-
-fn copy_of_read(alloc: Global, index: Index, var: &Name) -> Result<Proc, Memory>
-    ensures { IfOk result (λ copy. process copy ≡ Read index var.now) }
-{
-    Ok(Proc::Read {
-        index,
-        var: var.copy(alloc)?,
-    })
-}
-
-fn copy_of_if_lead(
-    alloc: Global,
-    index: Index,
-    guard: &Expr,
-    others: &Roles,
-    yes: Box<Proc>,
-    no: Box<Proc>,
-) -> Result<Proc, Memory>
-    ensures { IfOk result (λ copy. process copy ≡ IfLead index (expression guard.now) others.now (process yes.value) (process no.value)) }
-{
-    Ok(Proc::IfLead {
-        index,
-        guard: guard.copy(alloc)?,
-        others: others.copy(alloc)?,
-        yes,
-        no,
-    })
-}
-
-fn copy_of_if_follow(
-    alloc: Global,
-    index: Index,
-    leader: &Role,
-    yes: Box<Proc>,
-    no: Box<Proc>,
-) -> Result<Proc, Memory>
-    ensures { IfOk result (λ copy. process copy ≡ IfFollow index leader.now (process yes.value) (process no.value)) }
-{
-    Ok(Proc::IfFollow {
-        index,
-        leader: leader.copy(alloc)?,
-        yes,
-        no,
-    })
-}
-
-fn copy_of_while_lead(
-    alloc: Global,
-    index: Index,
-    guard: &Expr,
-    others: &Roles,
-    body: Box<Proc>,
-) -> Result<Proc, Memory>
-    ensures { IfOk result (λ copy. process copy ≡ WhileLead index (expression guard.now) others.now (process body.value)) }
-{
-    Ok(Proc::WhileLead {
-        index,
-        guard: guard.copy(alloc)?,
-        others: others.copy(alloc)?,
-        body,
-    })
-}
-
-fn copy_of_while_follow(
-    alloc: Global,
-    index: Index,
-    leader: &Role,
-    body: Box<Proc>,
-) -> Result<Proc, Memory>
-    ensures { IfOk result (λ copy. process copy ≡ WhileFollow index leader.now (process body.value)) }
-{
-    Ok(Proc::WhileFollow {
-        index,
-        leader: leader.copy(alloc)?,
-        body,
-    })
-}
-
+/// A copy of what a leader of a scope does, with this body.
 fn copy_of_scope_lead(
     alloc: Global,
     head: &ScopeHead,
@@ -575,21 +457,6 @@ fn copy_of_scope_lead(
     Ok(Proc::ScopeLead {
         head: head.copy(alloc)?,
         others: others.copy(alloc)?,
-        body,
-    })
-}
-
-fn copy_of_scope_follow(
-    alloc: Global,
-    index: Index,
-    leader: &Role,
-    body: Box<Proc>,
-) -> Result<Proc, Memory>
-    ensures { IfOk result (λ copy. process copy ≡ ScopeFollow index leader.now (process body.value)) }
-{
-    Ok(Proc::ScopeFollow {
-        index,
-        leader: leader.copy(alloc)?,
         body,
     })
 }

@@ -1,9 +1,9 @@
 //! The store of a role: its variables, and the inputs that it has left.
 
+use crate::borrowed::BorrowedValue;
 use crate::faults::Memory;
 use crate::lists::Values;
 use crate::names::Name;
-use crate::seen::Seen;
 use crate::values::Value;
 use indexmap::IndexMap;
 use std::alloc::Global;
@@ -17,10 +17,10 @@ pub struct Store {
 }
 
 impl Store {
-    ghost use Rattle.std.specs.Prelude.{◌≡◌, ◌+◌, ◌<◌, ◌≤◌, None, OnOk};
+    ghost use Rattle.std.specs.Prelude.{◌≡◌, ◌≢◌, ◌+◌, ◌<◌, ◌≤◌, None, IsOk, IfOk, OnOk};
     ghost use Rattle.std.specs.Option.{option_copied};
     ghost use Rattle.dioc_terms.specs.Stores.{fresh_store, variable, set_variable, next_input, drop_input};
-    ghost use Rattle.dioc_terms.specs.SeenValues.{seen_value};
+    ghost use Rattle.dioc_terms.specs.BorrowedValues.{borrowed_value};
     ghost use Rattle.dioc_terms.specs.KeptStores.{store_of, room};
 
     /// A store in which no variable is set, with these inputs left. It takes no memory.
@@ -41,18 +41,19 @@ impl Store {
     }
 
     /// The value of a variable, Nil where it is unset.
-    pub(crate) fn seen(&self, name: &Name) -> Seen<'_>
-        ensures { seen_value result ≡ variable (store_of self.now) name.now }
+    pub(crate) fn seen(&self, name: &Name) -> BorrowedValue<'_>
+        ensures { borrowed_value result ≡ variable (store_of self.now) name.now }
     {
         match self.variables.get(name) {
             Some(value) => value.seen(),
-            None => Seen::Nil,
+            None => BorrowedValue::Nil,
         }
     }
 
-    /// Makes room for so many new variables.
+    /// Makes room for so many new variables. After want of memory there is no less room than before.
     pub fn reserve(&mut self, count: usize) -> Result<(), Memory>
         ensures ok { OnOk result (count ≤ room self.new) }
+        ensures enough { count ≤ room self.old → IsOk result }
         ensures same { store_of self.new ≡ store_of self.old }
         ensures keeps_room { room self.old ≤ room self.new }
     {
@@ -60,13 +61,18 @@ impl Store {
         Ok(())
     }
 
-    /// Sets a variable. It takes no memory: either the variable is set already, or there is room for one.
+    /// Sets a variable. It takes no memory: either the variable is set already, and then the room stays as it is, or there is
+    /// room for one.
     pub fn set(&mut self, name: Name, value: Value)
         requires { (store_of self.old).variables name ≡ None → 0 < room self.old }
         ensures set { store_of self.new ≡ set_variable name value (store_of self.old) }
         ensures room_left { room self.old ≤ room self.new + 1 }
+        ensures kept { (store_of self.old).variables name ≢ None → room self.new ≡ room self.old }
     {
-        let _old_value = self.variables.insert(name, value).unwrap();
+        match self.variables.get_mut(&name) {
+            Some(place) => *place = value,
+            None => drop(self.variables.insert(name, value).unwrap()),
+        }
     }
 
     /// Takes the next input, which is Nil where none is left. It takes no memory.
@@ -76,5 +82,15 @@ impl Store {
         ensures keeps_room { room self.new ≡ room self.old }
     {
         self.inputs.pop_front().unwrap_or(Value::Nil)
+    }
+
+    /// A copy of the next input, which is Nil where none is left. The input stays.
+    pub fn copy_of_next_input(&self, alloc: Global) -> Result<Value, Memory>
+        ensures { IfOk result (λ value. value ≡ next_input (store_of self.now)) }
+    {
+        match self.inputs.front() {
+            None => Ok(Value::Nil),
+            Some(value) => value.copy(alloc),
+        }
     }
 }

@@ -12,17 +12,17 @@ use Rattle.dioc_terms.specs.declared.entries.Act.TheVariants as act
 use Rattle.dioc_terms.specs.Equality.{act_eq}
 use Rattle.dioc_terms.specs.EqualityLemmas.{equality-decides}
 use Rattle.dioc_terms.specs.Messages.{act_of}
-use Rattle.dioc_terms.specs.Moves.{Move, Stuck, Does, under, when}
+use Rattle.dioc_terms.specs.Attempts.{Attempt, Stuck, Does, under, when}
 use Rattle.dioc_terms.specs.Processes.{Process, Skip, Send, Recv, Assign, Read, Seq, Par, IfLead, IfFollow, WhileLead, WhileFollow, ScopeLead, ScopeFollow, Tell, Gather, Nothing, More, Val, Flag, Keep, Part}
 use Rattle.dioc_terms.specs.Stores.{Store}
 use Rattle.dpoc_process.specs.Laws.{given_fits, is_done, OffersAreSteps, StepsShowTheirActs}
-use Rattle.dpoc_process.specs.Steps.{Deed, Given, Got, Answers, Decision, Keeps, Replaces, entry_of, key, ended, after, offers, is_offered, take_value, take_flag, take_any, take_begin, begin_scope, choose_scope, while_follows, gathering, step}
+use Rattle.dpoc_process.specs.Steps.{Deed, Given, Got, FromBook, Decision, Keeps, Replaces, entry_of, key, ended, after, offers, is_offered, take_value, take_flag, take_any, take_begin, begin_scope, choose_scope, while_follows, gathering, step}
 
-done_under : {D A B : Type 0} (f : A → B) (m : Move D A) → is_done (under f m) ≡ is_done m
+done_under : {D A B : Type 0} (f : A → B) (m : Attempt D A) → is_done (under f m) ≡ is_done m
 done_under f Stuck = refl
 done_under f (Does d a) = refl
 
-done_if : {D A : Type 0} (t : Bool) (m n : Move D A) → is_done (if t then m else n) ≡ (if t then is_done m else is_done n)
+done_if : {D A : Type 0} (t : Bool) (m n : Attempt D A) → is_done (if t then m else n) ≡ (if t then is_done m else is_done n)
 done_if true m n = refl
 done_if false m n = refl
 
@@ -39,7 +39,7 @@ free true d x = refl
 free false d x = refl
 
 -- an act that takes, with what fits it
-taken : {D A : Type 0} (t : Bool) (m : Move D A) → (t ≡ true → is_done m ≡ true) → is_done (when t m) ≡ (t || false)
+taken : {D A : Type 0} (t : Bool) (m : Attempt D A) → (t ≡ true → is_done m ≡ true) → is_done (when t m) ≡ (t || false)
 taken true m h = h refl
 taken false m h = refl
 
@@ -70,7 +70,7 @@ any_done k P given h = cc
 
 scope_done : (me : Role) (head : ScopeHead) (others : List Role) (P : Process) (given : Given) → given_fits (act.Scope head.index) given ≡ true
     → is_done (choose_scope me head others P given) ≡ true
-scope_done me head others P (Answers decide) h = begun (decide head)
+scope_done me head others P (FromBook decide) h = begun (decide head)
   where
     begun : (decision : Decision) → is_done (begin_scope me head.index others P decision) ≡ true
     begun Keeps = refl
@@ -78,15 +78,15 @@ scope_done me head others P (Answers decide) h = begun (decide head)
 scope_done me head others P given h = cc
 
 -- the parts of a move under a test
-when_done : {D A : Type 0} (t : Bool) (m : Move D A) → is_done (when t m) ≡ true → (t || false) ≡ true
+when_done : {D A : Type 0} (t : Bool) (m : Attempt D A) → is_done (when t m) ≡ true → (t || false) ≡ true
 when_done true m h = refl
 when_done false m h = h
 
-when_parts : {D A : Type 0} (t : Bool) (m : Move D A) {d : D} {x : A} → when t m ≡ Does d x → (t ≡ true) × (m ≡ Does d x)
+when_parts : {D A : Type 0} (t : Bool) (m : Attempt D A) {d : D} {x : A} → when t m ≡ Does d x → (t ≡ true) × (m ≡ Does d x)
 when_parts true m h = (refl, h)
 when_parts false m h = cc
 
-under_parts : {D A B : Type 0} (f : A → B) (m : Move D A) {d : D} {y : B} → under f m ≡ Does d y → (x : A) × (m ≡ Does d x)
+under_parts : {D A B : Type 0} (f : A → B) (m : Attempt D A) {d : D} {y : B} → under f m ≡ Does d y → (x : A) × (m ≡ Does d x)
 under_parts f Stuck h = cc
 under_parts f (Does e x) h = (x, ap (λ d. Does d x) (deed_same h))
   where
@@ -179,7 +179,7 @@ same_deed : {d e : Deed} {x y : Process} → Does d x ≡ Does e y → d ≡ e
 same_deed k = cc
 
 -- what is done is the act
-shown : (a b : Act) (m : Move Deed Process) {d : Deed} {P : Process} → when (act_eq a b) m ≡ Does d P
+shown : (a b : Act) (m : Attempt Deed Process) {d : Deed} {P : Process} → when (act_eq a b) m ≡ Does d P
     → (m ≡ Does d P → act_of (entry_of d) ≡ Some b) → act_of (entry_of d) ≡ Some a
 shown a b m h k = let parts = when_parts (act_eq a b) m h in k parts.1 ∙ ap Some (sym (act_same a b parts.0))
 
@@ -208,7 +208,7 @@ begin_shows leader me i P given d P' h = cc
 
 scope_shows : (me : Role) (head : ScopeHead) (others : List Role) (P : Process) (given : Given) (d : Deed) (P' : Process)
     → choose_scope me head others P given ≡ Does d P' → act_of (entry_of d) ≡ Some (act.Scope head.index)
-scope_shows me head others P (Answers decide) d P' h = begun (decide head) h
+scope_shows me head others P (FromBook decide) d P' h = begun (decide head) h
   where
     begun : (decision : Decision) → begin_scope me head.index others P decision ≡ Does d P' → act_of (entry_of d) ≡ Some (act.Scope head.index)
     begun Keeps k = ap (λ c. act_of (entry_of c)) (sym (same_deed k))

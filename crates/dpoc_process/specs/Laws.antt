@@ -6,10 +6,10 @@ use Rattle.dioc_terms.specs.declared.processes.Tag.TheVariants.{Op, Choice, Go, 
 use Rattle.dioc_terms.specs.declared.entries.Act.{Act}
 use Rattle.dioc_terms.specs.declared.entries.Act.TheVariants as act
 use Rattle.dioc_terms.specs.Messages.{act_of}
-use Rattle.dioc_terms.specs.Moves.{Move, Stuck, Does}
+use Rattle.dioc_terms.specs.Attempts.{Attempt, Stuck, Does}
 use Rattle.dioc_terms.specs.Processes.{Process, Load, Val, Flag, Keep, Part}
 use Rattle.dioc_terms.specs.Stores.{Store}
-use Rattle.dpoc_process.specs.Steps.{Deed, Given, Got, Answers, entry_of, ended, offers, is_offered, step}
+use Rattle.dpoc_process.specs.Steps.{Deed, Given, Got, FromBook, entry_of, ended, offers, is_offered, step}
 
 -- what a message with this tag carries: a value, a flag, or the begin of a scope; of the ends of parts nothing is asked
 abbrev pub load_fits : Tag → Load → Bool
@@ -28,11 +28,11 @@ load_fits _ l = true
 abbrev pub given_fits : Act → Given → Bool
 given_fits (act.Take k) (Got l) = load_fits k.tag l
 given_fits (act.Take k) _ = false
-given_fits (act.Scope i) (Answers decide) = true
+given_fits (act.Scope i) (FromBook decide) = true
 given_fits (act.Scope i) _ = false
 given_fits _ given = true
 
-abbrev pub is_done : {D A : Type 0} → Move D A → Bool
+abbrev pub is_done : {D A : Type 0} → Attempt D A → Bool
 is_done Stuck = false
 is_done (Does d a) = true
 

@@ -15,7 +15,7 @@ use Rattle.dioc_terms.specs.declared.entries.Chosen.TheVariants as chosen
 use Rattle.dioc_terms.specs.declared.entries.Entry.{Entry}
 use Rattle.dioc_terms.specs.declared.entries.Entry.TheVariants as entry
 use Rattle.dioc_terms.specs.Equality.{act_eq}
-use Rattle.dioc_terms.specs.Moves.{Move, Stuck, Does, under, when}
+use Rattle.dioc_terms.specs.Attempts.{Attempt, Stuck, Does, under, when}
 use Rattle.dioc_terms.specs.Processes.{Process, Skip, Send, Recv, Assign, Read, Seq, Par, IfLead, IfFollow, WhileLead, WhileFollow, ScopeLead, ScopeFollow, Tell, Gather, Letters, Nothing, More, Load, Val, Flag, Keep, Part, Done, noted}
 use Rattle.dioc_terms.specs.Stores.{Store, set_variable, next_input, drop_input}
 use Rattle.dioc_terms.specs.Values.{eval, is_true}
@@ -70,11 +70,11 @@ pub data Decision : Type 0 where
 -- what comes to a step from outside of its role
 pub data Given : Type 0 where
   -- nothing is there
-  Nil : Given
+  Alone : Given
   -- the message that is taken
   Got : Load → Given
   -- what the book says of a scope that is begun
-  Answers : (ScopeHead → Decision) → Given
+  FromBook : (ScopeHead → Decision) → Given
 
 -- what a role did in a step: all that the entry, the mail and its store need to know
 pub data Deed : Type 0 where
@@ -124,32 +124,32 @@ scope_leads me others i begin P =
 abbrev pub scope_follows : Role → Role → Index → Process → Process
 scope_follows leader me i P = after P (Seq (send_one (key me leader i End) Done) (Gather (key leader me i Out ∷ [])))
 
-abbrev pub take_value : Key → List ℕ → Given → Move Deed Process
+abbrev pub take_value : Key → List ℕ → Given → Attempt Deed Process
 take_value k x (Got (Val v)) = Does (Takes k (Some x) (Val v)) Skip
 take_value k x _ = Stuck
 
 -- the follower of a choice or of a loop: one way where the flag is true, the other where it is false
-abbrev pub take_flag : Key → Process → Process → Given → Move Deed Process
+abbrev pub take_flag : Key → Process → Process → Given → Attempt Deed Process
 take_flag k P Q (Got (Flag b)) = Does (Takes k None (Flag b)) (if b then P else Q)
 take_flag k P Q _ = Stuck
 
 -- a gather takes whatever came under its key
-abbrev pub take_any : Key → Process → Given → Move Deed Process
+abbrev pub take_any : Key → Process → Given → Attempt Deed Process
 take_any k P (Got l) = Does (Takes k None l) P
 take_any k P _ = Stuck
 
-abbrev pub take_begin : Role → Role → Index → Process → Given → Move Deed Process
+abbrev pub take_begin : Role → Role → Index → Process → Given → Attempt Deed Process
 take_begin leader me i P (Got Keep) = Does (Takes (key leader me i Begin) None Keep) (scope_follows leader me i P)
 take_begin leader me i P (Got (Part n R)) = Does (Takes (key leader me i Begin) None (Part n R)) (scope_follows leader me i R)
 take_begin leader me i P _ = Stuck
 
-abbrev pub begin_scope : Role → Index → List Role → Process → Decision → Move Deed Process
+abbrev pub begin_scope : Role → Index → List Role → Process → Decision → Attempt Deed Process
 begin_scope me i others P Keeps = Does (Chooses i me chosen.Keep) (scope_leads me others i (λ q. Keep) P)
 begin_scope me i others P (Replaces name n part) =
     Does (Chooses i me (chosen.Rule name n)) (scope_leads me others i (λ q. Part n (part q)) (part me))
 
-abbrev pub choose_scope : Role → ScopeHead → List Role → Process → Given → Move Deed Process
-choose_scope me head others P (Answers decide) = begin_scope me head.index others P (decide head)
+abbrev pub choose_scope : Role → ScopeHead → List Role → Process → Given → Attempt Deed Process
+choose_scope me head others P (FromBook decide) = begin_scope me head.index others P (decide head)
 choose_scope me head others P _ = Stuck
 
 -- the acts that a process offers, from left to right
@@ -177,7 +177,7 @@ is_offered a acts = list_any (act_eq a) acts
 
 -- The step of a process by an act: what was done, and what the process becomes. The role, its store, the process, the act, and what
 -- comes from outside.
-abbrev pub step : Role → Store → Process → Act → Given → Move Deed Process
+abbrev pub step : Role → Store → Process → Act → Given → Attempt Deed Process
 step me s Skip a given = Stuck
 -- sends the value of its expression
 step me s (Send i o b e) a given =

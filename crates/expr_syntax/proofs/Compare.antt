@@ -3,7 +3,7 @@ use Rattle.std.proofs.Common.{◌≡◌, ℕ, ◌<◌, true, false, List, ◌∷
 use Rattle.dioc_terms.specs.declared.expressions.Oper.{Oper}
 use Rattle.dioc_terms.specs.Expressions.{Expression, Not, Neg, Bin}
 use Rattle.aioc_tokens.specs.declared.words.Word.TheVariants as word
-use Rattle.aioc_tokens.specs.declared.words.Mark.TheVariants as mark
+use Rattle.aioc_tokens.specs.declared.words.Punctuator.TheVariants as punctuator
 use Rattle.aioc_tokens.specs.Lexemes.{Lexeme, Reserved, Symbol, sort_of}
 use Rattle.expr_syntax.specs.Levels.{tighter, operator}
 use Rattle.expr_syntax.specs.Grammar.{Reads, Follows, chain, denied, not_denied, alone, compared, single, negated, bracketed, ended, more, leaf, and_left, begins_with_number}
@@ -25,7 +25,7 @@ pub halted : {kind : ExprKind} {level : Level} {room : ℕ} {first whole : Expre
 halted ended going = refl
 halted {kind} {level} {room} {first} {whole} {from} (more {oper = oper} is r f) going = let stops = operator_stops kind level (sort_of from) oper is in absurd cc
 
-pub paren_stops : (kind : ExprKind) (middle to : List Lexeme) → middle ≡ Symbol mark.RightParen ∷ to → goes kind Disjunction (sort_of middle) ≡ false
+pub paren_stops : (kind : ExprKind) (middle to : List Lexeme) → middle ≡ Symbol punctuator.RightParen ∷ to → goes kind Disjunction (sort_of middle) ≡ false
 paren_stops kind middle to is = rw is refl
 
 -- no `not` stands first at a level inside a comparison
@@ -81,13 +81,13 @@ unary_same (nearer less going) parts = nearer less going
 single_same : (kind : ExprKind) (from from2 to end : List Lexeme) (whole other : Expression) → from ≡ from2 → leaf kind from ≡ Some (and_left to whole) → leaf kind from2 ≡ Some (and_left end other) → (whole ≡ other) × (to ≡ end)
 single_same kind from from2 to end whole other is found found2 = same_pair (sym found ∙ ap (leaf kind) is ∙ found2)
 
-pub no_single_negated : (kind : ExprKind) (from inside to : List Lexeme) (whole : Expression) → leaf kind from ≡ Some (and_left to whole) → from ≡ Symbol mark.Minus ∷ inside → begins_with_number inside ≡ false → ⊥
+pub no_single_negated : (kind : ExprKind) (from inside to : List Lexeme) (whole : Expression) → leaf kind from ≡ Some (and_left to whole) → from ≡ Symbol punctuator.Minus ∷ inside → begins_with_number inside ≡ false → ⊥
 no_single_negated kind from inside to whole found begins other = let none = no_minus kind inside other in cc (ap (leaf kind) begins)
 
-pub no_single_bracketed : (kind : ExprKind) (from inside to : List Lexeme) (whole : Expression) → leaf kind from ≡ Some (and_left to whole) → from ≡ Symbol mark.LeftParen ∷ inside → ⊥
+pub no_single_bracketed : (kind : ExprKind) (from inside to : List Lexeme) (whole : Expression) → leaf kind from ≡ Some (and_left to whole) → from ≡ Symbol punctuator.LeftParen ∷ inside → ⊥
 no_single_bracketed kind from inside to whole found begins = let none = no_paren kind inside in cc (ap (leaf kind) begins)
 
-bracketed_same : {kind : ExprKind} {left right : Expression} {middle middle2 to end : List Lexeme} → Compared kind Disjunction left right middle middle2 → middle ≡ Symbol mark.RightParen ∷ to → middle2 ≡ Symbol mark.RightParen ∷ end → Compared kind Unary left right to end
+bracketed_same : {kind : ExprKind} {left right : Expression} {middle middle2 to end : List Lexeme} → Compared kind Disjunction left right middle middle2 → middle ≡ Symbol punctuator.RightParen ∷ to → middle2 ≡ Symbol punctuator.RightParen ∷ end → Compared kind Unary left right to end
 bracketed_same (same is at) ends ends2 = same is (cc)
 bracketed_same {kind} {left} {right} {middle} {middle2} {to} {end} (further less going) ends ends2 = let stops = paren_stops kind middle to ends in absurd cc
 bracketed_same {kind} {left} {right} {middle} {middle2} {to} {end} (nearer less going) ends ends2 = let stops = paren_stops kind middle2 end ends2 in absurd cc

@@ -16,7 +16,7 @@ use mir.Val.{SFits}
 use Rattle.dioc_terms.specs.declared.values.Value.{Value}
 use Rattle.dioc_terms.specs.declared.values.Value.TheVariants as value
 use Rattle.aioc_tokens.specs.declared.words.Sort.TheVariants as sorts
-use Rattle.aioc_tokens.specs.declared.words.Mark.TheVariants as mark
+use Rattle.aioc_tokens.specs.declared.words.Punctuator.TheVariants as punctuator
 use Rattle.aioc_tokens.specs.Lexemes.{Lexeme, Long, Number, Symbol, sort_of}
 use Rattle.aioc_tokens.proofs.Places.{number_at}
 use Rattle.expr_syntax.specs.Constants.{greatest, greatest_negated, number_up_to, number, positive, negative, before, constant, ConstantAt}
@@ -79,19 +79,19 @@ positive_none text at sort none =
     let (digits, first) = number_at text at sort in
     (ap constant first ∙ ap (option_map (λ n. before (drop (at + 1) text) (positive n))) (sym (none ∙ ap (number greatest) first)), tt)
 
-module _ (text : List Lexeme) (at : ℕ) (minus : drop at text ≡ Symbol mark.Minus ∷ drop (at + 1) text) where
+module _ (text : List Lexeme) (at : ℕ) (minus : drop at text ≡ Symbol punctuator.Minus ∷ drop (at + 1) text) where
   pub negative_taken : (n : ℕ) (z : ℤ) → z ≡ neg_ℤ (pos n) → SFits w64 z → Some n ≡ number greatest_negated (drop (at + 1) text) → ConstantAt text at (Some (value.Int (to_z w64 (of_z w64 z)), at + 2))
   negative_taken n z is fits found =
       let read = read_number greatest_negated n (drop (at + 1) text) found in
       let within = drop_within text (drop 1 (drop (at + 1) text)) (at + 1) (Number read.digits) read.first in
       let rest : drop (at + 1) text ≡ Number read.digits ∷ drop (at + 2) text = read.first ∙ ap (λ others. Number read.digits ∷ others) (drop-drop 1 (at + 1) text ∙ ap (λ place. drop place text) (add_assoc at 1 1)) in
       rw (to_z-of_z w64 z fits, is)
-      (ap constant (minus ∙ ap (λ others. Symbol mark.Minus ∷ others) rest) ∙ ap (option_map (λ n. before (drop (at + 2) text) (negative n))) (sym read.value), (omega arith, omega arith))
+      (ap constant (minus ∙ ap (λ others. Symbol punctuator.Minus ∷ others) rest) ∙ ap (option_map (λ n. before (drop (at + 2) text) (negative n))) (sym read.value), (omega arith, omega arith))
 
   pub negative_none : None ≡ number greatest_negated (drop (at + 1) text) → ConstantAt text at None
   negative_none none = (ap constant minus ∙ go (drop (at + 1) text) none, tt)
     where
-      go : (rest : List Lexeme) → None ≡ number greatest_negated rest → constant (Symbol mark.Minus ∷ rest) ≡ None
+      go : (rest : List Lexeme) → None ≡ number greatest_negated rest → constant (Symbol punctuator.Minus ∷ rest) ≡ None
       go (Number digits ∷ others) found = ap (option_map (λ n. before others (negative n))) (sym found)
       go [] found = refl
       go (Long ∷ others) found = refl

@@ -4,7 +4,7 @@ use Rattle.dioc_terms.specs.declared.expressions.Oper.{Oper}
 use Rattle.dioc_terms.specs.declared.expressions.Expr.{Expr}
 use Rattle.dioc_terms.specs.Expressions.{Not, Neg, Bin, expression, expression_depth}
 use Rattle.aioc_tokens.specs.declared.words.Word.TheVariants as word
-use Rattle.aioc_tokens.specs.declared.words.Mark.TheVariants as mark
+use Rattle.aioc_tokens.specs.declared.words.Punctuator.TheVariants as punctuator
 use Rattle.aioc_tokens.specs.declared.words.Sort.TheVariants as sorts
 use Rattle.aioc_tokens.specs.Lexemes.{Lexeme, Reserved, Symbol, sort_of}
 use Rattle.aioc_tokens.specs.Fronts.{Longest, NoFront}
@@ -34,7 +34,7 @@ module _ (kind : ExprKind) (room deep : ℕ) (text : List Lexeme) (at : ℕ) whe
         after = omega arith;
       }
 
-  pub leaf_missing : (sort_of (drop at text) ≡ sorts.Symbol mark.Minus → begins_with_number (drop (at + 1) text) ≡ true) → sort_of (drop at text) ≢ sorts.Symbol mark.LeftParen → LeafAt kind text at None → NoFront (IsShallow kind Unary room deep (drop at text))
+  pub leaf_missing : (sort_of (drop at text) ≡ sorts.Symbol punctuator.Minus → begins_with_number (drop (at + 1) text) ≡ true) → sort_of (drop at text) ≢ sorts.Symbol punctuator.LeftParen → LeafAt kind text at None → NoFront (IsShallow kind Unary room deep (drop at text))
   leaf_missing minus paren is = leaf_none (λ sort. ap begins_with_number (one_more text at) ∙ minus sort) paren is.0
 
   pub whole_found : (level : Level) (first whole : Found) → is_chain level ≡ true → Finds kind (tighter level) room deep text at first → Grows kind level room deep text first whole → Finds kind level room deep text at whole
@@ -80,7 +80,7 @@ module _ (kind : ExprKind) (room deep : ℕ) (text : List Lexeme) (at : ℕ) whe
   plain_at other None none = negation_plain_none other none
   plain_at other (Some found) one = record { front = negation_plain other one.front; noted = one.noted; after = one.after }
 
-  pub negated_found : (inner whole : Found) → 0 < deep → drop at text ≡ Symbol mark.Minus ∷ drop (at + 1) text → begins_with_number (drop (at + 1) text) ≡ false → Finds kind Unary room (deep - 1) text (at + 1) inner
+  pub negated_found : (inner whole : Found) → 0 < deep → drop at text ≡ Symbol punctuator.Minus ∷ drop (at + 1) text → begins_with_number (drop (at + 1) text) ≡ false → Finds kind Unary room (deep - 1) text (at + 1) inner
       → expression whole.expr ≡ Neg (expression inner.expr) → whole.depth ≡ suc inner.depth → whole.at ≡ inner.at → Finds kind Unary room deep text at whole
   negated_found inner whole some begins minus one negates depth place =
       let depth1 = one.noted.depth in
@@ -91,7 +91,7 @@ module _ (kind : ExprKind) (room deep : ℕ) (text : List Lexeme) (at : ℕ) whe
         after = (let before = one.after in omega arith);
       }
 
-  pub bracket_found : (inner : Found) → 0 < room → drop at text ≡ Symbol mark.LeftParen ∷ drop (at + 1) text → Finds kind Disjunction (room - 1) deep text (at + 1) inner → drop inner.at text ≡ Symbol mark.RightParen ∷ drop (inner.at + 1) text → inner.at < length text
+  pub bracket_found : (inner : Found) → 0 < room → drop at text ≡ Symbol punctuator.LeftParen ∷ drop (at + 1) text → Finds kind Disjunction (room - 1) deep text (at + 1) inner → drop inner.at text ≡ Symbol punctuator.RightParen ∷ drop (inner.at + 1) text → inner.at < length text
       → Finds kind Unary room deep text at (record { expr = inner.expr; depth = inner.depth; at = inner.at + 1 })
   bracket_found inner some begins one ends within = record {
     front = bracket_front some begins one.front ends;

@@ -3,7 +3,7 @@ use Rattle.std.proofs.Common.{◌≡◌, ◌≢◌, ℕ, suc, ◌-◌, ◌<◌, 
 use Rattle.dioc_terms.specs.declared.expressions.Oper.{Oper}
 use Rattle.dioc_terms.specs.Expressions.{Expression, Not, Neg, Bin, expression_depth}
 use Rattle.aioc_tokens.specs.declared.words.Word.TheVariants as word
-use Rattle.aioc_tokens.specs.declared.words.Mark.TheVariants as mark
+use Rattle.aioc_tokens.specs.declared.words.Punctuator.TheVariants as punctuator
 use Rattle.aioc_tokens.specs.declared.words.Sort.TheVariants as sorts
 use Rattle.aioc_tokens.specs.Lexemes.{Lexeme, Reserved, Symbol, sort_of}
 use Rattle.aioc_tokens.specs.Fronts.{Longest, NoFront}
@@ -249,7 +249,7 @@ unary_front {kind} {room} {deep} {from} {to} {whole} r shallow = record {
   longest = λ other end is. let at = unary_one (compare r room from end other refl refl is.reads) in omega (arith, ap length at);
 }
 
-minus_none_go : {kind : ExprKind} {room deep : ℕ} {from end : List Lexeme} {other : Expression} (inside : List Lexeme) → from ≡ Symbol mark.Minus ∷ inside → begins_with_number inside ≡ false → NoFront (IsShallow kind Unary room (deep - 1) inside)
+minus_none_go : {kind : ExprKind} {room deep : ℕ} {from end : List Lexeme} {other : Expression} (inside : List Lexeme) → from ≡ Symbol punctuator.Minus ∷ inside → begins_with_number inside ≡ false → NoFront (IsShallow kind Unary room (deep - 1) inside)
     → expression_depth other ≤ deep → Reads kind Unary room from other end → ⊥
 minus_none_go inside begins minus none shallow (chain c r f) = absurd cc
 minus_none_go {kind} {room} {deep} {from} {end} {other} inside begins minus none shallow (single found) = no_single_negated kind from inside end other found begins minus
@@ -264,9 +264,9 @@ record Bracketed (kind : ExprKind) (room : ℕ) (inside : List Lexeme) (whole : 
   rooms : room ≡ suc left
   middle : List Lexeme
   reads : Reads kind Disjunction left inside whole middle
-  ends : middle ≡ Symbol mark.RightParen ∷ to
+  ends : middle ≡ Symbol punctuator.RightParen ∷ to
 
-as_bracketed : {kind : ExprKind} {room : ℕ} {from end : List Lexeme} {other : Expression} (inside : List Lexeme) → from ≡ Symbol mark.LeftParen ∷ inside → Reads kind Unary room from other end → Bracketed kind room inside other end
+as_bracketed : {kind : ExprKind} {room : ℕ} {from end : List Lexeme} {other : Expression} (inside : List Lexeme) → from ≡ Symbol punctuator.LeftParen ∷ inside → Reads kind Unary room from other end → Bracketed kind room inside other end
 as_bracketed inside begins (chain c r f) = absurd cc
 as_bracketed {kind} {room} {from} {end} {other} inside begins (single found) = absurd (no_single_bracketed kind from inside end other found begins)
 as_bracketed inside begins (negated begins2 minus r) = absurd cc
@@ -275,7 +275,7 @@ as_bracketed {kind} {room} {from} {end} {other} inside begins (bracketed {left =
     record { left = left; rooms = rooms; middle = middle; reads = subst (λ rest. Reads kind Disjunction left rest other middle) insides r; ends = ends }
 
 -- a leaf
-as_single : {kind : ExprKind} {room : ℕ} {from end : List Lexeme} {other : Expression} → (sort_of from ≡ sorts.Symbol mark.Minus → begins_with_number (drop 1 from) ≡ true) → sort_of from ≢ sorts.Symbol mark.LeftParen → Reads kind Unary room from other end
+as_single : {kind : ExprKind} {room : ℕ} {from end : List Lexeme} {other : Expression} → (sort_of from ≡ sorts.Symbol punctuator.Minus → begins_with_number (drop 1 from) ≡ true) → sort_of from ≢ sorts.Symbol punctuator.LeftParen → Reads kind Unary room from other end
     → leaf kind from ≡ Some (and_left end other)
 as_single minus paren (chain c r f) = absurd cc
 as_single minus paren (single found) = found
@@ -286,27 +286,27 @@ as_single {kind} {room} {from} minus paren (negated {inside = inside} begins oth
 as_single minus paren (bracketed rooms begins r ends) = absurd (paren (ap sort_of begins))
 
 module _ {kind : ExprKind} {room deep : ℕ} {from : List Lexeme} where
-  pub minus_front : {inside to : List Lexeme} {inner : Expression} → 0 < deep → from ≡ Symbol mark.Minus ∷ inside → begins_with_number inside ≡ false → Longest (IsShallow kind Unary room (deep - 1) inside) inner to → Longest (IsShallow kind Unary room deep from) (Neg inner) to
+  pub minus_front : {inside to : List Lexeme} {inner : Expression} → 0 < deep → from ≡ Symbol punctuator.Minus ∷ inside → begins_with_number inside ≡ false → Longest (IsShallow kind Unary room (deep - 1) inside) inner to → Longest (IsShallow kind Unary room deep from) (Neg inner) to
   minus_front some begins minus front = unary_front (negated begins minus front.reads.reads) (let less = front.reads.shallow in omega arith)
 
-  pub minus_none : (inside : List Lexeme) → from ≡ Symbol mark.Minus ∷ inside → begins_with_number inside ≡ false → NoFront (IsShallow kind Unary room (deep - 1) inside) → NoFront (IsShallow kind Unary room deep from)
+  pub minus_none : (inside : List Lexeme) → from ≡ Symbol punctuator.Minus ∷ inside → begins_with_number inside ≡ false → NoFront (IsShallow kind Unary room (deep - 1) inside) → NoFront (IsShallow kind Unary room deep from)
   minus_none inside begins minus none other end is = minus_none_go inside begins minus none is.shallow is.reads
 
-  pub bracket_front : {inside middle to : List Lexeme} {inner : Expression} → 0 < room → from ≡ Symbol mark.LeftParen ∷ inside → Longest (IsShallow kind Disjunction (room - 1) deep inside) inner middle → middle ≡ Symbol mark.RightParen ∷ to
+  pub bracket_front : {inside middle to : List Lexeme} {inner : Expression} → 0 < room → from ≡ Symbol punctuator.LeftParen ∷ inside → Longest (IsShallow kind Disjunction (room - 1) deep inside) inner middle → middle ≡ Symbol punctuator.RightParen ∷ to
       → Longest (IsShallow kind Unary room deep from) inner to
   bracket_front some begins front ends = unary_front (bracketed {left = room - 1} (omega arith) begins front.reads.reads ends) front.reads.shallow
 
-  pub bracket_room : (inside : List Lexeme) → room ≡ 0 → from ≡ Symbol mark.LeftParen ∷ inside → NoFront (IsShallow kind Unary room deep from)
+  pub bracket_room : (inside : List Lexeme) → room ≡ 0 → from ≡ Symbol punctuator.LeftParen ∷ inside → NoFront (IsShallow kind Unary room deep from)
   bracket_room inside full begins other end is = let holds = as_bracketed inside begins is.reads in let rooms = holds.rooms in omega arith
 
   bracket_read : (inside : List Lexeme) (other : Expression) (end : List Lexeme) → IsShallow kind Unary room deep from other end → (holds : Bracketed kind room inside other end) → IsShallow kind Disjunction (room - 1) deep inside other holds.middle
   bracket_read inside other end is holds = let rooms = holds.rooms in record { reads = subst (λ left. Reads kind Disjunction left inside other holds.middle) (omega arith) holds.reads; shallow = is.shallow }
 
-  pub bracket_none : (inside : List Lexeme) → from ≡ Symbol mark.LeftParen ∷ inside → NoFront (IsShallow kind Disjunction (room - 1) deep inside) → NoFront (IsShallow kind Unary room deep from)
+  pub bracket_none : (inside : List Lexeme) → from ≡ Symbol punctuator.LeftParen ∷ inside → NoFront (IsShallow kind Disjunction (room - 1) deep inside) → NoFront (IsShallow kind Unary room deep from)
   bracket_none inside begins none other end is = let holds = as_bracketed inside begins is.reads in none other holds.middle (bracket_read inside other end is holds)
 
   -- the longest expression behind a `(` isn't followed by `)`
-  pub bracket_open : {inside middle : List Lexeme} {inner : Expression} → from ≡ Symbol mark.LeftParen ∷ inside → Longest (IsShallow kind Disjunction (room - 1) deep inside) inner middle → sort_of middle ≢ sorts.Symbol mark.RightParen
+  pub bracket_open : {inside middle : List Lexeme} {inner : Expression} → from ≡ Symbol punctuator.LeftParen ∷ inside → Longest (IsShallow kind Disjunction (room - 1) deep inside) inner middle → sort_of middle ≢ sorts.Symbol punctuator.RightParen
       → NoFront (IsShallow kind Unary room deep from)
   bracket_open {inside} {middle} {inner} begins front unclosed other end is =
       let holds = as_bracketed inside begins is.reads in
@@ -316,7 +316,7 @@ module _ {kind : ExprKind} {room deep : ℕ} {from : List Lexeme} where
   pub leaf_front : {whole : Expression} {to : List Lexeme} → expression_depth whole ≤ deep → leaf kind from ≡ Some (and_left to whole) → Longest (IsShallow kind Unary room deep from) whole to
   leaf_front shallow found = unary_front (single found) shallow
 
-  pub leaf_none : (sort_of from ≡ sorts.Symbol mark.Minus → begins_with_number (drop 1 from) ≡ true) → sort_of from ≢ sorts.Symbol mark.LeftParen → leaf kind from ≡ None → NoFront (IsShallow kind Unary room deep from)
+  pub leaf_none : (sort_of from ≡ sorts.Symbol punctuator.Minus → begins_with_number (drop 1 from) ≡ true) → sort_of from ≢ sorts.Symbol punctuator.LeftParen → leaf kind from ≡ None → NoFront (IsShallow kind Unary room deep from)
   leaf_none minus paren none other end is = let found = as_single minus paren is.reads in cc
 
 -- one text, one expression: where no token can go on behind them, two expressions at a place are the same

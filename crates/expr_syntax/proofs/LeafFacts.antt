@@ -7,8 +7,8 @@ use Rattle.aioc_tokens.specs.declared.words.Sort.TheVariants as sorts
 use Rattle.dioc_terms.specs.declared.values.Value.{Value}
 use Rattle.aioc_tokens.specs.declared.words.Word.{Word}
 use Rattle.aioc_tokens.specs.declared.words.Word.TheVariants as word
-use Rattle.aioc_tokens.specs.declared.words.Mark.{Mark}
-use Rattle.aioc_tokens.specs.declared.words.Mark.TheVariants as mark
+use Rattle.aioc_tokens.specs.declared.words.Punctuator.{Punctuator}
+use Rattle.aioc_tokens.specs.declared.words.Punctuator.TheVariants as punctuator
 use Rattle.aioc_tokens.specs.Lexemes.{Lexeme, Name, Long, Number, Text, Reserved, Symbol, sort_of, Begins}
 use Rattle.expr_syntax.specs.Constants.{greatest, greatest_negated, number_up_to, positive, negative, before, constant}
 use Rattle.expr_syntax.specs.Grammar.{leaf, member, and_left, const_before, begins_with_number}
@@ -32,7 +32,7 @@ number_shorter : (found : Option ℕ) (make : ℕ → Value) (others to : List L
 number_shorter (Some n) make others to value is = let same = (same_pair is).1 in omega (arith, ap length same)
 number_shorter None make others to value is = absurd cc
 
-negative_shorter : (others to : List Lexeme) (value : Value) → constant (Symbol mark.Minus ∷ others) ≡ Some (before to value) → length to ≤ length others
+negative_shorter : (others to : List Lexeme) (value : Value) → constant (Symbol punctuator.Minus ∷ others) ≡ Some (before to value) → length to ≤ length others
 negative_shorter (Number digits ∷ others) to value is = let less = number_shorter (number_up_to greatest_negated digits) negative others to value is in omega arith
 negative_shorter [] to value is = absurd cc
 negative_shorter (Long ∷ others) to value is = absurd cc
@@ -44,9 +44,9 @@ word_shorter word.True others to value is = omega (arith, ap length (same_pair i
 word_shorter word.False others to value is = omega (arith, ap length (same_pair is).1)
 word_shorter _ others to value is = absurd cc
 
-mark_shorter : (first : Mark) (others to : List Lexeme) (value : Value) → constant (Symbol first ∷ others) ≡ Some (before to value) → length to ≤ length others
-mark_shorter mark.Minus others to value is = negative_shorter others to value is
-mark_shorter _ others to value is = absurd cc
+punctuator_shorter : (first : Punctuator) (others to : List Lexeme) (value : Value) → constant (Symbol first ∷ others) ≡ Some (before to value) → length to ≤ length others
+punctuator_shorter punctuator.Minus others to value is = negative_shorter others to value is
+punctuator_shorter _ others to value is = absurd cc
 
 pub constant_shorter : (from to : List Lexeme) (value : Value) → constant from ≡ Some (before to value) → length to < length from
 constant_shorter [] to value is = absurd cc
@@ -55,17 +55,17 @@ constant_shorter (Long ∷ others) to value is = absurd cc
 constant_shorter (Number digits ∷ others) to value is = let less = number_shorter (number_up_to greatest digits) positive others to value is in omega arith
 constant_shorter (Text bytes ∷ others) to value is = omega (arith, ap length (same_pair is).1)
 constant_shorter (Reserved first ∷ others) to value is = let less = word_shorter first others to value is in omega arith
-constant_shorter (Symbol first ∷ others) to value is = let less = mark_shorter first others to value is in omega arith
+constant_shorter (Symbol first ∷ others) to value is = let less = punctuator_shorter first others to value is in omega arith
 
 const_shorter : (found : Option (Value × List Lexeme)) (from to : List Lexeme) (inner : Expression) → constant from ≡ found → option_map const_before found ≡ Some (and_left to inner) → length to < length from
 const_shorter (Some read) from to inner is same = let less = constant_shorter from read.1 read.0 is in omega (arith, ap length (same_pair same).1)
 const_shorter None from to inner is same = absurd cc
 
 member_shorter : (make : List ℕ → Expression) (from to : List Lexeme) (inner : Expression) → member make from ≡ Some (and_left to inner) → length to < length from
-member_shorter make (Symbol mark.Dot ∷ Name name ∷ others) to inner is = omega (arith, ap length (same_pair is).1)
-member_shorter make (Symbol mark.Dot ∷ []) to inner is = absurd cc
-member_shorter make (Symbol mark.Dot ∷ Long ∷ others) to inner is = absurd cc
-member_shorter make (Symbol mark.Dot ∷ _ ∷ others) to inner is = absurd cc
+member_shorter make (Symbol punctuator.Dot ∷ Name name ∷ others) to inner is = omega (arith, ap length (same_pair is).1)
+member_shorter make (Symbol punctuator.Dot ∷ []) to inner is = absurd cc
+member_shorter make (Symbol punctuator.Dot ∷ Long ∷ others) to inner is = absurd cc
+member_shorter make (Symbol punctuator.Dot ∷ _ ∷ others) to inner is = absurd cc
 member_shorter make (Symbol first ∷ others) to inner is = absurd cc
 member_shorter make [] to inner is = absurd cc
 member_shorter make (Long ∷ others) to inner is = absurd cc
@@ -78,7 +78,7 @@ leaf_shorter Condition (Reserved word.E ∷ others) to inner is = let less = mem
 leaf_shorter kind from to inner is = const_shorter (constant from) from to inner refl is
 
 -- a `-` begins a leaf only before a number
-pub no_minus : (kind : ExprKind) (inside : List Lexeme) → begins_with_number inside ≡ false → leaf kind (Symbol mark.Minus ∷ inside) ≡ None
+pub no_minus : (kind : ExprKind) (inside : List Lexeme) → begins_with_number inside ≡ false → leaf kind (Symbol punctuator.Minus ∷ inside) ≡ None
 no_minus Step (Number digits ∷ others) other = absurd cc
 no_minus Step [] other = refl
 no_minus Step (Long ∷ others) other = refl
@@ -88,7 +88,7 @@ no_minus Condition [] other = refl
 no_minus Condition (Long ∷ others) other = refl
 no_minus Condition (_ ∷ others) other = refl
 
-pub no_paren : (kind : ExprKind) (inside : List Lexeme) → leaf kind (Symbol mark.LeftParen ∷ inside) ≡ None
+pub no_paren : (kind : ExprKind) (inside : List Lexeme) → leaf kind (Symbol punctuator.LeftParen ∷ inside) ≡ None
 no_paren Step inside = refl
 no_paren Condition inside = refl
 
@@ -97,19 +97,19 @@ no_not Step inside = refl
 no_not Condition inside = refl
 
 module _ (text : List Lexeme) (at : ℕ) where
-  pub member_taken : (name : List ℕ) → drop at text ≡ Symbol mark.Dot ∷ drop (at + 1) text → drop (at + 1) text ≡ Name name ∷ drop ((at + 1) + 1) text → MemberAt text at (Some (name, at + 2))
+  pub member_taken : (name : List ℕ) → drop at text ≡ Symbol punctuator.Dot ∷ drop (at + 1) text → drop (at + 1) text ≡ Name name ∷ drop ((at + 1) + 1) text → MemberAt text at (Some (name, at + 2))
   member_taken name dot named =
-      let both : drop at text ≡ Symbol mark.Dot ∷ Name name ∷ drop (at + 2) text = dot ∙ ap (λ others. Symbol mark.Dot ∷ others) (named ∙ ap (λ place. Name name ∷ drop place text) (add_assoc at 1 1)) in
+      let both : drop at text ≡ Symbol punctuator.Dot ∷ Name name ∷ drop (at + 2) text = dot ∙ ap (λ others. Symbol punctuator.Dot ∷ others) (named ∙ ap (λ place. Name name ∷ drop place text) (add_assoc at 1 1)) in
       (λ make. ap (member make) both, (omega arith, omega (arith, ap length both, length-drop at text)))
 
-  pub member_none : ¬ Begins (sorts.Symbol mark.Dot ∷ sorts.Name ∷ []) (drop at text) → MemberAt text at None
+  pub member_none : ¬ Begins (sorts.Symbol punctuator.Dot ∷ sorts.Name ∷ []) (drop at text) → MemberAt text at None
   member_none other = (λ make. go make (drop at text) other, tt)
     where
-      go : (make : List ℕ → Expression) (from : List Lexeme) → ¬ Begins (sorts.Symbol mark.Dot ∷ sorts.Name ∷ []) from → member make from ≡ None
-      go make (Symbol mark.Dot ∷ Name name ∷ others) other = absurd (other (refl, (refl, tt)))
-      go make (Symbol mark.Dot ∷ []) other = refl
-      go make (Symbol mark.Dot ∷ Long ∷ others) other = refl
-      go make (Symbol mark.Dot ∷ _ ∷ others) other = refl
+      go : (make : List ℕ → Expression) (from : List Lexeme) → ¬ Begins (sorts.Symbol punctuator.Dot ∷ sorts.Name ∷ []) from → member make from ≡ None
+      go make (Symbol punctuator.Dot ∷ Name name ∷ others) other = absurd (other (refl, (refl, tt)))
+      go make (Symbol punctuator.Dot ∷ []) other = refl
+      go make (Symbol punctuator.Dot ∷ Long ∷ others) other = refl
+      go make (Symbol punctuator.Dot ∷ _ ∷ others) other = refl
       go make [] other = refl
       go make (Long ∷ others) other = refl
       go make (_ ∷ others) other = refl
@@ -169,10 +169,10 @@ const_depth (Some read) to inner same = ap expression_depth (sym (same_pair same
 const_depth None to inner same = absurd cc
 
 member_depth : (make : List ℕ → Expression) (from to : List Lexeme) (inner : Expression) → ((name : List ℕ) → expression_depth (make name) ≡ 1) → member make from ≡ Some (and_left to inner) → expression_depth inner ≡ 1
-member_depth make (Symbol mark.Dot ∷ Name name ∷ others) to inner one is = ap expression_depth (sym (same_pair is).0) ∙ one name
-member_depth make (Symbol mark.Dot ∷ []) to inner one is = absurd cc
-member_depth make (Symbol mark.Dot ∷ Long ∷ others) to inner one is = absurd cc
-member_depth make (Symbol mark.Dot ∷ _ ∷ others) to inner one is = absurd cc
+member_depth make (Symbol punctuator.Dot ∷ Name name ∷ others) to inner one is = ap expression_depth (sym (same_pair is).0) ∙ one name
+member_depth make (Symbol punctuator.Dot ∷ []) to inner one is = absurd cc
+member_depth make (Symbol punctuator.Dot ∷ Long ∷ others) to inner one is = absurd cc
+member_depth make (Symbol punctuator.Dot ∷ _ ∷ others) to inner one is = absurd cc
 member_depth make (Symbol first ∷ others) to inner one is = absurd cc
 member_depth make [] to inner one is = absurd cc
 member_depth make (Long ∷ others) to inner one is = absurd cc

@@ -16,8 +16,8 @@ use Rattle.dioc_terms.specs.Names.{is_name, is_word, is_letter, is_reserved, is_
 use Rattle.dioc_terms.specs.Names as names
 use Rattle.aioc_tokens.specs.declared.words.Word.{Word}
 use Rattle.aioc_tokens.specs.declared.words.Word.TheVariants as word
-use Rattle.aioc_tokens.specs.declared.words.Mark.{Mark}
-use Rattle.aioc_tokens.specs.declared.words.Mark.TheVariants as mark
+use Rattle.aioc_tokens.specs.declared.words.Punctuator.{Punctuator}
+use Rattle.aioc_tokens.specs.declared.words.Punctuator.TheVariants as punctuator
 use Rattle.aioc_tokens.specs.declared.words.Sort.{Sort}
 use Rattle.aioc_tokens.specs.declared.words.Sort.TheVariants as sorts
 use Rattle.aioc_tokens.specs.Words.{word_of, word_spelling, reserved_words}
@@ -130,7 +130,7 @@ constant_valid (Reserved word.True ∷ others) v to valid e = read_as _ v (value
 constant_valid (Reserved word.False ∷ others) v to valid e = read_as _ v (value.Bool false) to others refl e (refl, valid.1)
 constant_valid (Text bytes ∷ others) v to valid e = read_as _ v (value.Text bytes) to others refl e (text_valid bytes (valid.0 (λ is. cc)), valid.1)
 constant_valid (Number digits ∷ others) v to valid e = numbered positive greatest digits others to v positive_valid valid.1 e
-constant_valid (Symbol mark.Minus ∷ Number digits ∷ others) v to valid e = numbered negative greatest_negated digits others to v negative_valid valid.1.1 e
+constant_valid (Symbol punctuator.Minus ∷ Number digits ∷ others) v to valid e = numbered negative greatest_negated digits others to v negative_valid valid.1.1 e
 constant_valid _ v to valid e = cc
 
 -- an expression with what its kind allows, however deep
@@ -173,25 +173,25 @@ conjunction_joins : (first : Word) (op : Oper) → conjunction first ≡ Some op
 conjunction_joins word.And op h = some_joins refl h
 conjunction_joins _ op h = absurd cc
 
-comparison_joins : (first : Mark) (op : Oper) → comparison first ≡ Some op → joins op ≡ false
-comparison_joins mark.EqualEqual op h = some_joins refl h
-comparison_joins mark.NotEqual op h = some_joins refl h
-comparison_joins mark.Less op h = some_joins refl h
-comparison_joins mark.LessEqual op h = some_joins refl h
-comparison_joins mark.Greater op h = some_joins refl h
-comparison_joins mark.GreaterEqual op h = some_joins refl h
+comparison_joins : (first : Punctuator) (op : Oper) → comparison first ≡ Some op → joins op ≡ false
+comparison_joins punctuator.EqualEqual op h = some_joins refl h
+comparison_joins punctuator.NotEqual op h = some_joins refl h
+comparison_joins punctuator.Less op h = some_joins refl h
+comparison_joins punctuator.LessEqual op h = some_joins refl h
+comparison_joins punctuator.Greater op h = some_joins refl h
+comparison_joins punctuator.GreaterEqual op h = some_joins refl h
 comparison_joins _ op h = absurd cc
 
-addition_joins : (first : Mark) (op : Oper) → addition Condition first ≡ Some op → joins op ≡ false
-addition_joins mark.Plus op h = some_joins refl h
-addition_joins mark.Minus op h = some_joins refl h
-addition_joins mark.PlusPlus op h = absurd cc
+addition_joins : (first : Punctuator) (op : Oper) → addition Condition first ≡ Some op → joins op ≡ false
+addition_joins punctuator.Plus op h = some_joins refl h
+addition_joins punctuator.Minus op h = some_joins refl h
+addition_joins punctuator.PlusPlus op h = absurd cc
 addition_joins _ op h = absurd cc
 
-multiplication_joins : (first : Mark) (op : Oper) → multiplication first ≡ Some op → joins op ≡ false
-multiplication_joins mark.Star op h = some_joins refl h
-multiplication_joins mark.Slash op h = some_joins refl h
-multiplication_joins mark.Percent op h = some_joins refl h
+multiplication_joins : (first : Punctuator) (op : Oper) → multiplication first ≡ Some op → joins op ≡ false
+multiplication_joins punctuator.Star op h = some_joins refl h
+multiplication_joins punctuator.Slash op h = some_joins refl h
+multiplication_joins punctuator.Percent op h = some_joins refl h
 multiplication_joins _ op h = absurd cc
 
 operator_joins : (level : Level) (sort : Sort) (op : Oper) → operator Condition level sort ≡ Some op → joins op ≡ false
@@ -213,11 +213,11 @@ same_read kind e inner others to is h = let same = same_pair is in subst (λ who
 
 member_formed : (make : List ℕ → Expression) (from to : List Lexeme) (inner : Expression) → ((name : List ℕ) → is_identifier name ≡ true → is_condition (make name) ≡ true)
     → AllByRecursion CanBeWritten from → member make from ≡ Some (and_left to inner) → IsOf Condition inner to
-member_formed make (Symbol mark.Dot ∷ Name name ∷ others) to inner makes valid is =
+member_formed make (Symbol punctuator.Dot ∷ Name name ∷ others) to inner makes valid is =
     same_read Condition (make name) inner others to is (makes name (identifier_valid name (valid.1.0 (λ e. cc))), valid.1.1)
-member_formed make (Symbol mark.Dot ∷ []) to inner makes valid is = absurd cc
-member_formed make (Symbol mark.Dot ∷ Long ∷ others) to inner makes valid is = absurd cc
-member_formed make (Symbol mark.Dot ∷ _ ∷ others) to inner makes valid is = absurd cc
+member_formed make (Symbol punctuator.Dot ∷ []) to inner makes valid is = absurd cc
+member_formed make (Symbol punctuator.Dot ∷ Long ∷ others) to inner makes valid is = absurd cc
+member_formed make (Symbol punctuator.Dot ∷ _ ∷ others) to inner makes valid is = absurd cc
 member_formed make (Symbol first ∷ others) to inner makes valid is = absurd cc
 member_formed make [] to inner makes valid is = absurd cc
 member_formed make (Long ∷ others) to inner makes valid is = absurd cc

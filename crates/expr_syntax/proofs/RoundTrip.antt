@@ -15,7 +15,7 @@ use Rattle.dioc_terms.specs.declared.expressions.Oper.TheVariants.{Add, Sub, Mul
 use Rattle.dioc_terms.specs.Expressions.{Expression, Const, Var, Prop, Env, Not, Neg, Bin, expression_depth}
 use Rattle.dioc_terms.specs.Bundles.{is_constant, is_step_expression, is_condition, joins, is_identifier}
 use Rattle.aioc_tokens.specs.declared.words.Word.TheVariants as word
-use Rattle.aioc_tokens.specs.declared.words.Mark.TheVariants as mark
+use Rattle.aioc_tokens.specs.declared.words.Punctuator.TheVariants as punctuator
 use Rattle.aioc_tokens.specs.Lexemes.{Lexeme, Name, Number, Text, Reserved, Symbol, sort_of, HasSpelling, HasLexemes}
 use Rattle.aioc_tokens.specs.Fronts.{Longest}
 use Rattle.std.specs.Int.{is_in_range}
@@ -59,7 +59,7 @@ both_true false b is = absurd cc
 positive_written : (n : ℕ) (others : List Lexeme) → is_constant (value.Int (pos n)) ≡ true → constant (Number (decimal n) ∷ others) ≡ Some (before others (value.Int (pos n)))
 positive_written n others is = ap (option_map (λ n. before others (positive n))) (let small : n ≤ greatest = leb-true n greatest is in decimal_number greatest n (omega arith) small)
 
-negative_written : (n : ℕ) (others : List Lexeme) → is_constant (value.Int (negsuc n)) ≡ true → constant (Symbol mark.Minus ∷ Number (decimal (suc n)) ∷ others) ≡ Some (before others (value.Int (negsuc n)))
+negative_written : (n : ℕ) (others : List Lexeme) → is_constant (value.Int (negsuc n)) ≡ true → constant (Symbol punctuator.Minus ∷ Number (decimal (suc n)) ∷ others) ≡ Some (before others (value.Int (negsuc n)))
 negative_written n others is = ap (option_map (λ n. before others (negative n))) (let small : n ≤ greatest = leb-true n greatest (both_true (int_le (negsuc greatest) (negsuc n)) true is).0 in decimal_number greatest_negated (suc n) (omega arith) (omega arith))
 
 constant_written : (v : Value) (others : List Lexeme) → is_constant v ≡ true → constant (written_value v others) ≡ Some (before others v)
@@ -139,7 +139,7 @@ binary_reads kind room Rem left right from rest others joined r s = comparison_d
 
 -- an operand, in brackets where it needs them
 operand_reads : (kind : ExprKind) (room : ℕ) (compound : Bool) (whole : Expression) (others : List Lexeme) → (compound ≡ false → Reads kind Unary room (written whole others) whole others)
-    → (compound ≡ true → (left : ℕ) × (room ≡ suc left) × Reads kind Disjunction left (written whole (Symbol mark.RightParen ∷ others)) whole (Symbol mark.RightParen ∷ others))
+    → (compound ≡ true → (left : ℕ) × (room ≡ suc left) × Reads kind Disjunction left (written whole (Symbol punctuator.RightParen ∷ others)) whole (Symbol punctuator.RightParen ∷ others))
     → Reads kind Unary room (opened compound (written whole (closed compound others))) whole others
 operand_reads kind room false whole others simple held = simple refl
 operand_reads kind room true whole others simple held = let (left, rooms, r) = held refl in bracketed rooms refl r refl
@@ -176,11 +176,11 @@ constant_reads : (kind : ExprKind) (room : ℕ) (v : Value) (others : List Lexem
 constant_reads Step room v others is = single (leaf_constant Step v others ∙ ap (option_map const_before) (constant_written v others is))
 constant_reads Condition room v others is = single (leaf_constant Condition v others ∙ ap (option_map const_before) (constant_written v others is))
 
-property_reads : (kind : ExprKind) (room : ℕ) (name : List ℕ) (others : List Lexeme) → is_of kind (Prop name) ≡ true → Reads kind Unary room (Reserved word.N ∷ Symbol mark.Dot ∷ Name name ∷ others) (Prop name) others
+property_reads : (kind : ExprKind) (room : ℕ) (name : List ℕ) (others : List Lexeme) → is_of kind (Prop name) ≡ true → Reads kind Unary room (Reserved word.N ∷ Symbol punctuator.Dot ∷ Name name ∷ others) (Prop name) others
 property_reads Step room name others is = absurd cc
 property_reads Condition room name others is = single refl
 
-key_reads : (kind : ExprKind) (room : ℕ) (name : List ℕ) (others : List Lexeme) → is_of kind (Env name) ≡ true → Reads kind Unary room (Reserved word.E ∷ Symbol mark.Dot ∷ Name name ∷ others) (Env name) others
+key_reads : (kind : ExprKind) (room : ℕ) (name : List ℕ) (others : List Lexeme) → is_of kind (Env name) ≡ true → Reads kind Unary room (Reserved word.E ∷ Symbol punctuator.Dot ∷ Name name ∷ others) (Env name) others
 key_reads Step room name others is = absurd cc
 key_reads Condition room name others is = single refl
 
@@ -202,12 +202,12 @@ whole_reads kind (Not e) room others is deep =
     let inner = of_not kind e is in
     let some = some_depth e in
     let r = operand_reads kind room (is_compound e) e others (whole_reads kind e room others inner (omega arith)).simple
-    (λ compound. (room - 1, omega arith, (whole_reads kind e (room - 1) (Symbol mark.RightParen ∷ others) inner (omega arith)).full)) in
+    (λ compound. (room - 1, omega arith, (whole_reads kind e (room - 1) (Symbol punctuator.RightParen ∷ others) inner (omega arith)).full)) in
     record { simple = λ other. absurd cc; full = as_disjunction (as_conjunction (denied refl (unary_negation r))) }
 whole_reads kind (Neg e) room others is deep =
     let inner = of_neg kind e is in
     let some = some_depth e in
-    let r = (whole_reads kind e (room - 1) (Symbol mark.RightParen ∷ others) inner (omega arith)).full in
+    let r = (whole_reads kind e (room - 1) (Symbol punctuator.RightParen ∷ others) inner (omega arith)).full in
     record { simple = λ other. absurd cc; full = unary_disjunction (negated refl refl (bracketed {left = room - 1} (omega arith) refl r refl)) }
 whole_reads kind (Bin oper a b) room others is deep =
     let parts = of_both kind oper a b is in
@@ -215,9 +215,9 @@ whole_reads kind (Bin oper a b) room others is deep =
     let some_b = some_depth b in
     let rest = opened (is_compound b) (written b (closed (is_compound b) others)) in
     let r = operand_reads kind room (is_compound a) a (operator_lexeme oper ∷ rest) (whole_reads kind a room (operator_lexeme oper ∷ rest) parts.left_is (omega arith)).simple
-    (λ compound. (room - 1, omega arith, (whole_reads kind a (room - 1) (Symbol mark.RightParen ∷ operator_lexeme oper ∷ rest) parts.left_is (omega arith)).full)) in
+    (λ compound. (room - 1, omega arith, (whole_reads kind a (room - 1) (Symbol punctuator.RightParen ∷ operator_lexeme oper ∷ rest) parts.left_is (omega arith)).full)) in
     let s = operand_reads kind room (is_compound b) b others (whole_reads kind b room others parts.right_is (omega arith)).simple
-    (λ compound. (room - 1, omega arith, (whole_reads kind b (room - 1) (Symbol mark.RightParen ∷ others) parts.right_is (omega arith)).full)) in
+    (λ compound. (room - 1, omega arith, (whole_reads kind b (room - 1) (Symbol punctuator.RightParen ∷ others) parts.right_is (omega arith)).full)) in
     record { simple = λ other. absurd cc; full = binary_reads kind room oper a b (opened (is_compound a) (written a (closed (is_compound a) (operator_lexeme oper ∷ rest)))) rest others parts.joined r s }
 
 -- the lexemes of what is written can be spelled
@@ -326,7 +326,7 @@ written_all kind (Prop x) others is rest = (tt, (tt, (name_spelled x (property_o
 written_all kind (Env x) others is rest = (tt, (tt, (name_spelled x (key_of kind x is), rest)))
 written_all kind (Not e) others is rest =
     (tt, opened_all (is_compound e) (written e (closed (is_compound e) others)) (written_all kind e (closed (is_compound e) others) (of_not kind e is) (closed_all (is_compound e) others rest)))
-written_all kind (Neg e) others is rest = (tt, (tt, written_all kind e (Symbol mark.RightParen ∷ others) (of_neg kind e is) (tt, rest)))
+written_all kind (Neg e) others is rest = (tt, (tt, written_all kind e (Symbol punctuator.RightParen ∷ others) (of_neg kind e is) (tt, rest)))
 written_all kind (Bin oper a b) others is rest =
     let parts = of_both kind oper a b is in
     let right = opened (is_compound b) (written b (closed (is_compound b) others)) in

@@ -4,7 +4,7 @@ use Rattle.dioc_terms.specs.declared.values.Value.{Value}
 use Rattle.dioc_terms.specs.declared.values.Value.TheVariants as value
 use Rattle.dioc_terms.specs.Expressions.{Expression, Const, Var, Prop, Env, Not, Neg, Bin}
 use Rattle.aioc_tokens.specs.declared.words.Word.TheVariants as word
-use Rattle.aioc_tokens.specs.declared.words.Mark.TheVariants as mark
+use Rattle.aioc_tokens.specs.declared.words.Punctuator.TheVariants as punctuator
 use Rattle.aioc_tokens.specs.Lexemes.{Lexeme, Name, Number, Text, Reserved, Symbol}
 use Rattle.aioc_tokens.specs.Spelling.{spelling, spelled}
 use Rattle.expr_syntax.specs.Writing.{is_compound, operator_lexeme, written_value, opened, closed, written}
@@ -55,11 +55,11 @@ behind_some [] some = absurd (omega arith)
 behind_some (first ∷ others) some = refl
 
 opened_spelled : (compound : Bool) (others : List Lexeme) → 0 < length others → spelled (opened compound others) ≡ opening_text compound ++ spelled others
-opened_spelled true others some = spelled_first (Symbol mark.LeftParen) others ∙ ap (λ rest. 40 ∷ rest) (behind_some others some)
+opened_spelled true others some = spelled_first (Symbol punctuator.LeftParen) others ∙ ap (λ rest. 40 ∷ rest) (behind_some others some)
 opened_spelled false others some = refl
 
 closed_behind : (compound : Bool) (others : List Lexeme) → behind (closed compound others) ≡ closing_text compound ++ behind others
-closed_behind true others = ap (λ rest. 32 ∷ rest) (spelled_first (Symbol mark.RightParen) others)
+closed_behind true others = ap (λ rest. 32 ∷ rest) (spelled_first (Symbol punctuator.RightParen) others)
 closed_behind false others = refl
 
 operand_spelled : (e : Expression) (others : List Lexeme) → spelled (written e (closed (is_compound e) others)) ≡ expression_text e ++ behind (closed (is_compound e) others)
@@ -83,11 +83,11 @@ written_spelled (Not e) others =
     ∙ ap (λ rest. 110 ∷ 111 ∷ 116 ∷ 32 ∷ rest) (operand_spelled e others (written_spelled e (closed (is_compound e) others)))
     ∙ simp append_assoc
 written_spelled (Neg e) others =
-    let inside = written e (Symbol mark.RightParen ∷ others) in
-    ap (λ rest. 45 ∷ 32 ∷ rest) (spelled_first (Symbol mark.LeftParen) inside)
-    ∙ ap (λ rest. 45 ∷ 32 ∷ 40 ∷ rest) (behind_some inside (written_some e (Symbol mark.RightParen ∷ others)))
-    ∙ ap (λ rest. 45 ∷ 32 ∷ 40 ∷ 32 ∷ rest) (written_spelled e (Symbol mark.RightParen ∷ others))
-    ∙ ap (λ rest. 45 ∷ 32 ∷ 40 ∷ 32 ∷ (expression_text e ++ 32 ∷ rest)) (spelled_first (Symbol mark.RightParen) others)
+    let inside = written e (Symbol punctuator.RightParen ∷ others) in
+    ap (λ rest. 45 ∷ 32 ∷ rest) (spelled_first (Symbol punctuator.LeftParen) inside)
+    ∙ ap (λ rest. 45 ∷ 32 ∷ 40 ∷ rest) (behind_some inside (written_some e (Symbol punctuator.RightParen ∷ others)))
+    ∙ ap (λ rest. 45 ∷ 32 ∷ 40 ∷ 32 ∷ rest) (written_spelled e (Symbol punctuator.RightParen ∷ others))
+    ∙ ap (λ rest. 45 ∷ 32 ∷ 40 ∷ 32 ∷ (expression_text e ++ 32 ∷ rest)) (spelled_first (Symbol punctuator.RightParen) others)
     ∙ simp append_assoc
 written_spelled (Bin oper a b) others =
     let right = opened (is_compound b) (written b (closed (is_compound b) others)) in

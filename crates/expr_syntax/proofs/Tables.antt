@@ -4,8 +4,8 @@ use Rattle.std.specs.Option.{is_some}
 use Rattle.dioc_terms.specs.declared.expressions.Oper.{Oper}
 use Rattle.aioc_tokens.specs.declared.words.Word.{Word}
 use Rattle.aioc_tokens.specs.declared.words.Word.TheVariants as word
-use Rattle.aioc_tokens.specs.declared.words.Mark.{Mark}
-use Rattle.aioc_tokens.specs.declared.words.Mark.TheVariants as mark
+use Rattle.aioc_tokens.specs.declared.words.Punctuator.{Punctuator}
+use Rattle.aioc_tokens.specs.declared.words.Punctuator.TheVariants as punctuator
 use Rattle.aioc_tokens.specs.declared.words.Sort.{Sort}
 use Rattle.aioc_tokens.specs.declared.words.Sort.TheVariants as sorts
 use Rattle.expr_syntax.specs.Levels.{tighter, disjunction, conjunction, comparison, addition, operator}
@@ -77,19 +77,19 @@ disjunction_stops kind _ oper is = absurd cc
 conjunction_stops : (kind : ExprKind) (first : Word) (oper : Oper) → conjunction first ≡ Some oper → comparison_goes kind (sorts.Reserved first) ≡ false
 conjunction_stops kind first oper is = refl
 
-comparison_stops : (kind : ExprKind) (first : Mark) (oper : Oper) → comparison first ≡ Some oper → sum_goes kind (sorts.Symbol first) ≡ false
-comparison_stops kind mark.EqualEqual oper is = refl
-comparison_stops kind mark.NotEqual oper is = refl
-comparison_stops kind mark.Less oper is = refl
-comparison_stops kind mark.LessEqual oper is = refl
-comparison_stops kind mark.Greater oper is = refl
-comparison_stops kind mark.GreaterEqual oper is = refl
+comparison_stops : (kind : ExprKind) (first : Punctuator) (oper : Oper) → comparison first ≡ Some oper → sum_goes kind (sorts.Symbol first) ≡ false
+comparison_stops kind punctuator.EqualEqual oper is = refl
+comparison_stops kind punctuator.NotEqual oper is = refl
+comparison_stops kind punctuator.Less oper is = refl
+comparison_stops kind punctuator.LessEqual oper is = refl
+comparison_stops kind punctuator.Greater oper is = refl
+comparison_stops kind punctuator.GreaterEqual oper is = refl
 comparison_stops kind _ oper is = absurd cc
 
-addition_stops : (kind : ExprKind) (first : Mark) (oper : Oper) → addition kind first ≡ Some oper → is_operator kind Product (sorts.Symbol first) ≡ false
-addition_stops kind mark.Plus oper is = refl
-addition_stops kind mark.Minus oper is = refl
-addition_stops kind mark.PlusPlus oper is = refl
+addition_stops : (kind : ExprKind) (first : Punctuator) (oper : Oper) → addition kind first ≡ Some oper → is_operator kind Product (sorts.Symbol first) ≡ false
+addition_stops kind punctuator.Plus oper is = refl
+addition_stops kind punctuator.Minus oper is = refl
+addition_stops kind punctuator.PlusPlus oper is = refl
 addition_stops kind _ oper is = absurd cc
 
 -- but not behind an operand

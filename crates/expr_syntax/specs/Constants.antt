@@ -4,7 +4,7 @@ use Rattle.std.specs.Str.Parse.{digits_value}
 use Rattle.dioc_terms.specs.declared.values.Value.{Value}
 use Rattle.dioc_terms.specs.declared.values.Value.TheVariants as value
 use Rattle.aioc_tokens.specs.declared.words.Word.TheVariants as word
-use Rattle.aioc_tokens.specs.declared.words.Mark.TheVariants as mark
+use Rattle.aioc_tokens.specs.declared.words.Punctuator.TheVariants as punctuator
 use Rattle.aioc_tokens.specs.Lexemes.{Lexeme, Number, Text, Reserved, Symbol}
 
 -- the greatest number, and the greatest one directly after a `-`
@@ -41,7 +41,7 @@ constant (Reserved word.True ∷ others) = Some (before others (value.Bool true)
 constant (Reserved word.False ∷ others) = Some (before others (value.Bool false))
 constant (Text bytes ∷ others) = Some (before others (value.Text bytes))
 constant (Number digits ∷ others) = option_map (λ n. before others (positive n)) (number_up_to greatest digits)
-constant (Symbol mark.Minus ∷ Number digits ∷ others) = option_map (λ n. before others (negative n)) (number_up_to greatest_negated digits)
+constant (Symbol punctuator.Minus ∷ Number digits ∷ others) = option_map (λ n. before others (negative n)) (number_up_to greatest_negated digits)
 constant _ = None
 
 -- what a reader found is what stands at this place of the list, and the place behind it is a later one within the list

@@ -5,7 +5,7 @@ use Rattle.dioc_terms.specs.declared.expressions.Oper.{Oper}
 use Rattle.dioc_terms.specs.declared.expressions.Expr.{Expr}
 use Rattle.dioc_terms.specs.Expressions.{Expression, Const, Var, Prop, Env, Not, Neg, Bin, expression, expression_depth}
 use Rattle.aioc_tokens.specs.declared.words.Word.TheVariants as word
-use Rattle.aioc_tokens.specs.declared.words.Mark.TheVariants as mark
+use Rattle.aioc_tokens.specs.declared.words.Punctuator.TheVariants as punctuator
 use Rattle.aioc_tokens.specs.Lexemes.{Lexeme, Name, Number, Reserved, Symbol, sort_of}
 use Rattle.aioc_tokens.specs.Fronts.{Longest, NoFront}
 use Rattle.expr_syntax.specs.Constants.{constant}
@@ -24,7 +24,7 @@ and_left others found = (found, others)
 
 -- behind `N` or `E`: a name and what is left behind it
 abbrev pub member : (List ℕ → Expression) → List Lexeme → Option (Expression × List Lexeme)
-member make (Symbol mark.Dot ∷ Name name ∷ others) = Some (and_left others (make name))
+member make (Symbol punctuator.Dot ∷ Name name ∷ others) = Some (and_left others (make name))
 member make _ = None
 
 -- A constant, a variable, or in a condition a property or a key of the environment, with what is left behind it:
@@ -58,10 +58,10 @@ mutual
     -- unary = "-" number | "-" unary | atom, where no number stands behind the `-` of "-" unary
     -- atom = "nil" | "true" | "false" | number | text | name | "N" "." name | "E" "." name | "(" expr ")"
     single : {room : ℕ} {from to : List Lexeme} {inner : Expression} → leaf kind from ≡ Some (and_left to inner) → Reads kind Unary room from inner to
-    negated : {room : ℕ} {from inside to : List Lexeme} {inner : Expression} → from ≡ Symbol mark.Minus ∷ inside → begins_with_number inside ≡ false →
+    negated : {room : ℕ} {from inside to : List Lexeme} {inner : Expression} → from ≡ Symbol punctuator.Minus ∷ inside → begins_with_number inside ≡ false →
         Reads kind Unary room inside inner to → Reads kind Unary room from (Neg inner) to
-    bracketed : {room left : ℕ} {from inside middle to : List Lexeme} {inner : Expression} → room ≡ suc left → from ≡ Symbol mark.LeftParen ∷ inside →
-        Reads kind Disjunction left inside inner middle → middle ≡ Symbol mark.RightParen ∷ to → Reads kind Unary room from inner to
+    bracketed : {room left : ℕ} {from inside middle to : List Lexeme} {inner : Expression} → room ≡ suc left → from ≡ Symbol punctuator.LeftParen ∷ inside →
+        Reads kind Disjunction left inside inner middle → middle ≡ Symbol punctuator.RightParen ∷ to → Reads kind Unary room from inner to
 
   -- Behind the expression `first` operators of a level follow, each with an operand; with them, grouped to the left, it is `whole`.
   pub data Follows (kind : ExprKind) : Level → ℕ → Expression → List Lexeme → Expression → List Lexeme → Type 0 where

@@ -4,8 +4,8 @@ use Rattle.dioc_terms.specs.declared.expressions.Oper.{Oper}
 use Rattle.dioc_terms.specs.declared.expressions.Oper.TheVariants.{Add, Sub, Mul, Div, Rem, Join, Eq, Ne, Lt, Le, Gt, Ge, And, Or}
 use Rattle.aioc_tokens.specs.declared.words.Word.{Word}
 use Rattle.aioc_tokens.specs.declared.words.Word.TheVariants as word
-use Rattle.aioc_tokens.specs.declared.words.Mark.{Mark}
-use Rattle.aioc_tokens.specs.declared.words.Mark.TheVariants.{EqualEqual, NotEqual, Less, LessEqual, Greater, GreaterEqual, Plus, PlusPlus, Minus, Star, Slash, Percent}
+use Rattle.aioc_tokens.specs.declared.words.Punctuator.{Punctuator}
+use Rattle.aioc_tokens.specs.declared.words.Punctuator.TheVariants.{EqualEqual, NotEqual, Less, LessEqual, Greater, GreaterEqual, Plus, PlusPlus, Minus, Star, Slash, Percent}
 use Rattle.aioc_tokens.specs.declared.words.Sort.{Sort}
 use Rattle.aioc_tokens.specs.declared.words.Sort.TheVariants.{Reserved, Symbol}
 use Rattle.expr_syntax.specs.declared.levels.ExprKind.{ExprKind}
@@ -39,7 +39,7 @@ abbrev pub conjunction : Word → Option Oper
 conjunction word.And = Some And
 conjunction _ = None
 
-abbrev pub comparison : Mark → Option Oper
+abbrev pub comparison : Punctuator → Option Oper
 comparison EqualEqual = Some Eq
 comparison NotEqual = Some Ne
 comparison Less = Some Lt
@@ -53,13 +53,13 @@ abbrev pub joining : ExprKind → Option Oper
 joining Step = Some Join
 joining Condition = None
 
-abbrev pub addition : ExprKind → Mark → Option Oper
+abbrev pub addition : ExprKind → Punctuator → Option Oper
 addition kind Plus = Some Add
 addition kind Minus = Some Sub
 addition kind PlusPlus = joining kind
 addition kind _ = None
 
-abbrev pub multiplication : Mark → Option Oper
+abbrev pub multiplication : Punctuator → Option Oper
 multiplication Star = Some Mul
 multiplication Slash = Some Div
 multiplication Percent = Some Rem
@@ -69,7 +69,7 @@ multiplication _ = None
 abbrev pub operator : ExprKind → Level → Sort → Option Oper
 operator kind Disjunction (Reserved word) = disjunction word
 operator kind Conjunction (Reserved word) = conjunction word
-operator kind Comparison (Symbol mark) = comparison mark
-operator kind Sum (Symbol mark) = addition kind mark
-operator kind Product (Symbol mark) = multiplication mark
+operator kind Comparison (Symbol punctuator) = comparison punctuator
+operator kind Sum (Symbol punctuator) = addition kind punctuator
+operator kind Product (Symbol punctuator) = multiplication punctuator
 operator kind level _ = None

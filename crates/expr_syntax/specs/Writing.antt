@@ -6,7 +6,7 @@ use Rattle.dioc_terms.specs.declared.expressions.Oper.{Oper}
 use Rattle.dioc_terms.specs.declared.expressions.Oper.TheVariants.{Add, Sub, Mul, Div, Rem, Join, Eq, Ne, Lt, Le, Gt, Ge, And, Or}
 use Rattle.dioc_terms.specs.Expressions.{Expression, Const, Var, Prop, Env, Not, Neg, Bin}
 use Rattle.aioc_tokens.specs.declared.words.Word.TheVariants as word
-use Rattle.aioc_tokens.specs.declared.words.Mark.TheVariants as mark
+use Rattle.aioc_tokens.specs.declared.words.Punctuator.TheVariants as punctuator
 use Rattle.aioc_tokens.specs.Lexemes.{Lexeme, Name, Number, Text, Reserved, Symbol}
 
 -- an operand of `not` and of a two-sided operator stands in brackets where it is one of these
@@ -17,25 +17,25 @@ is_compound (Bin oper a b) = true
 is_compound _ = false
 
 abbrev pub operator_lexeme : Oper → Lexeme
-operator_lexeme Add = Symbol mark.Plus
-operator_lexeme Sub = Symbol mark.Minus
-operator_lexeme Mul = Symbol mark.Star
-operator_lexeme Div = Symbol mark.Slash
-operator_lexeme Rem = Symbol mark.Percent
-operator_lexeme Join = Symbol mark.PlusPlus
-operator_lexeme Eq = Symbol mark.EqualEqual
-operator_lexeme Ne = Symbol mark.NotEqual
-operator_lexeme Lt = Symbol mark.Less
-operator_lexeme Le = Symbol mark.LessEqual
-operator_lexeme Gt = Symbol mark.Greater
-operator_lexeme Ge = Symbol mark.GreaterEqual
+operator_lexeme Add = Symbol punctuator.Plus
+operator_lexeme Sub = Symbol punctuator.Minus
+operator_lexeme Mul = Symbol punctuator.Star
+operator_lexeme Div = Symbol punctuator.Slash
+operator_lexeme Rem = Symbol punctuator.Percent
+operator_lexeme Join = Symbol punctuator.PlusPlus
+operator_lexeme Eq = Symbol punctuator.EqualEqual
+operator_lexeme Ne = Symbol punctuator.NotEqual
+operator_lexeme Lt = Symbol punctuator.Less
+operator_lexeme Le = Symbol punctuator.LessEqual
+operator_lexeme Gt = Symbol punctuator.Greater
+operator_lexeme Ge = Symbol punctuator.GreaterEqual
 operator_lexeme And = Reserved word.And
 operator_lexeme Or = Reserved word.Or
 
 -- the lexemes of a number, a `-` before it where it is negative, and those that follow
 abbrev pub written_integer : ℤ → List Lexeme → List Lexeme
 written_integer (pos n) others = Number (decimal n) ∷ others
-written_integer (negsuc n) others = Symbol mark.Minus ∷ Number (decimal (suc n)) ∷ others
+written_integer (negsuc n) others = Symbol punctuator.Minus ∷ Number (decimal (suc n)) ∷ others
 
 abbrev pub written_truth : Bool → Lexeme
 written_truth true = Reserved word.True
@@ -49,20 +49,20 @@ written_value (value.Text bytes) others = Text bytes ∷ others
 
 -- a bracket where one is needed, and what follows
 abbrev pub opened : Bool → List Lexeme → List Lexeme
-opened true others = Symbol mark.LeftParen ∷ others
+opened true others = Symbol punctuator.LeftParen ∷ others
 opened false others = others
 
 abbrev pub closed : Bool → List Lexeme → List Lexeme
-closed true others = Symbol mark.RightParen ∷ others
+closed true others = Symbol punctuator.RightParen ∷ others
 closed false others = others
 
 -- the lexemes of an expression, and those that follow
 abbrev pub written : Expression → List Lexeme → List Lexeme
 written (Const v) others = written_value v others
 written (Var x) others = Name x ∷ others
-written (Prop x) others = Reserved word.N ∷ Symbol mark.Dot ∷ Name x ∷ others
-written (Env x) others = Reserved word.E ∷ Symbol mark.Dot ∷ Name x ∷ others
+written (Prop x) others = Reserved word.N ∷ Symbol punctuator.Dot ∷ Name x ∷ others
+written (Env x) others = Reserved word.E ∷ Symbol punctuator.Dot ∷ Name x ∷ others
 written (Not e) others = Reserved word.Not ∷ opened (is_compound e) (written e (closed (is_compound e) others))
-written (Neg e) others = Symbol mark.Minus ∷ Symbol mark.LeftParen ∷ written e (Symbol mark.RightParen ∷ others)
+written (Neg e) others = Symbol punctuator.Minus ∷ Symbol punctuator.LeftParen ∷ written e (Symbol punctuator.RightParen ∷ others)
 written (Bin oper a b) others =
     opened (is_compound a) (written a (closed (is_compound a) (operator_lexeme oper ∷ opened (is_compound b) (written b (closed (is_compound b) others)))))

@@ -5,10 +5,10 @@ ghost use Rattle.std.specs.Char.{is_ascii_digit};
 ghost use Rattle.std.specs.List.{list_all};
 ghost use Rattle.expr_syntax.specs.Constants.{number_up_to, number, ConstantAt};
 ghost use Rattle.aioc_tokens.specs.declared.words.Sort.{Sort};
-ghost use Rattle.aioc_tokens.specs.declared.words.Mark.{Mark};
+ghost use Rattle.aioc_tokens.specs.declared.words.Punctuator.{Punctuator};
 ghost use Rattle.aioc_tokens.specs.Lexemes.{sort_of};
 
-use aioc_tokens::{Lexed, Mark, Sort, Word};
+use aioc_tokens::{Lexed, Punctuator, Sort, Word};
 use dioc_terms::{Memory, Text, TextFault, Value};
 use std::alloc::Global;
 
@@ -71,7 +71,7 @@ pub fn constant_at(
         Sort::Reserved(Word::False) => Ok(Some((Value::Bool(false), at + 1))),
         Sort::Text => text_at(alloc, text, at),
         Sort::Number => Ok(positive_at(text, at)),
-        Sort::Symbol(Mark::Minus) => Ok(negative_at(text, at)),
+        Sort::Symbol(Punctuator::Minus) => Ok(negative_at(text, at)),
         _ => Ok(None),
     }
 }
@@ -103,7 +103,7 @@ fn positive_at(text: &Lexed<'_>, at: usize) -> Option<(Value, usize)>
 }
 
 fn negative_at(text: &Lexed<'_>, at: usize) -> Option<(Value, usize)>
-    requires sort { sort_of (drop at text.now) ≡ Sort.Symbol Mark.Minus }
+    requires sort { sort_of (drop at text.now) ≡ Sort.Symbol Punctuator.Minus }
     requires within { at < length text.now }
     requires small { length text.now < 2 ^ 63 }
     ensures { ConstantAt text.now at result }

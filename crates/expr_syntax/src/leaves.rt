@@ -11,7 +11,7 @@ ghost use Rattle.expr_syntax.specs.Readers.{LeafAt, ConstantLeafAt, MemberAt};
 
 use crate::constants::constant_at;
 use crate::levels::ExprKind;
-use aioc_tokens::{Lexed, Mark, Sort, Word};
+use aioc_tokens::{Lexed, Punctuator, Sort, Word};
 use dioc_terms::{Expr, Memory, Name, NameFault};
 use std::alloc::Global;
 
@@ -55,7 +55,7 @@ fn member_at(alloc: Global, text: &Lexed<'_>, at: usize) -> Result<Option<(Name,
     requires { at < 2 ^ 63 }
     ensures { IfOk result (λ found. MemberAt text.now at found) }
 {
-    if !text.begins(at, &[Sort::Symbol(Mark::Dot), Sort::Name]) {
+    if !text.begins(at, &[Sort::Symbol(Punctuator::Dot), Sort::Name]) {
         return Ok(None);
     }
     let name = name_at(alloc, text, at + 1)?;

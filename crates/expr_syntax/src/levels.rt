@@ -3,7 +3,7 @@
 ghost use Rattle.std.specs.Prelude.{◌≡◌};
 ghost use Rattle.expr_syntax.specs.Levels.{comparison, addition, multiplication, operator, tighter};
 
-use aioc_tokens::{Mark, Sort, Word};
+use aioc_tokens::{Punctuator, Sort, Word};
 use dioc_terms::Oper;
 
 /// Where an expression stands.
@@ -34,38 +34,38 @@ pub enum Level {
     Unary,
 }
 
-fn comparison(mark: Mark) -> Option<Oper>
-    ensures { result ≡ comparison mark }
+fn comparison(punctuator: Punctuator) -> Option<Oper>
+    ensures { result ≡ comparison punctuator }
 {
-    match mark {
-        Mark::EqualEqual => Some(Oper::Eq),
-        Mark::NotEqual => Some(Oper::Ne),
-        Mark::Less => Some(Oper::Lt),
-        Mark::LessEqual => Some(Oper::Le),
-        Mark::Greater => Some(Oper::Gt),
-        Mark::GreaterEqual => Some(Oper::Ge),
+    match punctuator {
+        Punctuator::EqualEqual => Some(Oper::Eq),
+        Punctuator::NotEqual => Some(Oper::Ne),
+        Punctuator::Less => Some(Oper::Lt),
+        Punctuator::LessEqual => Some(Oper::Le),
+        Punctuator::Greater => Some(Oper::Gt),
+        Punctuator::GreaterEqual => Some(Oper::Ge),
         _ => None,
     }
 }
 
-fn addition(kind: ExprKind, mark: Mark) -> Option<Oper>
-    ensures { result ≡ addition kind mark }
+fn addition(kind: ExprKind, punctuator: Punctuator) -> Option<Oper>
+    ensures { result ≡ addition kind punctuator }
 {
-    match (kind, mark) {
-        (_, Mark::Plus) => Some(Oper::Add),
-        (_, Mark::Minus) => Some(Oper::Sub),
-        (ExprKind::Step, Mark::PlusPlus) => Some(Oper::Join),
+    match (kind, punctuator) {
+        (_, Punctuator::Plus) => Some(Oper::Add),
+        (_, Punctuator::Minus) => Some(Oper::Sub),
+        (ExprKind::Step, Punctuator::PlusPlus) => Some(Oper::Join),
         _ => None,
     }
 }
 
-fn multiplication(mark: Mark) -> Option<Oper>
-    ensures { result ≡ multiplication mark }
+fn multiplication(punctuator: Punctuator) -> Option<Oper>
+    ensures { result ≡ multiplication punctuator }
 {
-    match mark {
-        Mark::Star => Some(Oper::Mul),
-        Mark::Slash => Some(Oper::Div),
-        Mark::Percent => Some(Oper::Rem),
+    match punctuator {
+        Punctuator::Star => Some(Oper::Mul),
+        Punctuator::Slash => Some(Oper::Div),
+        Punctuator::Percent => Some(Oper::Rem),
         _ => None,
     }
 }
@@ -77,9 +77,9 @@ pub fn operator(kind: ExprKind, level: Level, sort: Sort) -> Option<Oper>
     match (level, sort) {
         (Level::Disjunction, Sort::Reserved(Word::Or)) => Some(Oper::Or),
         (Level::Conjunction, Sort::Reserved(Word::And)) => Some(Oper::And),
-        (Level::Comparison, Sort::Symbol(mark)) => comparison(mark),
-        (Level::Sum, Sort::Symbol(mark)) => addition(kind, mark),
-        (Level::Product, Sort::Symbol(mark)) => multiplication(mark),
+        (Level::Comparison, Sort::Symbol(punctuator)) => comparison(punctuator),
+        (Level::Sum, Sort::Symbol(punctuator)) => addition(kind, punctuator),
+        (Level::Product, Sort::Symbol(punctuator)) => multiplication(punctuator),
         _ => None,
     }
 }

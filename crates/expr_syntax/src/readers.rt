@@ -3,7 +3,7 @@
 ghost use Rattle.std.specs.Prelude.{◌≡◌, ◌≢◌, ℕ, ◌≤◌, ◌<◌, ◌^◌, ◌+◌, ◌-◌, suc, max, drop, length, true, None, Err, IfOk, IsTrue, ◌↔◌};
 ghost use Rattle.dioc_terms.specs.Expressions.{expression, Not, Neg, Bin};
 ghost use Rattle.aioc_tokens.specs.declared.words.Sort.{Sort};
-ghost use Rattle.aioc_tokens.specs.declared.words.Mark.{Mark};
+ghost use Rattle.aioc_tokens.specs.declared.words.Punctuator.{Punctuator};
 ghost use Rattle.aioc_tokens.specs.Lexemes.{sort_of};
 ghost use Rattle.expr_syntax.specs.Grammar.{begins_with_number};
 ghost use Rattle.expr_syntax.specs.Levels.{is_chain};
@@ -12,7 +12,7 @@ ghost use Rattle.expr_syntax.specs.declared.levels.Level.{Level};
 
 use crate::leaves::{is_number, leaf_at};
 use crate::levels::{ExprKind, Level, operator, tighter};
-use aioc_tokens::{Lexed, Mark, Sort, Word};
+use aioc_tokens::{Lexed, Punctuator, Sort, Word};
 use dioc_terms::{Expr, Memory, Oper};
 use std::alloc::Global;
 
@@ -112,8 +112,8 @@ fn shallow_leaf_at(
     deep: usize,
     at: usize,
 ) -> Result<Option<Found>, Memory>
-    requires minus { sort_of (drop at text.now) ≡ Sort.Symbol Mark.Minus → begins_with_number (drop (at + 1) text.now) ≡ true }
-    requires bracket { sort_of (drop at text.now) ≢ Sort.Symbol Mark.LeftParen }
+    requires minus { sort_of (drop at text.now) ≡ Sort.Symbol Punctuator.Minus → begins_with_number (drop (at + 1) text.now) ≡ true }
+    requires bracket { sort_of (drop at text.now) ≢ Sort.Symbol Punctuator.LeftParen }
     ensures { IfOk result (λ found. (room : ℕ) → FoundAt kind Level.Unary room deep text.now at found) }
 {
     if deep == 0 {
@@ -286,8 +286,8 @@ fn unary_at(
     ensures { IfOk result (λ found. FoundAt kind Level.Unary room deep text.now at found) }
 {
     match text.sort(at) {
-        Sort::Symbol(Mark::LeftParen) => bracket_at(alloc, text, kind, room, deep, at),
-        Sort::Symbol(Mark::Minus) => minus_at(alloc, text, kind, room, deep, at),
+        Sort::Symbol(Punctuator::LeftParen) => bracket_at(alloc, text, kind, room, deep, at),
+        Sort::Symbol(Punctuator::Minus) => minus_at(alloc, text, kind, room, deep, at),
         _ => shallow_leaf_at(alloc, text, kind, deep, at),
     }
 }
@@ -302,7 +302,7 @@ fn minus_at(
     deep: usize,
     at: usize,
 ) -> Result<Option<Found>, Memory>
-    requires sort { sort_of (drop at text.now) ≡ Sort.Symbol Mark.Minus }
+    requires sort { sort_of (drop at text.now) ≡ Sort.Symbol Punctuator.Minus }
     requires within { at < length text.now }
     requires small { length text.now < 2 ^ 63 }
     ensures { IfOk result (λ found. FoundAt kind Level.Unary room deep text.now at found) }
@@ -332,7 +332,7 @@ fn bracket_at(
     deep: usize,
     at: usize,
 ) -> Result<Option<Found>, Memory>
-    requires sort { sort_of (drop at text.now) ≡ Sort.Symbol Mark.LeftParen }
+    requires sort { sort_of (drop at text.now) ≡ Sort.Symbol Punctuator.LeftParen }
     requires within { at < length text.now }
     requires small { length text.now < 2 ^ 63 }
     ensures { IfOk result (λ found. FoundAt kind Level.Unary room deep text.now at found) }
@@ -352,7 +352,7 @@ fn bracket_at(
         Some(inner) => inner,
         None => return Ok(None),
     };
-    if stands(text, inner.at, Sort::Symbol(Mark::RightParen)) {
+    if stands(text, inner.at, Sort::Symbol(Punctuator::RightParen)) {
         Ok(Some(Found {
             expr: inner.expr,
             depth: inner.depth,

@@ -11,19 +11,18 @@ use Rattle.dioc_terms.specs.declared.entries.Note.TheVariants as note
 use Rattle.dioc_terms.specs.declared.entries.Chosen.TheVariants as chosen
 use Rattle.dioc_terms.specs.declared.entries.Entry.{Entry}
 use Rattle.dioc_terms.specs.declared.entries.Entry.TheVariants as entry
-use Rattle.dioc_terms.specs.declared.bundles.Rule.{Rule}
 use Rattle.dioc_terms.specs.declared.bundles.Change.{Change}
 use Rattle.dioc_terms.specs.declared.bundles.Change.TheVariants as change
 use Rattle.dioc_terms.specs.declared.bundles.Timed.{Timed}
-use Rattle.dioc_terms.specs.declared.bundles.Bundle.{Bundle}
 use Rattle.dioc_terms.specs.Equality.{role_eq, entry_eq}
 use Rattle.dioc_terms.specs.Expressions.{Expression}
 use Rattle.dioc_terms.specs.Messages.{is_aux, doer}
-use Rattle.dioc_terms.specs.Moves.{Move, Stuck, Does, under, orelse, when}
+use Rattle.dioc_terms.specs.Attempts.{Attempt, Stuck, Does, under, orelse, when}
+use Rattle.dioc_terms.specs.Plain.{PlainRule, PlainBundle, Setting, setting}
 use Rattle.dioc_terms.specs.Rules.{Book, apply, choose, opening_book}
 use Rattle.dioc_terms.specs.Stores.{Store, fresh_store, set_variable, next_input, drop_input}
 use Rattle.dioc_terms.specs.Terms as term
-use Rattle.dioc_terms.specs.Terms.{Term, is_in, stamped, head_of, term as term_of}
+use Rattle.dioc_terms.specs.Terms.{Term, is_in, stamped, head_of}
 use Rattle.dioc_terms.specs.Values.{eval, is_true}
 use Rattle.global_steps.specs.Running.{Running, Skip, Com, Set, Input, Seq, Par, If, While, Scope, Fly, Bar, Again, started, ended, light, is_due}
 
@@ -40,20 +39,20 @@ affected (Assigns x v) s = set_variable x v s
 affected (Reads x v) s = set_variable x v (drop_input s)
 
 -- what the book decides of a scope: it keeps its body, or a rule of that name and with that body replaces it
-pub data Answer : Type 0 where
-  Kept : Answer
-  Replaced : List ℕ → Term → Answer
+pub data BookChoice : Type 0 where
+  KeepsBody : BookChoice
+  TakesRule : List ℕ → Term → BookChoice
 
 -- the answer of the book, given the store of the scope's leader
-abbrev pub answer_of : List Rule → Book → ScopeHead → Store → Answer
-answer_of rules book head s = of_choice (choose rules book head s)
+abbrev pub book_choice : List PlainRule → Book → ScopeHead → Store → BookChoice
+book_choice rules book head s = of_choice (choose rules book head s)
   where
-    of_rule : Option Rule → Answer
-    of_rule None = Kept
-    of_rule (Some rule) = Replaced rule.name (term_of rule.body)
+    of_rule : Option PlainRule → BookChoice
+    of_rule None = KeepsBody
+    of_rule (Some rule) = TakesRule rule.name rule.body
 
-    of_choice : Option ℕ → Answer
-    of_choice None = Kept
+    of_choice : Option ℕ → BookChoice
+    of_choice None = KeepsBody
     of_choice (Some m) = of_rule (slice_get rules m)
 
 abbrev pub operation : Role → Role → Index → List ℕ → Key
@@ -68,22 +67,22 @@ is_doer_due e G = due_in (doer e)
     due_in (Some q) = is_due q G
 
 -- the cast, the stores, the answers of the book, and the number of updates so far
-module _ (cast : List Role) (stores : Role → Store) (answers : ScopeHead → Answer) (updates : ℕ) where
+module _ (cast : List Role) (stores : Role → Store) (choices : ScopeHead → BookChoice) (updates : ℕ) where
   -- a pick of a loop: a turn with a fresh body, or the end
-  abbrev pub while_plays : Index → Role → Expression → Term → Entry → Move Effect Running
+  abbrev pub while_plays : Index → Role → Expression → Term → Entry → Attempt Effect Running
   while_plays i r g I e =
       when (entry_eq e (entry.Pick i r (is_true (eval g (stores r)))))
       (Does Leaves (if is_true (eval g (stores r)) then Again i r g I (started I) else Skip))
 
   -- a chosen scope: of its own body, or of a rule's body as the next update, one level higher
-  abbrev pub scope_plays : Index → Role → Term → (Role → Bool) → ℕ → Answer → Entry → Move Effect Running
-  scope_plays i r I roles level Kept e = when (entry_eq e (entry.Scope i r chosen.Keep)) (Does Leaves (Bar roles (started I)))
-  scope_plays i r I roles level (Replaced name body) e =
+  abbrev pub scope_plays : Index → Role → Term → (Role → Bool) → ℕ → BookChoice → Entry → Attempt Effect Running
+  scope_plays i r I roles level KeepsBody e = when (entry_eq e (entry.Scope i r chosen.Keep)) (Does Leaves (Bar roles (started I)))
+  scope_plays i r I roles level (TakesRule name body) e =
       when (entry_eq e (entry.Scope i r (chosen.Rule name (suc updates))))
       (Does Leaves (Bar roles (started (stamped body (suc updates) (suc level)))))
 
   -- The running term after an entry of a role, where the entry is played: all its fields must be those that the case gives.
-  abbrev pub plays : Running → Entry → Move Effect Running
+  abbrev pub plays : Running → Entry → Attempt Effect Running
   plays Skip e = Stuck
   -- the message begins to fly, with the value of its expression
   plays (Com i o a x b y) e =
@@ -98,7 +97,7 @@ module _ (cast : List Role) (stores : Role → Store) (answers : ScopeHead → A
   -- inside the turn, or where it has ended the next pick of the loop
   plays (Again i r g I G) e = orelse (under (Again i r g I) (plays G e)) (when (ended G) (while_plays i r g I e))
   plays (Scope i r I extra props level) e =
-      scope_plays i r I (λ q. is_in q (term.Scope i r I extra props level)) level (answers (head_of cast i r I extra props level)) e
+      scope_plays i r I (λ q. is_in q (term.Scope i r I extra props level)) level (choices (head_of cast i r I extra props level)) e
   plays (Bar roles G) e = under (Bar roles) (plays G e)
   -- the left part, else the right one
   plays (Par G H) e = orelse (under (λ K. Par K H) (plays G e)) (under (Par G) (plays H e))
@@ -120,13 +119,13 @@ abbrev pub updated : {A : Type 0} → Role → A → (Role → A) → Role → A
 updated r a f q = if role_eq q r then a else f q
 
 -- the entry that a change of the script shows: of an add the rule's name
-abbrev pub change_entry : List Rule → Change → Option Entry
-change_entry rules (change.Add m) = option_map (λ (rule : Rule). entry.Add rule.name) (slice_get rules m)
+abbrev pub change_entry : List PlainRule → Change → Option Entry
+change_entry rules (change.Add m) = option_map (λ (rule : PlainRule). entry.Add rule.name) (slice_get rules m)
 change_entry rules (change.Drop name) = Some (entry.Drop name)
 change_entry rules (change.Env key v) = Some (entry.Env key v)
 
 -- whether the entry shows the change
-abbrev pub shows : List Rule → Entry → Change → Bool
+abbrev pub shows : List PlainRule → Entry → Change → Bool
 shows rules e c = is_that (change_entry rules c)
   where
     is_that : Option Entry → Bool
@@ -138,11 +137,11 @@ updates_after (entry.Scope i r (chosen.Rule name n)) updates = suc updates
 updates_after _ updates = updates
 
 -- the next state after an entry of a role
-abbrev pub follow_role : Bundle → State → Role → Entry → Option State
+abbrev pub follow_role : Setting → State → Role → Entry → Option State
 follow_role b S r e =
-    next (plays b.cast S.stores (λ head. answer_of b.rules S.book head (S.stores head.leader)) S.updates S.running e)
+    next (plays b.cast S.stores (λ head. book_choice b.rules S.book head (S.stores head.leader)) S.updates S.running e)
   where
-    next : Move Effect Running → Option State
+    next : Attempt Effect Running → Option State
     next Stuck = None
     next (Does effect G) =
         Some (record {
@@ -155,7 +154,7 @@ follow_role b S r e =
         })
 
 -- the next state after the script's next change, which may stand once its stated number of entries is there
-abbrev pub follow_change : Bundle → State → Entry → Option State
+abbrev pub follow_change : Setting → State → Entry → Option State
 follow_change b S e = by_script (slice_get b.script S.changes)
   where
     by_script : Option Timed → Option State
@@ -173,7 +172,7 @@ follow_change b S e = by_script (slice_get b.script S.changes)
         else None
 
 -- the next state after an entry, where the entry is played
-abbrev pub follow : Bundle → State → Entry → Option State
+abbrev pub follow : Setting → State → Entry → Option State
 follow b S e = by_doer (doer e)
   where
     by_doer : Option Role → Option State
@@ -185,13 +184,13 @@ abbrev pub inputs_of : List (Role × List Value) → Role → List Value
 inputs_of [] r = []
 inputs_of (given ∷ rest) r = if role_eq given.0 r then given.1 ++ inputs_of rest r else inputs_of rest r
 
-abbrev pub opening_store : Bundle → Role → Store
+abbrev pub opening_store : PlainBundle → Role → Store
 opening_store b r = fresh_store (inputs_of b.inputs r)
 
 -- the start of a play
-abbrev pub opening : Bundle → State
-opening b = record {
-  running = started (term_of b.choreo);
+abbrev pub play_start : PlainBundle → State
+play_start b = record {
+  running = started b.choreo;
   stores = opening_store b;
   book = opening_book b.rules b.opening b.env;
   updates = 0;
@@ -200,19 +199,19 @@ opening b = record {
 }
 
 -- the state after entries, where each is played after those before it
-abbrev pub play_from : Bundle → State → List Entry → Option State
+abbrev pub play_from : Setting → State → List Entry → Option State
 play_from b S [] = Some S
 play_from b S (e ∷ es) = option_and_then (λ next. play_from b next es) (follow b S e)
 
-abbrev pub play : Bundle → List Entry → Option State
-play b es = play_from b (opening b) es
+abbrev pub play : PlainBundle → List Entry → Option State
+play b es = play_from (setting b) (play_start b) es
 
 -- The number, from 1, of the first entry that isn't played. Auxiliary entries are passed over, and counted. The number is of the
 -- next entry, from a state.
-abbrev pub stray_from : Bundle → State → ℕ → List Entry → Option ℕ
+abbrev pub stray_from : Setting → State → ℕ → List Entry → Option ℕ
 stray_from b S n [] = None
 stray_from b S n (e ∷ es) =
     if is_aux e then stray_from b S (suc n) es else option_map_or (λ next. stray_from b next (suc n) es) (follow b S e) (Some n)
 
-abbrev pub stray : Bundle → List Entry → Option ℕ
-stray b es = stray_from b (opening b) 1 es
+abbrev pub stray : PlainBundle → List Entry → Option ℕ
+stray b es = stray_from (setting b) (play_start b) 1 es

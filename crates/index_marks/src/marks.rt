@@ -1,7 +1,7 @@
 //! The marks that a text gives its constructs.
 
 ghost use Rattle.std.specs.Prelude.{◌≡◌, ◌+◌, ◌≤◌};
-ghost use Rattle.dioc_terms.specs.Terms.{term, constructs, mark_at, marked, marked_from, nodes};
+ghost use Rattle.dioc_terms.specs.Terms.{term, constructs, index_at, indexed, indexed_from, nodes};
 
 use dioc_terms::{Choreo, Index};
 
@@ -9,7 +9,7 @@ use dioc_terms::{Choreo, Index};
 /// constructs that begin before it in the text. Each scope gets level 0. It takes no memory.
 pub fn mark(choreo: &mut Choreo)
     requires { nodes (term choreo.old) ≤ 4294967295 }
-    ensures { term choreo.new ≡ marked (term choreo.old) }
+    ensures { term choreo.new ≡ indexed (term choreo.old) }
 {
     mark_from(choreo, 0);
 }
@@ -17,7 +17,7 @@ pub fn mark(choreo: &mut Choreo)
 /// Marks the part of a text before which so many constructs begin, and answers how many begin before what follows it.
 fn mark_from(choreo: &mut Choreo, before: u32) -> u32
     requires { before + nodes (term choreo.old) ≤ 4294967295 }
-    ensures marks { term choreo.new ≡ marked_from before (term choreo.old) }
+    ensures marks { term choreo.new ≡ indexed_from before (term choreo.old) }
     ensures next { result ≡ before + constructs (term choreo.old) }
     ensures few { constructs (term choreo.old) ≤ nodes (term choreo.old) }
 {
@@ -59,7 +59,7 @@ fn mark_from(choreo: &mut Choreo, before: u32) -> u32
 /// Marks a construct, and answers how many begin before what follows its beginning.
 fn mark_one(index: &mut Index, before: u32) -> u32
     requires { before + 1 ≤ 4294967295 }
-    ensures index { index.new ≡ mark_at before }
+    ensures index { index.new ≡ index_at before }
     ensures next { result ≡ before + 1 }
 {
     *index = Index {

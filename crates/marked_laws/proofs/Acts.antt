@@ -7,7 +7,7 @@ use Rattle.dioc_terms.specs.declared.processes.Tag.TheVariants.{Op, Choice, Go, 
 use Rattle.dioc_terms.specs.declared.entries.Act.{Act}
 use Rattle.dioc_terms.specs.declared.entries.Act.TheVariants as act
 use Rattle.dioc_terms.specs.Equality.{act_eq}
-use Rattle.dioc_terms.specs.Moves.{Move, Does, when}
+use Rattle.dioc_terms.specs.Attempts.{Attempt, Does, when}
 use Rattle.dioc_terms.specs.Processes.{Process, Skip, Send, Recv, Assign, Read, Seq, Par, IfLead, IfFollow, WhileLead, WhileFollow, ScopeLead, ScopeFollow, Tell, Gather, Nothing, More, Val}
 use Rattle.dioc_terms.specs.Stores.{Store, next_input}
 use Rattle.dioc_terms.specs.Values.{eval, is_true}
@@ -18,7 +18,7 @@ use Rattle.marked_laws.proofs.Norm.{norm_of_ended, offers_alike}
 
 module _ (q : Role) (s : Store) where
   -- a step's act is the one that is offered
-  offered_one : (a b : Act) (m : Move Deed Process) {d : Deed} {R : Process} → when (act_eq a b) m ≡ Does d R → is_offered a (b ∷ []) ≡ true
+  offered_one : (a b : Act) (m : Attempt Deed Process) {d : Deed} {R : Process} → when (act_eq a b) m ≡ Does d R → is_offered a (b ∷ []) ≡ true
   offered_one a b m h = or_left (act_eq a b) false (when_does (act_eq a b) m h).0
 
   -- a process offers each act by which it steps

@@ -12,7 +12,7 @@ use Rattle.dioc_terms.specs.declared.entries.Act.{Act}
 use Rattle.dioc_terms.specs.declared.entries.Act.TheVariants as act
 use Rattle.dioc_terms.specs.Equality.{role_eq, act_eq}
 use Rattle.dioc_terms.specs.Expressions.{Expression}
-use Rattle.dioc_terms.specs.Moves.{Move, Does, under, when}
+use Rattle.dioc_terms.specs.Attempts.{Attempt, Does, under, when}
 use Rattle.dioc_terms.specs.Processes as process
 use Rattle.dioc_terms.specs.Processes.{Process, Load, Val, Flag, Keep, Part}
 use Rattle.dioc_terms.specs.Stores.{Store}
@@ -39,7 +39,7 @@ module _ (mails : Key → Option Load) (decide : ScopeHead → Decision) (q : Ro
   can_along P Q a h can = subst (λ p. Can p a) h can
 
   -- a process that offers one act, and does it
-  passes : (a : Act) (m : Move Deed Process) (d : Deed) (R : Process) → m ≡ Does d R → when (act_eq a a) m ≡ Does d R
+  passes : (a : Act) (m : Attempt Deed Process) (d : Deed) (R : Process) → m ≡ Does d R → when (act_eq a a) m ≡ Does d R
   passes a m d R h = when_true (act_eq a a) m (act_itself a) ∙ h
 
   pub can_send : (i : Index) (o : List ℕ) (b : Role) (e : Expression) → Can (process.Send i o b e) (act.Put (key q b i (Op o)))

@@ -5,16 +5,15 @@ use Rattle.std.proofs.lemmas.Bool.{and_parts, and_from, cases_Bool, cond-true, c
 use Rattle.std.proofs.lemmas.Option.{slice_get_within, unwrap_or-slice_get}
 use Rattle.dioc_terms.specs.declared.names.Role.{Role}
 use Rattle.dioc_terms.specs.declared.processes.ScopeHead.{ScopeHead}
-use Rattle.dioc_terms.specs.declared.bundles.Rule.{Rule}
-use Rattle.dioc_terms.specs.declared.bundles.Bundle.{Bundle}
+use Rattle.dioc_terms.specs.Plain.{PlainRule, PlainBundle, setting}
 use Rattle.dioc_terms.specs.Bundles.{IsFormedRule}
 use Rattle.dioc_terms.specs.Equality.{member}
-use Rattle.dioc_terms.specs.Expressions.{expression}
+use Rattle.dioc_terms.specs.Limits.{top_level}
 use Rattle.dioc_terms.specs.Rules.{Book, fits, no_lower, first_greatest, choose}
 use Rattle.dioc_terms.specs.Stores.{Store}
-use Rattle.dioc_terms.specs.Terms.{Term, is_in, mentions, stamped, distinct_roles, term}
+use Rattle.dioc_terms.specs.Terms.{Term, is_in, mentions, stamped, distinct_roles}
 use Rattle.dioc_terms.specs.Values.{holds, bound}
-use Rattle.global_steps.specs.Follow.{Answer, Kept, Replaced, answer_of}
+use Rattle.global_steps.specs.Follow.{BookChoice, KeepsBody, TakesRule, book_choice}
 use Rattle.marked_laws.specs.Laws.{IsSound, IsSoundRule}
 use Rattle.marked_laws.specs.Network.{Network}
 use Rattle.marked_laws.proofs.MarkSteps.{SoundAnswers}
@@ -34,7 +33,7 @@ filter_passes p (m ∷ ms) = ⊎_elim
     (λ no. ap (list_all p) (cond-false (p m) (m ∷ filter p ms) (filter p ms) no) ∙ filter_passes p ms)
     (cases_Bool (p m))
 
-module _ (rules : List Rule) where
+module _ (rules : List PlainRule) where
   abbrev better_of : ℕ → Option ℕ → Option ℕ
   better_of m None = Some m
   better_of m (Some n) = if no_lower rules m n then Some m else Some n
@@ -53,63 +52,63 @@ module _ (rules : List Rule) where
       let parts = and_parts (p k) (list_all p ms) all in
       better_passes p k (first_greatest rules ms) m parts.0 (λ n is. greatest_passes p ms n parts.1 is) h
 
-  abbrev rule_answer : Option Rule → Answer
-  rule_answer None = Kept
-  rule_answer (Some rule) = Replaced rule.name (term rule.body)
+  abbrev rule_answer : Option PlainRule → BookChoice
+  rule_answer None = KeepsBody
+  rule_answer (Some rule) = TakesRule rule.name rule.body
 
-  abbrev choice_answer : Option ℕ → Answer
-  choice_answer None = Kept
+  abbrev choice_answer : Option ℕ → BookChoice
+  choice_answer None = KeepsBody
   choice_answer (Some m) = rule_answer (slice_get rules m)
 
-  abbrev rule_fits : Book → ScopeHead → Store → Option Rule → Bool
+  abbrev rule_fits : Book → ScopeHead → Store → Option PlainRule → Bool
   rule_fits book head s None = false
-  rule_fits book head s (Some rule) = holds (expression rule.cond) s (bound head.props) book.environment
-      && list_all (λ q. member q head.roles) (mentions (term rule.body)) && nat_lt head.level 16
+  rule_fits book head s (Some rule) = holds rule.cond s (bound head.props) book.environment
+      && list_all (λ q. member q head.roles) (mentions rule.body) && nat_lt head.level top_level
 
   -- a rule that the book answers with: its number, the rule, its body, and that it fits
   pub record Answered (book : Book) (head : ScopeHead) (s : Store) (B : Term) : Type 0 where
     pub number : ℕ
-    pub rule : Rule
+    pub rule : PlainRule
     pub stands : slice_get rules number ≡ Some rule
-    pub is_body : B ≡ term rule.body
-    pub roles : list_all (λ q. member q head.roles) (mentions (term rule.body)) ≡ true
+    pub is_body : B ≡ rule.body
+    pub roles : list_all (λ q. member q head.roles) (mentions rule.body) ≡ true
 
-  kept_replaced : {name : List ℕ} {B : Term} → Kept ≡ Replaced name B → ⊥
+  kept_replaced : {name : List ℕ} {B : Term} → KeepsBody ≡ TakesRule name B → ⊥
   kept_replaced e = cc
 
-  same_body : {name name' : List ℕ} {B B' : Term} → Replaced name B ≡ Replaced name' B' → B ≡ B'
+  same_body : {name name' : List ℕ} {B B' : Term} → TakesRule name B ≡ TakesRule name' B' → B ≡ B'
   same_body e = cc
 
-  by_rule : (o : Option Rule) (name : List ℕ) (B : Term) → rule_answer o ≡ Replaced name B → (rule : Rule) × (o ≡ Some rule) × (B ≡ term rule.body)
+  by_rule : (o : Option PlainRule) (name : List ℕ) (B : Term) → rule_answer o ≡ TakesRule name B → (rule : PlainRule) × (o ≡ Some rule) × (B ≡ rule.body)
   by_rule None name B h = absurd (kept_replaced h)
   by_rule (Some rule) name B h = (rule, refl, sym (same_body h))
 
-  by_choice : (o : Option ℕ) (name : List ℕ) (B : Term) → choice_answer o ≡ Replaced name B → (m : ℕ) × (o ≡ Some m) × (rule_answer (slice_get rules m) ≡ Replaced name B)
+  by_choice : (o : Option ℕ) (name : List ℕ) (B : Term) → choice_answer o ≡ TakesRule name B → (m : ℕ) × (o ≡ Some m) × (rule_answer (slice_get rules m) ≡ TakesRule name B)
   by_choice None name B h = absurd (kept_replaced h)
   by_choice (Some m) name B h = (m, refl, h)
 
-  pub answered : (book : Book) (head : ScopeHead) (s : Store) (name : List ℕ) (B : Term) → answer_of rules book head s ≡ Replaced name B → Answered book head s B
+  pub answered : (book : Book) (head : ScopeHead) (s : Store) (name : List ℕ) (B : Term) → book_choice rules book head s ≡ TakesRule name B → Answered book head s B
   answered book head s name B h =
       let choice = by_choice (choose rules book head s) name B h in
       let rule = by_rule (slice_get rules choice.0) name B choice.2 in
       let fit : fits rules book head s choice.0 ≡ true =
       greatest_passes (fits rules book head s) (filter (fits rules book head s) book.order) choice.0 (filter_passes (fits rules book head s) book.order) choice.1 in
       let of_rule : rule_fits book head s (Some rule.0) ≡ true = sym (ap (rule_fits book head s) rule.1) ∙ fit in
-      let level = and_parts _ (nat_lt head.level 16) of_rule in
+      let level = and_parts _ (nat_lt head.level top_level) of_rule in
       record {
         number = choice.0;
         rule = rule.0;
         stands = rule.1;
         is_body = rule.2;
-        roles = (and_parts _ (list_all (λ q. member q head.roles) (mentions (term (rule.0).body))) level.0).1;
+        roles = (and_parts _ (list_all (λ q. member q head.roles) (mentions (rule.0).body)) level.0).1;
       }
 
 -- in a sound bundle
 module _ (known : Known) where
-  pub cast_unique : (b : Bundle) → IsSound b → distinct_roles b.cast ≡ true
-  cast_unique b sound = ap distinct_roles sound.formed.cast ∙ known.casts.distinct (term b.choreo)
+  pub cast_unique : (b : PlainBundle) → IsSound b → distinct_roles b.cast ≡ true
+  cast_unique b sound = ap distinct_roles sound.formed.cast ∙ known.casts.distinct b.choreo
 
-  pub sound_answers : (b : Bundle) → IsSound b → (N : Network) → SoundAnswers b.cast (answers_in b N) N.updates
+  pub sound_answers : (b : PlainBundle) → IsSound b → (N : Network) → SoundAnswers b.cast (answers_in (setting b) N) N.updates
   sound_answers b sound N = record {
     proper = λ head name B h. proper_body head name B (answered b.rules N.book head (N.stores head.leader) name B h);
     inner = λ head name B h q in_it. inner_body head name B (answered b.rules N.book head (N.stores head.leader) name B h) q in_it;
@@ -121,11 +120,11 @@ module _ (known : Known) where
           let formed : IsFormedRule found.rule = all_at IsFormedRule b.rules found.number found.rule sound.formed.rules found.stands in
           let fair : IsSoundRule b.cast found.rule = all_at (IsSoundRule b.cast) b.rules found.number found.rule sound.rules found.stands in
           subst (λ C. Proper b.cast (stamped C (suc N.updates) (suc head.level))) (sym found.is_body)
-          (proper_update known b.cast (term found.rule.body) (suc N.updates) (suc head.level) formed.body.marks fair.body.connected fair.body.no_self_message
-          (λ q h. all_member (λ r. member r b.cast) (mentions (term found.rule.body)) q fair.in_cast (sym (known.mentions q (term found.rule.body)) ∙ h)))
+          (proper_update known b.cast found.rule.body (suc N.updates) (suc head.level) formed.body.indices fair.body.connected fair.body.no_self_message
+          (λ q h. all_member (λ r. member r b.cast) (mentions found.rule.body) q fair.in_cast (sym (known.mentions q found.rule.body) ∙ h)))
 
       inner_body : (head : ScopeHead) (name : List ℕ) (B : Term) → Answered b.rules N.book head (N.stores head.leader) B → (q : Role)
           → is_in q (stamped B (suc N.updates) (suc head.level)) ≡ true → member q head.roles ≡ true
       inner_body head name B found q in_it =
-          all_member (λ r. member r head.roles) (mentions (term found.rule.body)) q found.roles
-          (sym (known.mentions q (term found.rule.body)) ∙ ap (is_in q) (sym found.is_body) ∙ sym (known.bodies.named q B (suc N.updates) (suc head.level)) ∙ in_it)
+          all_member (λ r. member r head.roles) (mentions found.rule.body) q found.roles
+          (sym (known.mentions q found.rule.body) ∙ ap (is_in q) (sym found.is_body) ∙ sym (known.bodies.named q B (suc N.updates) (suc head.level)) ∙ in_it)

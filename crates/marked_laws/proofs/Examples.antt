@@ -2,17 +2,11 @@
 -- and a change between the choice of a scope and its begin messages. Each run is ended, and so is the play of its visible part.
 use Rattle.std.proofs.Common.{◌≡◌, ℕ, List, [], ◌∷◌, ◌++◌, Bool, true, false, Option, Some, None, refl, pos}
 use Rattle.std.specs.Prelude.{codes, option_map, take}
-use Rattle.std.specs.declared.boxed.Box.{Box}
-use Rattle.std.specs.declared.alloc.Global.{Global}
 use Rattle.dioc_terms.specs.declared.names.Role.{Role}
 use Rattle.dioc_terms.specs.declared.names.Index.{Index}
 use Rattle.dioc_terms.specs.declared.values.Value.{Value}
 use Rattle.dioc_terms.specs.declared.values.Value.TheVariants as value
 use Rattle.dioc_terms.specs.declared.expressions.Oper.TheVariants as oper
-use Rattle.dioc_terms.specs.declared.expressions.Expr.{Expr}
-use Rattle.dioc_terms.specs.declared.expressions.Expr as expr
-use Rattle.dioc_terms.specs.declared.choreographies.Choreo.{Choreo}
-use Rattle.dioc_terms.specs.declared.choreographies.Choreo as choreo
 use Rattle.dioc_terms.specs.declared.processes.Tag.{Tag}
 use Rattle.dioc_terms.specs.declared.processes.Tag.TheVariants.{Op, Go, Turn, Begin, End, Out}
 use Rattle.dioc_terms.specs.declared.entries.Note.{Note}
@@ -20,48 +14,23 @@ use Rattle.dioc_terms.specs.declared.entries.Note.TheVariants as note
 use Rattle.dioc_terms.specs.declared.entries.Chosen.TheVariants as chosen
 use Rattle.dioc_terms.specs.declared.entries.Entry.{Entry}
 use Rattle.dioc_terms.specs.declared.entries.Entry.TheVariants as entry
-use Rattle.dioc_terms.specs.declared.bundles.Rule.{Rule}
 use Rattle.dioc_terms.specs.declared.bundles.Change.TheVariants as change
 use Rattle.dioc_terms.specs.declared.bundles.Timed.{Timed}
-use Rattle.dioc_terms.specs.declared.bundles.Bundle.{Bundle}
 use Rattle.dioc_terms.specs.Expressions.{Expression, Const, Var, Prop, Env, Not, Neg, Bin}
 use Rattle.dioc_terms.specs.Messages.{visible}
+use Rattle.dioc_terms.specs.Plain.{PlainRule, PlainBundle}
 use Rattle.dioc_terms.specs.Stores.{variable}
-use Rattle.dioc_terms.specs.Terms.{Term, Skip, Com, Set, Input, Seq, Par, If, While, Scope, cast_of, marked}
+use Rattle.dioc_terms.specs.Terms.{Term, Skip, Com, Set, Input, Seq, Par, If, While, Scope, cast_of, indexed}
 use Rattle.global_steps.specs.Running as running
 use Rattle.global_steps.specs.Follow.{State, play}
 use Rattle.marked_laws.specs.Network.{Network, network_run, network_ended}
 
--- where a value lies in memory: any place will do
-abbrev pub Place : Type 0
-Place = Box (Unit {0}) Global
-
-abbrev pub expr_at : Place → Expression → Expr
-expr_at p (Const v) = expr.Const v
-expr_at p (Var x) = expr.Var x
-expr_at p (Prop x) = expr.Prop x
-expr_at p (Env x) = expr.Env x
-expr_at p (Not e) = expr.Not' p (expr_at p e)
-expr_at p (Neg e) = expr.Neg' p (expr_at p e)
-expr_at p (Bin op a b) = expr.Bin' op p (expr_at p a) p (expr_at p b)
-
-abbrev pub choreo_at : Place → Term → Choreo
-choreo_at p Skip = choreo.Skip
-choreo_at p (Com i o a e b x) = choreo.Com i o a (expr_at p e) b x
-choreo_at p (Set i x r e) = choreo.Set i x r (expr_at p e)
-choreo_at p (Input i x r) = choreo.Input i x r
-choreo_at p (Seq I J) = choreo.Seq' p (choreo_at p I) p (choreo_at p J)
-choreo_at p (Par I J) = choreo.Par' p (choreo_at p I) p (choreo_at p J)
-choreo_at p (If i r g I J) = choreo.If' i r (expr_at p g) p (choreo_at p I) p (choreo_at p J)
-choreo_at p (While i r g I) = choreo.While' i r (expr_at p g) p (choreo_at p I)
-choreo_at p (Scope i r I extra props level) = choreo.Scope' i r p (choreo_at p I) extra props level
-
--- a bundle of a choreography whose marks are as given, with rules, of which the first so many are opening, and a script
-abbrev pub bundle_of : Place → Term → List Rule → ℕ → List Timed → Bundle
-bundle_of p I rules opening script = record {
+-- a bundle of a choreography whose indices are as given, with rules, of which the first so many are opening, and a script
+abbrev pub bundle_of : Term → List PlainRule → ℕ → List Timed → PlainBundle
+bundle_of I rules opening script = record {
   version = 1;
   cast = cast_of I;
-  choreo = choreo_at p I;
+  choreo = I;
   rules = rules;
   opening = opening;
   env = [];
@@ -70,13 +39,13 @@ bundle_of p I rules opening script = record {
   trace = record { entries = []; last = None };
 }
 
--- a bundle with the marks of its text
-abbrev pub program : Place → Term → List Rule → ℕ → List Timed → Bundle
-program p I = bundle_of p (marked I)
+-- a bundle with the indices of its text
+abbrev pub program : Term → List PlainRule → ℕ → List Timed → PlainBundle
+program I = bundle_of (indexed I)
 
 -- a rule that always holds
-abbrev pub rule_of : Place → List ℕ → Term → Rule
-rule_of p name body = record { name = name; priority = pos 0; cond = expr.Const (value.Bool true); body = choreo_at p (marked body) }
+abbrev pub rule_of : List ℕ → Term → PlainRule
+rule_of name body = record { name = name; priority = pos 0; cond = Const (value.Bool true); body = indexed body }
 
 abbrev pub a : Role
 a = record { 0 = codes "a" }
@@ -105,7 +74,7 @@ q = codes "q"
 abbrev pub at : ℕ → ℕ → Index
 at epoch place = record { epoch = epoch; place = place }
 
--- no marks yet: the text gives them
+-- no index yet: the text gives it
 abbrev pub unmarked : Index
 unmarked = at 0 0
 
@@ -125,15 +94,15 @@ abbrev pub take_aux : Role → Role → Tag → Index → Entry
 take_aux from to tag i = entry.Take (record { from = from; to = to; index = i; tag = tag }) None
 
 -- whether the choreography plays these entries, and if so whether to its end
-abbrev pub played_to_end : Bundle → List Entry → Option Bool
+abbrev pub played_to_end : PlainBundle → List Entry → Option Bool
 played_to_end bundle es = option_map (λ (S : State). running.ended S.running) (play bundle es)
 
 -- whether the network runs these entries, and if so whether to its end
-abbrev pub run_to_end : Bundle → List Entry → Option Bool
-run_to_end bundle es = option_map (λ (N : Network). network_ended bundle N) (network_run bundle es)
+abbrev pub run_to_end : PlainBundle → List Entry → Option Bool
+run_to_end bundle es = option_map (λ (N : Network). network_ended bundle.cast N) (network_run bundle es)
 
 -- what a variable of a role is after a run, and after the play of its visible part
-abbrev pub left_in : Bundle → List Entry → Role → List ℕ → Option Value × Option Value
+abbrev pub left_in : PlainBundle → List Entry → Role → List ℕ → Option Value × Option Value
 left_in bundle es r name = (
   option_map (λ (N : Network). variable (N.stores r) name) (network_run bundle es),
   option_map (λ (S : State). variable (S.stores r) name) (play bundle (visible es)),
@@ -147,8 +116,8 @@ relay = Scope unmarked a (Seq (Com unmarked o a (Const (int 1)) b x) (Com unmark
 abbrev pub direct : Term
 direct = Com unmarked o a (Const (int 2)) b x
 
-abbrev drops : Place → Bundle
-drops p = program p relay (rule_of p (codes "short") direct ∷ []) 1 []
+abbrev drops : PlainBundle
+drops = program relay (rule_of (codes "short") direct ∷ []) 1 []
 
 abbrev drops_begins : List Entry
 drops_begins =
@@ -160,25 +129,25 @@ abbrev drops_run : List Entry
 drops_run = drops_begins ++ (take_aux c a End (at 0 0) ∷ put a b Out (at 0 0) note.Done ∷ put a c Out (at 0 0) note.Done ∷
     take_aux a c Out (at 0 0) ∷ take_aux a b Out (at 0 0) ∷ [])
 
-drops-runs : (p : Place) → run_to_end (drops p) drops_run ≡ Some true
-drops-runs p = refl
+drops-runs : run_to_end drops drops_run ≡ Some true
+drops-runs = refl
 
-drops-played : (p : Place) → played_to_end (drops p) (visible drops_run) ≡ Some true
-drops-played p = refl
+drops-played : played_to_end drops (visible drops_run) ≡ Some true
+drops-played = refl
 
-drops-left : (p : Place) → left_in (drops p) drops_run b x ≡ (Some (int 2), Some (int 2))
-drops-left p = refl
+drops-left : left_in drops drops_run b x ≡ (Some (int 2), Some (int 2))
+drops-left = refl
 
 -- no release before the end of the dropped role, and none of its messages before it took its begin
-drops-early_release : (p : Place) → network_run (drops p) (drops_begins ++ (put a b Out (at 0 0) note.Done ∷ [])) ≡ None
-drops-early_release p = refl
+drops-early_release : network_run drops (drops_begins ++ (put a b Out (at 0 0) note.Done ∷ [])) ≡ None
+drops-early_release = refl
 
-drops-early_end : (p : Place) → network_run (drops p) (take 4 drops_begins ++ (put c a End (at 0 0) note.Done ∷ [])) ≡ None
-drops-early_end p = refl
+drops-early_end : network_run drops (take 4 drops_begins ++ (put c a End (at 0 0) note.Done ∷ [])) ≡ None
+drops-early_end = refl
 
 -- the dropped role has no part of the scope's own body
-drops-foreign : (p : Place) → network_run (drops p) (take 8 drops_begins ++ (put b c (Op q) (at 0 2) (val 2) ∷ [])) ≡ None
-drops-foreign p = refl
+drops-foreign : network_run drops (take 8 drops_begins ++ (put b c (Op q) (at 0 2) (val 2) ∷ [])) ≡ None
+drops-foreign = refl
 
 -- A loop of two turns with a scope inside: `n@a = 0; while n < 2 @a { scope @a { o: a(n) -> b(x) }; n@a = n + 1 }`. With a rule in the book
 -- each turn is an update of its own.
@@ -204,25 +173,25 @@ kept_turn = turn_of (entry.Scope (at 0 2) a chosen.Keep) note.Keep (at 0 3)
 abbrev kept_run : List Entry
 kept_run = entry.Set (at 0 0) a n (int 0) ∷ (kept_turn 0 1 ++ (kept_turn 1 2 ++ leaves_loop))
 
-kept-runs : (p : Place) → run_to_end (program p turns [] 0 []) kept_run ≡ Some true
-kept-runs p = refl
+kept-runs : run_to_end (program turns [] 0 []) kept_run ≡ Some true
+kept-runs = refl
 
-kept-played : (p : Place) → played_to_end (program p turns [] 0 []) (visible kept_run) ≡ Some true
-kept-played p = refl
+kept-played : played_to_end (program turns [] 0 []) (visible kept_run) ≡ Some true
+kept-played = refl
 
-kept-left : (p : Place) → left_in (program p turns [] 0 []) kept_run b x ≡ (Some (int 1), Some (int 1))
-kept-left p = refl
+kept-left : left_in (program turns [] 0 []) kept_run b x ≡ (Some (int 1), Some (int 1))
+kept-left = refl
 
 -- no second turn while the first one's end is on its way, nor while the other role is still to be let out of the scope
-kept-early_turn : (p : Place) → network_run (program p turns [] 0 []) (entry.Set (at 0 0) a n (int 0) ∷ (take 14 (kept_turn 0 1) ++ (entry.Pick (at 0 1) a true ∷ []))) ≡ None
-kept-early_turn p = refl
+kept-early_turn : network_run (program turns [] 0 []) (entry.Set (at 0 0) a n (int 0) ∷ (take 14 (kept_turn 0 1) ++ (entry.Pick (at 0 1) a true ∷ []))) ≡ None
+kept-early_turn = refl
 
-kept-early_end : (p : Place) → network_run (program p turns [] 0 []) (entry.Set (at 0 0) a n (int 0) ∷ (take 12 (kept_turn 0 1) ++ (put b a Turn (at 0 1) note.Done ∷ []))) ≡ None
-kept-early_end p = refl
+kept-early_end : network_run (program turns [] 0 []) (entry.Set (at 0 0) a n (int 0) ∷ (take 12 (kept_turn 0 1) ++ (put b a Turn (at 0 1) note.Done ∷ []))) ≡ None
+kept-early_end = refl
 
 -- two updates in one run: each has its own number, so the messages of the two turns have different keys
-abbrev updates_twice : Place → Bundle
-updates_twice p = program p turns (rule_of p (codes "seven") (Com unmarked o a (Const (int 7)) b x) ∷ []) 1 []
+abbrev updates_twice : PlainBundle
+updates_twice = program turns (rule_of (codes "seven") (Com unmarked o a (Const (int 7)) b x) ∷ []) 1 []
 
 abbrev updated_turn : ℕ → ℕ → List Entry
 updated_turn update next = turn_of (entry.Scope (at 0 2) a (chosen.Rule (codes "seven") update)) (note.Part update) (at update 0) 7 next
@@ -230,25 +199,25 @@ updated_turn update next = turn_of (entry.Scope (at 0 2) a (chosen.Rule (codes "
 abbrev updates_run : List Entry
 updates_run = entry.Set (at 0 0) a n (int 0) ∷ (updated_turn 1 1 ++ (updated_turn 2 2 ++ leaves_loop))
 
-updates-runs : (p : Place) → run_to_end (updates_twice p) updates_run ≡ Some true
-updates-runs p = refl
+updates-runs : run_to_end updates_twice updates_run ≡ Some true
+updates-runs = refl
 
-updates-played : (p : Place) → played_to_end (updates_twice p) (visible updates_run) ≡ Some true
-updates-played p = refl
+updates-played : played_to_end updates_twice (visible updates_run) ≡ Some true
+updates-played = refl
 
-updates-left : (p : Place) → left_in (updates_twice p) updates_run b x ≡ (Some (int 7), Some (int 7))
-updates-left p = refl
+updates-left : left_in updates_twice updates_run b x ≡ (Some (int 7), Some (int 7))
+updates-left = refl
 
-updates-counted : (p : Place) → option_map (λ (N : Network). N.updates) (network_run (updates_twice p) updates_run) ≡ Some 2
-updates-counted p = refl
+updates-counted : option_map (λ (N : Network). N.updates) (network_run updates_twice updates_run) ≡ Some 2
+updates-counted = refl
 
 -- an update has the next number, and no other
-updates-same_number : (p : Place) → network_run (updates_twice p) (entry.Set (at 0 0) a n (int 0) ∷ (updated_turn 1 1 ++ take 3 (updated_turn 1 2))) ≡ None
-updates-same_number p = refl
+updates-same_number : network_run updates_twice (entry.Set (at 0 0) a n (int 0) ∷ (updated_turn 1 1 ++ take 3 (updated_turn 1 2))) ≡ None
+updates-same_number = refl
 
 -- A change between the choice of a scope and its begin messages: the rule is dropped, and the update goes on. The next turn keeps its body.
-abbrev drops_rule : Place → Bundle
-drops_rule p = program p turns (rule_of p (codes "seven") (Com unmarked o a (Const (int 7)) b x) ∷ []) 1
+abbrev drops_rule : PlainBundle
+drops_rule = program turns (rule_of (codes "seven") (Com unmarked o a (Const (int 7)) b x) ∷ []) 1
     (record { after = 3; change = change.Drop (codes "seven") } ∷ [])
 
 abbrev changed_run : List Entry
@@ -258,21 +227,21 @@ changed_run = entry.Set (at 0 0) a n (int 0) ∷ (take 3 (updated_turn 1 1) ++ (
     entry.Set (at 0 4) a n (int 1) ∷ take_aux a b Out (at 0 2) ∷ put b a Turn (at 0 1) note.Done ∷ take_aux b a Turn (at 0 1) ∷
     (kept_turn 1 2 ++ leaves_loop))))
 
-changed-runs : (p : Place) → run_to_end (drops_rule p) changed_run ≡ Some true
-changed-runs p = refl
+changed-runs : run_to_end drops_rule changed_run ≡ Some true
+changed-runs = refl
 
-changed-played : (p : Place) → played_to_end (drops_rule p) (visible changed_run) ≡ Some true
-changed-played p = refl
+changed-played : played_to_end drops_rule (visible changed_run) ≡ Some true
+changed-played = refl
 
-changed-left : (p : Place) → left_in (drops_rule p) changed_run b x ≡ (Some (int 1), Some (int 1))
-changed-left p = refl
+changed-left : left_in drops_rule changed_run b x ≡ (Some (int 1), Some (int 1))
+changed-left = refl
 
 -- the change may not stand before its stated number of visible entries, and the rule isn't chosen after it
-changed-early : (p : Place) → network_run (drops_rule p) (entry.Set (at 0 0) a n (int 0) ∷ entry.Pick (at 0 1) a true ∷ entry.Drop (codes "seven") ∷ []) ≡ None
-changed-early p = refl
+changed-early : network_run drops_rule (entry.Set (at 0 0) a n (int 0) ∷ entry.Pick (at 0 1) a true ∷ entry.Drop (codes "seven") ∷ []) ≡ None
+changed-early = refl
 
-changed-gone : (p : Place) → network_run (drops_rule p) (take 17 changed_run ++ take 3 (updated_turn 2 2)) ≡ None
-changed-gone p = refl
+changed-gone : network_run drops_rule (take 17 changed_run ++ take 3 (updated_turn 2 2)) ≡ None
+changed-gone = refl
 
-changed-goes_on : (p : Place) → option_map (λ (N : Network). N.updates) (network_run (drops_rule p) (take 17 changed_run ++ take 3 (kept_turn 1 2))) ≡ Some 1
-changed-goes_on p = refl
+changed-goes_on : option_map (λ (N : Network). N.updates) (network_run drops_rule (take 17 changed_run ++ take 3 (kept_turn 1 2))) ≡ Some 1
+changed-goes_on = refl

@@ -1,7 +1,7 @@
 -- Runs of one history after another.
 use Rattle.std.proofs.Common.{◌≡◌, List, [], ◌∷◌, ◌++◌, Option, Some, None, option_and_then, refl, sym, ◌∙◌}
 use Rattle.dioc_terms.specs.declared.entries.Entry.{Entry}
-use Rattle.dioc_terms.specs.declared.bundles.Bundle.{Bundle}
+use Rattle.dioc_terms.specs.Plain.{Setting}
 use Rattle.marked_laws.specs.Network.{Network, network_step, run_from}
 use Rattle.marked_laws.specs.RunLaws.{Extensions}
 use Rattle.marked_laws.proofs.Shapes.{none_some}
@@ -24,7 +24,7 @@ then_had : {A B : Type 0} (o : Option A) (f : A → Option B) {b : B} → option
 then_had None f h = absurd (none_some h)
 then_had (Some a) f h = (a, refl)
 
-run_more : (b : Bundle) (N : Network) (H K : List Entry) → run_from b N (H ++ K) ≡ option_and_then (λ M. run_from b M K) (run_from b N H)
+run_more : (b : Setting) (N : Network) (H K : List Entry) → run_from b N (H ++ K) ≡ option_and_then (λ M. run_from b M K) (run_from b N H)
 run_more b N [] K = refl
 run_more b N (e ∷ H) K =
     then_same (network_step b N e) (λ M. run_from b M (H ++ K)) (λ M. option_and_then (λ L. run_from b L K) (run_from b M H)) (λ M. run_more b M H K)

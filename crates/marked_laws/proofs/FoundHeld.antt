@@ -12,7 +12,7 @@ use Rattle.dioc_terms.specs.declared.entries.Act.{Act}
 use Rattle.dioc_terms.specs.declared.entries.Act.TheVariants as act
 use Rattle.dioc_terms.specs.Equality.{role_eq, key_eq, tag_eq}
 use Rattle.dioc_terms.specs.Expressions.{Expression}
-use Rattle.dioc_terms.specs.Moves.{Does}
+use Rattle.dioc_terms.specs.Attempts.{Does}
 use Rattle.dioc_terms.specs.Processes as process
 use Rattle.dioc_terms.specs.Processes.{Process, Load, Val, Flag, Keep, Part, Done}
 use Rattle.dioc_terms.specs.Stores.{Store}
@@ -20,7 +20,7 @@ use Rattle.dioc_terms.specs.Terms as term
 use Rattle.dioc_terms.specs.Terms.{Term, is_in, others, distinct_roles}
 use Rattle.projection.specs.Projection.{projected}
 use Rattle.dpoc_process.specs.Steps.{Deed, Puts, Takes, Given, Got, Decision, ended, after, key, tell, gather, send_one, take_flag, take_begin, take_any, while_follows, scope_follows, step}
-use Rattle.global_steps.specs.Follow.{Answer, updated}
+use Rattle.global_steps.specs.Follow.{BookChoice, updated}
 use Rattle.marked_laws.proofs.Tells.{tell_ended, gather_ended}
 use Rattle.marked_laws.proofs.Shapes.{none_some, some_same}
 use Rattle.marked_laws.proofs.Agreeing.{own_given}
@@ -209,13 +209,13 @@ module _ (cast : List Role) (q : Role) (s : Store) (a : Act) (given : Given) whe
       let took = take_any_does (key r q i Out) process.Skip given done.1 in
       (done.0, took.0, took.1, λ is. (took.2 ∙ ap (Takes (key r q i Out) None) is, ap norm took.3))
 
-module _ (cast : List Role) (stores : Role → Store) (answers : ScopeHead → Answer) (updates : ℕ) (unique : distinct_roles cast ≡ true)
+module _ (cast : List Role) (stores : Role → Store) (choices : ScopeHead → BookChoice) (updates : ℕ) (unique : distinct_roles cast ≡ true)
     (mails : Key → Option Load) (decide : ScopeHead → Decision) (q : Role) (a : Act) where
   abbrev pub FoundHere : Mark → Deed → Process → Type 0
-  FoundHere M d R = Found cast stores answers updates mails decide q a M d R
+  FoundHere M d R = Found cast stores choices updates mails decide q a M d R
 
   abbrev pub FindsHere : Process → Mark → Type 0
-  FindsHere P M = Finds cast stores answers updates mails decide q a P M
+  FindsHere P M = Finds cast stores choices updates mails decide q a P M
 
   module _ (k : Kind) (phases : Phases) (M : Mark) (fine : Fine cast (Held k phases M)) (agrees : Agrees mails (Held k phases M)) (body_finds : FindsHere (place cast M q) M) where
     -- a step inside the construct
@@ -230,7 +230,7 @@ module _ (cast : List Role) (stores : Role → Store) (answers : ScopeHead → A
         → d ≡ Puts (telling_key k t) (told k t) → norm R ≡ norm (leads cast k (updated t Told phases) (place cast M q)) → FoundHere (Held k phases M) d R
     tells_found is t rest first d R deed alike = (
       Held k (updated t Told phases) M,
-      subst (λ x. Steps cast stores answers updates (Held k phases M) x (Held k (updated t Told phases) M)) (sym deed) (tells first),
+      subst (λ x. Steps cast stores choices updates (Held k phases M) x (Held k (updated t Told phases) M)) (sym deed) (tells first),
       alike ∙ sym (ap norm (place_leader cast k (updated t Told phases) M q is)),
       ap doer_of deed ∙ sym is,
     )
@@ -285,7 +285,7 @@ module _ (cast : List Role) (stores : Role → Store) (answers : ScopeHead → A
           let same_untold : untold cast k (updated x Gone phases) ≡ untold cast k phases = untold_same cast k phases x Gone (sym (ap waits sent.0)) in
           let fewer : ungone cast k (updated x Gone phases) ≡ rest = ungone_gathers cast unique k phases x rest took.3 Gone refl in (
             Held k (updated x Gone phases) M,
-            subst (λ e. Steps cast stores answers updates (Held k phases M) e (Held k (updated x Gone phases) M)) (sym (took.6 ∙ ap (Takes (backing_key k t x) None) sent.1))
+            subst (λ e. Steps cast stores choices updates (Held k phases M) e (Held k (updated x Gone phases) M)) (sym (took.6 ∙ ap (Takes (backing_key k t x) None) sent.1))
                 (gathers backs took.3 sent.0),
             ap norm (sym left) ∙ norm-after G tail ∙ ap (λ g. norm (process.Seq g tail)) took.7
                 ∙ sym (seq_skip (place cast M q) (process.Seq (gather (leader k) rest (index k) t) tail) ran)
@@ -341,7 +341,7 @@ module _ (cast : List Role) (stores : Role → Store) (answers : ScopeHead → A
         let at = told_phase k q (phases q) took.1 (sym (from_leader k phases q (tag k)) ∙ here) in
         let goes_on = took.3 at.1 in (
           Held k (updated q Inside phases) M,
-          subst (λ e. Steps cast stores answers updates (Held k phases M) e (Held k (updated q Inside phases) M)) (sym goes_on.0) (hears at.0),
+          subst (λ e. Steps cast stores choices updates (Held k phases M) e (Held k (updated q Inside phases) M)) (sym goes_on.0) (hears at.0),
           goes_on.1 ∙ ap (λ I. norm (inside cast k q (projected cast I q))) (sym fine.1.is_body)
               ∙ ap (λ P. norm (inside cast k q P)) (sym (fine.1.fresh q early other))
               ∙ sym (ap norm (place_follower cast k (updated q Inside phases) M q other ∙ ap (λ p. follows cast k q p (place cast M q)) (updated_here q Inside phases))),
@@ -383,7 +383,7 @@ module _ (cast : List Role) (stores : Role → Store) (answers : ScopeHead → A
         let done = when_act a (act.Put (backing_key k t q)) (Does (Puts (backing_key k t q) Done) process.Skip) sending.2 in
         let same = does_same done.1 in (
           Held k (updated q Sent phases) M,
-          subst (λ e. Steps cast stores answers updates (Held k phases M) e (Held k (updated q Sent phases) M)) same.0 (arrives backs at over.0),
+          subst (λ e. Steps cast stores choices updates (Held k phases M) e (Held k (updated q Sent phases) M)) same.0 (arrives backs at over.0),
           ap norm (sym sending.3) ∙ ap (λ y. norm (after y O)) (sym same.1)
               ∙ sym (ap norm (place_follower cast k (updated q Sent phases) M q other ∙ ap (λ p. follows cast k q p P) (updated_here q Sent phases))),
           ap doer_of (sym same.0),
@@ -398,9 +398,9 @@ module _ (cast : List Role) (stores : Role → Store) (answers : ScopeHead → A
   turn_tail : (i : Index) (g : Expression) (I : Term) (phases : Phases) (M : Mark) → Closed cast (Turning i q g I) phases M
       → FindsHere (projected cast (term.While i q g I) q) (Held (Turning i q g I) phases M)
   turn_tail i g I phases M closed d R h = ⊎_elim
-      (λ k. made cast stores answers updates mails decide q a R R k.1 refl (again k.0 closed) k.2 refl)
-      (λ k. made cast stores answers updates mails decide q a R R k.1 refl (leaves k.0 closed) k.2 refl)
-      (picks_loop cast stores answers updates mails decide q a i g I d R h)
+      (λ k. made cast stores choices updates mails decide q a R R k.1 refl (again k.0 closed) k.2 refl)
+      (λ k. made cast stores choices updates mails decide q a R R k.1 refl (leaves k.0 closed) k.2 refl)
+      (picks_loop cast stores choices updates mails decide q a i g I d R h)
 
   -- the leader of a scope that is over lets the others out
   scope_tail : (i : Index) (I : Term) (extra : List Role) (props : List (List ℕ × Value)) (level : ℕ) (begin : Role → Load) (B : Term) (phases : Phases) (M : Mark)
@@ -411,7 +411,7 @@ module _ (cast : List Role) (stores : Role → Store) (answers : ScopeHead → A
       let k : Kind = Releasing i q I extra props level in
       let x : Role = told_one.0 in (
         Held k (updated x Told all_wait) (Spent (run M)),
-        subst (λ e. Steps cast stores answers updates (Held (Scoped i q I extra props level begin B) phases M) e (Held k (updated x Told all_wait) (Spent (run M)))) (sym told_one.3)
+        subst (λ e. Steps cast stores choices updates (Held (Scoped i q I extra props level begin B) phases M) e (Held k (updated x Told all_wait) (Spent (run M)))) (sym told_one.3)
             (frees closed told_one.2),
         ap norm told_one.4
             ∙ ap (λ qs. norm (tell q qs i Out (λ r. Done))) (sym (untold_tells cast unique k all_wait x told_one.1 (untold_all cast k ∙ told_one.2) Told refl))

@@ -8,10 +8,10 @@ use Rattle.dioc_terms.specs.declared.processes.ScopeHead.{ScopeHead}
 use Rattle.dioc_terms.specs.declared.entries.Act.{Act}
 use Rattle.dioc_terms.specs.declared.entries.Act.TheVariants as act
 use Rattle.dioc_terms.specs.Equality.{act_eq}
-use Rattle.dioc_terms.specs.Moves.{Move, Does, under, when}
+use Rattle.dioc_terms.specs.Attempts.{Attempt, Does, under, when}
 use Rattle.dioc_terms.specs.Processes.{Process, Seq, Par, Load}
 use Rattle.dioc_terms.specs.Stores.{Store}
-use Rattle.dpoc_process.specs.Steps.{Deed, Puts, Takes, Given, Nil, Got, Answers, Decision, ended, after, key, letters_to, tell, gather, telling, gathering, take_any, offers, is_offered, step}
+use Rattle.dpoc_process.specs.Steps.{Deed, Puts, Takes, Given, Alone, Got, FromBook, Decision, ended, after, key, letters_to, tell, gather, telling, gathering, take_any, offers, is_offered, step}
 use Rattle.marked_laws.proofs.Equality.{act_same}
 use Rattle.marked_laws.proofs.MarkSteps.{given_by}
 use Rattle.marked_laws.proofs.Moves.{does_same, stuck_does, when_does, under_does}
@@ -29,11 +29,11 @@ pub taken_by : (mails : Key → Option Load) (decide : ScopeHead → Decision) (
 taken_by mails decide a j l is h = given_message mails decide j l (sym (ap (given_by mails decide) is) ∙ h)
 
 -- a test that passed, and what is done then
-pub when_act : (a b : Act) (m : Move Deed Process) {d : Deed} {R : Process} → when (act_eq a b) m ≡ Does d R → (a ≡ b) × (m ≡ Does d R)
+pub when_act : (a b : Act) (m : Attempt Deed Process) {d : Deed} {R : Process} → when (act_eq a b) m ≡ Does d R → (a ≡ b) × (m ≡ Does d R)
 when_act a b m h = let parts = when_does (act_eq a b) m h in (act_same a b parts.0, parts.1)
 
 -- which of two moves was done
-pub either_does : (t : Bool) (m n : Move Deed Process) {d : Deed} {R : Process} → (if t then m else n) ≡ Does d R
+pub either_does : (t : Bool) (m n : Attempt Deed Process) {d : Deed} {R : Process} → (if t then m else n) ≡ Does d R
     → ((t ≡ true) × (m ≡ Does d R)) ⊎ ((t ≡ false) × (n ≡ Does d R))
 either_does true m n h = inl (refl, h)
 either_does false m n h = inr (refl, h)
@@ -42,8 +42,8 @@ either_does false m n h = inr (refl, h)
 pub take_any_does : (k : Key) (P : Process) (given : Given) {d : Deed} {R : Process} → take_any k P given ≡ Does d R
     → (l : Load) × (given ≡ Got l) × (d ≡ Takes k None l) × (R ≡ P)
 take_any_does k P (Got l) h = let same = does_same h in (l, refl, sym same.0, sym same.1)
-take_any_does k P Nil h = absurd (stuck_does h)
-take_any_does k P (Answers decide) h = absurd (stuck_does h)
+take_any_does k P Alone h = absurd (stuck_does h)
+take_any_does k P (FromBook decide) h = absurd (stuck_does h)
 
 module _ (me : Role) (s : Store) (a : Act) (given : Given) where
   -- a sequence: its second part where the first has ended, else its first

@@ -11,15 +11,15 @@ use Rattle.dioc_terms.specs.declared.entries.Act.{Act}
 use Rattle.dioc_terms.specs.declared.entries.Act.TheVariants as act
 use Rattle.dioc_terms.specs.Equality.{role_eq, act_eq}
 use Rattle.dioc_terms.specs.Expressions.{Expression}
-use Rattle.dioc_terms.specs.Moves.{Does, when}
+use Rattle.dioc_terms.specs.Attempts.{Does, when}
 use Rattle.dioc_terms.specs.Processes as process
 use Rattle.dioc_terms.specs.Processes.{Process, Load, Val, Flag, Keep, Part, Done}
 use Rattle.dioc_terms.specs.Stores.{Store, next_input}
 use Rattle.dioc_terms.specs.Terms.{Term, Skip, Com, Set, Input, Seq, Par, If, While, Scope, is_in, others, head_of, stamped}
 use Rattle.dioc_terms.specs.Values.{eval, is_true}
 use Rattle.projection.specs.Projection.{projected}
-use Rattle.dpoc_process.specs.Steps.{Deed, Puts, Sets, Inputs, Picks, Given, Nil, Got, Answers, Decision, ended, after, key, tell, gather, take_value, take_flag, take_begin, begin_scope, choose_scope, if_leads, while_leads, scope_leads, step}
-use Rattle.global_steps.specs.Follow.{Answer, Kept, Replaced}
+use Rattle.dpoc_process.specs.Steps.{Deed, Puts, Sets, Inputs, Picks, Given, Alone, Got, FromBook, Decision, ended, after, key, tell, gather, take_value, take_flag, take_begin, begin_scope, choose_scope, if_leads, while_leads, scope_leads, step}
+use Rattle.global_steps.specs.Follow.{BookChoice, KeepsBody, TakesRule}
 use Rattle.marked_laws.specs.Network.{decision}
 use Rattle.marked_laws.proofs.Constructs.{Kind, Branch, Turning, Stopping, Scoped, all_wait, followers, untold, ungone}
 use Rattle.marked_laws.proofs.Ends.{place_leader}
@@ -57,18 +57,18 @@ module _ (cast : List Role) where
   projected_branch true I J q = refl
   projected_branch false I J q = refl
 
-  module _ (stores : Role → Store) (answers : ScopeHead → Answer) (updates : ℕ) (mails : Key → Option Load) (decide : ScopeHead → Decision) (q : Role) (a : Act) where
+  module _ (stores : Role → Store) (choices : ScopeHead → BookChoice) (updates : ℕ) (mails : Key → Option Load) (decide : ScopeHead → Decision) (q : Role) (a : Act) where
     -- the step of the mark that a step of the role's process is
     abbrev pub Found : Mark → Deed → Process → Type 0
-    Found M d R = (N : Mark) × Steps cast stores answers updates M d N × (norm R ≡ norm (place cast N q)) × (doer_of d ≡ q)
+    Found M d R = (N : Mark) × Steps cast stores choices updates M d N × (norm R ≡ norm (place cast N q)) × (doer_of d ≡ q)
 
     -- the role's steps from this process are steps of the mark
     abbrev pub Finds : Process → Mark → Type 0
     Finds P M = (d : Deed) (R : Process) → step q (stores q) P a (given_by mails decide a) ≡ Does d R → Found M d R
 
-    pub made : {M N : Mark} {d e : Deed} (R P : Process) → d ≡ e → R ≡ P → Steps cast stores answers updates M e N → norm P ≡ norm (place cast N q) → doer_of e ≡ q
+    pub made : {M N : Mark} {d e : Deed} (R P : Process) → d ≡ e → R ≡ P → Steps cast stores choices updates M e N → norm P ≡ norm (place cast N q) → doer_of e ≡ q
         → Found M d R
-    made {M = M} {N = N} R P is leaves steps alike who = (N, subst (λ x. Steps cast stores answers updates M x N) (sym is) steps, ap norm leaves ∙ alike, ap doer_of is ∙ who)
+    made {M = M} {N = N} R P is leaves steps alike who = (N, subst (λ x. Steps cast stores choices updates M x N) (sym is) steps, ap norm leaves ∙ alike, ap doer_of is ∙ who)
 
     -- a process by a test
     pub finds_either : (t : Bool) (P Q : Process) (M : Mark) → (t ≡ true → Finds P M) → (t ≡ false → Finds Q M) → Finds (if t then P else Q) M
@@ -86,8 +86,8 @@ module _ (cast : List Role) where
       where
         took : (given : Given) → ((l : Load) → given ≡ Got l → ⊥) → take_flag j P Q given ≡ Does d R → ⊥
         took (Got l) free h = free l refl
-        took Nil free h = stuck_does h
-        took (Answers f) free h = stuck_does h
+        took Alone free h = stuck_does h
+        took (FromBook f) free h = stuck_does h
 
     follows_begin : (r : Role) (i : Index) (P : Process) → mails (key r q i Begin) ≡ None → (d : Deed) (R : Process)
         → when (act_eq a (act.Take (key r q i Begin))) (take_begin r q i P (given_by mails decide a)) ≡ Does d R → ⊥
@@ -97,8 +97,8 @@ module _ (cast : List Role) where
       where
         took : (given : Given) → ((l : Load) → given ≡ Got l → ⊥) → take_begin r q i P given ≡ Does d R → ⊥
         took (Got l) free h = free l refl
-        took Nil free h = stuck_does h
-        took (Answers f) free h = stuck_does h
+        took Alone free h = stuck_does h
+        took (FromBook f) free h = stuck_does h
 
     receives : (j : Key) (x : List ℕ) → mails j ≡ None → (d : Deed) (R : Process)
         → when (act_eq a (act.Take j)) (take_value j x (given_by mails decide a)) ≡ Does d R → ⊥
@@ -107,8 +107,8 @@ module _ (cast : List Role) where
       where
         took : (given : Given) → ((l : Load) → given ≡ Got l → ⊥) → take_value j x given ≡ Does d R → ⊥
         took (Got l) free h = free l refl
-        took Nil free h = stuck_does h
-        took (Answers f) free h = stuck_does h
+        took Alone free h = stuck_does h
+        took (FromBook f) free h = stuck_does h
 
     -- the leader of a choice
     leads_if : (i : Index) (g : Expression) (I J : Term)
@@ -174,13 +174,13 @@ module _ (cast : List Role) where
         (picks_loop i g I d R h)
 
     -- the leader of a scope by the book's answer
-    leads_scope : ((head : ScopeHead) → head.leader ≡ q → decide head ≡ decision cast updates head (answers head))
+    leads_scope : ((head : ScopeHead) → head.leader ≡ q → decide head ≡ decision cast updates head (choices head))
         → (i : Index) (I : Term) (extra : List Role) (props : List (List ℕ × Value)) (level : ℕ)
         → Finds (process.ScopeLead (head_of cast i q I extra props level) (others cast q (Scope i q I extra props level)) (projected cast I q)) (Still (Scope i q I extra props level))
     leads_scope decides i I extra props level d R h =
         let head : ScopeHead = head_of cast i q I extra props level in
         let done = when_act a (act.Scope i) (choose_scope q head (others cast q (Scope i q I extra props level)) (projected cast I q) (given_by mails decide a)) h in
-        by_answer (answers head) refl
+        by_answer (choices head) refl
         (ap (begin_scope q i (others cast q (Scope i q I extra props level)) (projected cast I q)) (sym (decides head refl))
         ∙ sym (ap (choose_scope q head (others cast q (Scope i q I extra props level)) (projected cast I q)) (ap (given_by mails decide) done.0))
         ∙ done.1)
@@ -195,13 +195,13 @@ module _ (cast : List Role) where
             (sym (untold_all k)) (sym (ungone_all k))
             ∙ sym (ap norm (place_leader cast k all_wait (Still B) q refl))
 
-        by_answer : (answer : Answer) → answers (head_of cast i q I extra props level) ≡ answer
-            → begin_scope q i (others cast q (Scope i q I extra props level)) (projected cast I q) (decision cast updates (head_of cast i q I extra props level) (answers (head_of cast i q I extra props level))) ≡ Does d R
+        by_answer : (answer : BookChoice) → choices (head_of cast i q I extra props level) ≡ answer
+            → begin_scope q i (others cast q (Scope i q I extra props level)) (projected cast I q) (decision cast updates (head_of cast i q I extra props level) (choices (head_of cast i q I extra props level))) ≡ Does d R
             → Found (Still (Scope i q I extra props level)) d R
-        by_answer Kept is h =
+        by_answer KeepsBody is h =
             let same = does_same (sym (ap (λ x. begin_scope q i (others cast q (Scope i q I extra props level)) (projected cast I q) (decision cast updates (head_of cast i q I extra props level) x)) is) ∙ h) in
             made R _ (sym same.0) (sym same.1) (keeps is) (begun (λ r. Keep) I) refl
-        by_answer (Replaced name B) is h =
+        by_answer (TakesRule name B) is h =
             let same = does_same (sym (ap (λ x. begin_scope q i (others cast q (Scope i q I extra props level)) (projected cast I q) (decision cast updates (head_of cast i q I extra props level) x)) is) ∙ h) in
             made R _ (sym same.0) (sym same.1) (replaces is)
             (begun (λ r. Part (suc updates) (projected cast (stamped B (suc updates) (suc level)) r)) (stamped B (suc updates) (suc level))) refl
@@ -231,7 +231,7 @@ module _ (cast : List Role) where
         (Both M found.0, par_right found.1, ap norm (sym k.2) ∙ ap (par_norm (norm (place cast M q))) found.2, found.3))
         (par_does q (stores q) a (given_by mails decide a) (place cast M q) (place cast N q) h)
 
-    module _ (decides : (head : ScopeHead) → head.leader ≡ q → decide head ≡ decision cast updates head (answers head)) where
+    module _ (decides : (head : ScopeHead) → head.leader ≡ q → decide head ≡ decision cast updates head (choices head)) where
       pub finds_still : (I : Term) → Agrees mails (Still I) → Finds (projected cast I q) (Still I)
       finds_still Skip agrees d R h = finds_skip (Still Skip) d R h
       finds_still (Com i o r e b x) agrees d R h = finds_either (role_eq q r) (process.Send i o b e) (if role_eq q b then process.Recv i o r x else process.Skip) (Still (Com i o r e b x))

@@ -12,7 +12,7 @@ use Rattle.dioc_terms.specs.declared.entries.Act.{Act}
 use Rattle.dioc_terms.specs.declared.entries.Act.TheVariants as act
 use Rattle.dioc_terms.specs.Equality.{role_eq, key_eq, member}
 use Rattle.dioc_terms.specs.Expressions.{Expression}
-use Rattle.dioc_terms.specs.Moves.{Does}
+use Rattle.dioc_terms.specs.Attempts.{Does}
 use Rattle.dioc_terms.specs.Processes as process
 use Rattle.dioc_terms.specs.Processes.{Process, Load, Val, Flag, Done}
 use Rattle.dioc_terms.specs.Stores.{Store}
@@ -94,8 +94,8 @@ module _ (cast : List Role) (stores : Role → Store) (mails : Key → Option Lo
   abbrev GoesOn : Mark → Type 0
   GoesOn M = (q : Role) × (a : Act) × (member q cast ≡ true) × CanHere q (place cast M q) a
 
-  abbrev Outcome : Mark → Type 0
-  Outcome M = ((q : Role) → ended (place cast M q) ≡ true) ⊎ GoesOn M
+  abbrev NextNetwork : Mark → Type 0
+  NextNetwork M = ((q : Role) → ended (place cast M q) ≡ true) ⊎ GoesOn M
 
   along : (q : Role) (P Q : Process) (a : Act) → P ≡ Q → CanHere q P a → CanHere q Q a
   along q P Q a h can = can_along mails (decide q) q (stores q) P Q a h can
@@ -104,7 +104,7 @@ module _ (cast : List Role) (stores : Role → Store) (mails : Key → Option Lo
   idle : (q : Role) (P : Process) (a : Act) → CanHere q P a → ended P ≡ true → ⊥
   idle q P a can over = both_ways (ended P) (step_unended q (stores q) P a (given_by mails (decide q) a) can.2) over
 
-  goes_seq : (M N L : Mark) → ((q : Role) → place cast L q ≡ process.Seq (place cast M q) (place cast N q)) → Outcome M → Outcome N → Outcome L
+  goes_seq : (M N L : Mark) → ((q : Role) → place cast L q ≡ process.Seq (place cast M q) (place cast N q)) → NextNetwork M → NextNetwork N → NextNetwork L
   goes_seq M N L form first second = ⊎_elim
       (λ over. ⊎_elim
       (λ over'. inl (λ q. ap ended (form q) ∙ and_from (ended (place cast M q)) (ended (place cast N q)) (over q) (over' q)))
@@ -125,7 +125,7 @@ module _ (cast : List Role) (stores : Role → Store) (mails : Key → Option Lo
       ))
       first
 
-  goes_par : (M N L : Mark) → ((q : Role) → place cast L q ≡ process.Par (place cast M q) (place cast N q)) → Outcome M → Outcome N → Outcome L
+  goes_par : (M N L : Mark) → ((q : Role) → place cast L q ≡ process.Par (place cast M q) (place cast N q)) → NextNetwork M → NextNetwork N → NextNetwork L
   goes_par M N L form first second = ⊎_elim
       (λ over. ⊎_elim
       (λ over'. inl (λ q. ap ended (form q) ∙ and_from (ended (place cast M q)) (ended (place cast N q)) (over q) (over' q)))
@@ -154,7 +154,7 @@ module _ (cast : List Role) (stores : Role → Store) (mails : Key → Option Lo
       (can_pick_turn mails (decide r) r (stores r) i g (others cast r (term.While i r g I)) (projected cast I r))
 
   -- a term that nobody has begun: its first role can begin it
-  goes_still : (I : Term) → Proper cast I → Outcome (Still I)
+  goes_still : (I : Term) → Proper cast I → NextNetwork (Still I)
   goes_still term.Skip proper = inl (λ q. refl)
   goes_still (term.Com i o a e b x) proper = inr (
     a,
@@ -332,8 +332,8 @@ module _ (cast : List Role) (stores : Role → Store) (mails : Key → Option Lo
           → ((P : Process) → leads cast k phases P ≡ process.Seq (tell (leader k) (untold cast k phases) (index k) (tag k) (told k)) (process.Seq P (process.Seq (gather (leader k) (ungone cast k phases) (index k) t) tail)))
           → ((q : Role) (P : Process) → inside cast k q P ≡ process.Seq P (process.Seq (send_one (backing_key k t q) Done) (outside cast k q)))
           → ((q : Role) → ended (place cast M q) ≡ true)
-          → (ungone cast k phases ≡ [] → ((q : Role) → role_eq q (leader k) ≡ false → is_in q (whole k) ≡ true → is_late (phases q) ≡ true) → Outcome (Held k phases M))
-          → Outcome (Held k phases M)
+          → (ungone cast k phases ≡ [] → ((q : Role) → role_eq q (leader k) ≡ false → is_in q (whole k) ≡ true → is_late (phases q) ≡ true) → NextNetwork (Held k phases M))
+          → NextNetwork (Held k phases M)
       goes_backed t backs tail form form_inside over goes_tail =
           let r : Role = leader k in
           let P : Process = place cast M r in
@@ -375,7 +375,7 @@ module _ (cast : List Role) (stores : Role → Store) (mails : Key → Option Lo
 
   -- the body has ended for each role, all are told, and none has still to take that
   goes_over : (k : Kind) (phases : Phases) (M : Mark) → Fine cast (Held k phases M) → Agrees mails (Held k phases M) → untold cast k phases ≡ []
-      → ((x : Role) → member x (followers cast k) ≡ true → is_told (phases x) ≡ false) → ((q : Role) → ended (place cast M q) ≡ true) → Outcome (Held k phases M)
+      → ((x : Role) → member x (followers cast k) ≡ true → is_told (phases x) ≡ false) → ((q : Role) → ended (place cast M q) ≡ true) → NextNetwork (Held k phases M)
   goes_over (Branch i r g I J b) phases M fine agrees told_all quiet over =
       let k : Kind = Branch i r g I J b in
       inl (held_over k phases M fine agrees
@@ -431,7 +431,7 @@ module _ (cast : List Role) (stores : Role → Store) (mails : Key → Option Lo
       (λ late. ap ended (late_follows k q (phases q) (place cast M q) late))
       (begun k phases M fine agrees told_all quiet q other in_it)))
 
-  goes_held : (k : Kind) (phases : Phases) (M : Mark) → Fine cast (Held k phases M) → Agrees mails (Held k phases M) → Outcome M → Outcome (Held k phases M)
+  goes_held : (k : Kind) (phases : Phases) (M : Mark) → Fine cast (Held k phases M) → Agrees mails (Held k phases M) → NextNetwork M → NextNetwork (Held k phases M)
   goes_held k phases M fine agrees inner = ⊎_elim
       (λ first. inr (goes_leader k phases M fine agrees (act.Put (telling_key k first.0)) (tells_first k phases (place cast M (leader k)) first.0 first.1 first.2)))
       (λ told_all. ⊎_elim
@@ -444,7 +444,7 @@ module _ (cast : List Role) (stores : Role → Store) (mails : Key → Option Lo
       (first_role (untold cast k phases))
 
   goes_flying : (i : Index) (o : List ℕ) (a : Role) (e : Expression) (b : Role) (x : List ℕ) (v : Value) → Fine cast (Flying i o a e b x v)
-      → Agrees mails (Flying i o a e b x v) → Outcome (Flying i o a e b x v)
+      → Agrees mails (Flying i o a e b x v) → NextNetwork (Flying i o a e b x v)
   goes_flying i o a e b x v fine agrees =
       let j : Key = key a b i (Op o) in
       inr (
@@ -456,7 +456,7 @@ module _ (cast : List Role) (stores : Role → Store) (mails : Key → Option Lo
             (can_receive mails (decide b) b (stores b) i o a x v (agrees j refl ∙ cond-true (key_eq j j) (Some (Val v)) None (key_itself j))),
       )
 
-  goes_mark : (M : Mark) → Fine cast M → Agrees mails M → Outcome M
+  goes_mark : (M : Mark) → Fine cast M → Agrees mails M → NextNetwork M
   goes_mark (Still I) fine agrees = goes_still I fine
   goes_mark (Flying i o a e b x v) fine agrees = goes_flying i o a e b x v fine agrees
   goes_mark (Over I) fine agrees = inl (λ q. refl)

@@ -16,7 +16,7 @@ use Rattle.projection.specs.Projection.{projected}
 use Rattle.dpoc_process.specs.Steps.{Deed, ended}
 use Rattle.global_steps.specs.Running as running
 use Rattle.global_steps.specs.Running.{Running, started, light, is_due}
-use Rattle.global_steps.specs.Follow.{Answer}
+use Rattle.global_steps.specs.Follow.{BookChoice}
 use Rattle.connectedness.specs.ByCases.{begins, attends_ends}
 use Rattle.marked_laws.proofs.Tells.{tell_ended, gather_ended}
 use Rattle.marked_laws.proofs.Constructs.{Phase, Phases, Kind, Branch, Turning, Stopping, Scoped, Releasing, Waits, Told, Inside, Sent, Gone, leader, whole, body, inside, outside, follows, untold, ungone}
@@ -240,7 +240,7 @@ module _ (cast : List Role) where
   ended_due (Held (Releasing i r I extra props level) phases M) q fine h = ended_due M q fine.0 (held_inside cast (Releasing i r I extra props level) phases M q fine h)
   ended_due (Spent G) q fine h = over_due q G fine
 
-  module _ (stores : Role → Store) (answers : ScopeHead → Answer) (updates : ℕ) where
+  module _ (stores : Role → Store) (choices : ScopeHead → BookChoice) (updates : ℕ) where
     seq_start_first : (q : Role) (I J : Term) → begins q I ≡ true → begins q (Seq I J) ≡ true
     seq_start_first q I J h = cond-false (empty I) (begins q J) (begins q I) (start_busy q I h) ∙ h
 
@@ -249,7 +249,7 @@ module _ (cast : List Role) where
         cond-true (empty I) (begins q J) (begins q I) (groups_empty q I ((proper_seq cast I J proper).3 q h) e) ∙ h
 
     -- a term that nobody has begun is begun by a role that begins it
-    pub starts : {I : Term} {N : Mark} {d : Deed} → Steps cast stores answers updates (Still I) d N → Proper cast I → begins (doer_of d) I ≡ true
+    pub starts : {I : Term} {N : Mark} {d : Deed} → Steps cast stores choices updates (Still I) d N → Proper cast I → begins (doer_of d) I ≡ true
     starts (sends {a = a}) proper = role_itself a
     starts (sets {r = r}) proper = role_itself r
     starts (reads {r = r}) proper = role_itself r
@@ -265,5 +265,5 @@ module _ (cast : List Role) where
 
     -- where the second part of a sequence is begun nothing is left of the first but messages in flight
     pub begins_light : (M : Mark) {N : Mark} {J : Term} {d : Deed} → Fine cast (First M J) → ended (place cast M (doer_of d)) ≡ true
-        → Steps cast stores answers updates (Still J) d N → light (run M) ≡ true
+        → Steps cast stores choices updates (Still J) d N → light (run M) ≡ true
     begins_light M {d = d} fine e s = groups_light M (doer_of d) fine.0 (fine.3 (doer_of d) (starts s fine.1)) e

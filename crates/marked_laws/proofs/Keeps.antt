@@ -12,7 +12,7 @@ use Rattle.dioc_terms.specs.Values.{eval, is_true}
 use Rattle.dpoc_process.specs.Steps.{Deed, Puts, Takes, Sets, Inputs, Picks, Chooses, entry_of}
 use Rattle.global_steps.specs.Running as running
 use Rattle.global_steps.specs.Running.{Running, started, light}
-use Rattle.global_steps.specs.Follow.{Answer, updates_after}
+use Rattle.global_steps.specs.Follow.{BookChoice, updates_after}
 use Rattle.marked_laws.proofs.Constructs.{Kind, Branch, Turning, Stopping, Scoped, Releasing, index, whole, runs}
 use Rattle.marked_laws.proofs.Mark.{Mark, origin, run, At}
 use Rattle.marked_laws.proofs.MarkSteps.{Steps, sends, lands, sets, reads, seq_opens, par_opens, seq_first, seq_begins, seq_lags, seq_goes, par_left, par_right, picks, turns, stops, again, leaves, tells, hears, works, arrives, gathers, keeps, replaces, frees, New}
@@ -48,9 +48,9 @@ index_in (Stopping i r g I) = inl refl
 index_in (Scoped i r I extra props level begin B) = inl refl
 index_in (Releasing i r I extra props level) = inl refl
 
-module _ (cast : List Role) (stores : Role → Store) (answers : ScopeHead → Answer) (updates : ℕ) where
+module _ (cast : List Role) (stores : Role → Store) (choices : ScopeHead → BookChoice) (updates : ℕ) where
   -- the text stays that from which the mark came
-  pub origin_step : {M N : Mark} {d : Deed} → Steps cast stores answers updates M d N → origin N ≡ origin M
+  pub origin_step : {M N : Mark} {d : Deed} → Steps cast stores choices updates M d N → origin N ≡ origin M
   origin_step sends = refl
   origin_step lands = refl
   origin_step sets = refl
@@ -78,7 +78,7 @@ module _ (cast : List Role) (stores : Role → Store) (answers : ScopeHead → A
   origin_step (frees e f) = refl
 
   -- what is done is done at an index of the mark
-  pub deed_at : {M N : Mark} {d : Deed} → Steps cast stores answers updates M d N → At (deed_index d) M
+  pub deed_at : {M N : Mark} {d : Deed} → Steps cast stores choices updates M d N → At (deed_index d) M
   deed_at sends = refl
   deed_at lands = refl
   deed_at sets = refl
@@ -106,7 +106,7 @@ module _ (cast : List Role) (stores : Role → Store) (answers : ScopeHead → A
   deed_at (frees e f) = inl (inl refl)
 
   -- the indices after a step are those before it, but for those of an update, and that is counted
-  pub new_step : {M N : Mark} {d : Deed} → Steps cast stores answers updates M d N → (n : Index) → At n N
+  pub new_step : {M N : Mark} {d : Deed} → Steps cast stores choices updates M d N → (n : Index) → At n N
       → At n M ⊎ (New updates n × (updates_after (entry_of d) updates ≡ suc updates))
   new_step sends n h = inl h
   new_step lands n h = absurd h
@@ -139,7 +139,7 @@ module _ (cast : List Role) (stores : Role → Store) (answers : ScopeHead → A
   new_step (replaces {level = level} {B = B} e) n h = ⊎_elim (λ k. inl k) (λ k. inr (stamped_new B (suc updates) (suc level) n k, refl)) h
   new_step (frees e f) n h = ⊎_elim (λ k. inl (inl k)) (λ k. absurd k) h
 
-  pub at_step : {M N : Mark} {d : Deed} → Steps cast stores answers updates M d N → (n : Index) → At n N → At n M ⊎ New updates n
+  pub at_step : {M N : Mark} {d : Deed} → Steps cast stores choices updates M d N → (n : Index) → At n N → At n M ⊎ New updates n
   at_step s n h = ⊎_elim (λ k. inl k) (λ k. inr k.0) (new_step s n h)
 
   runs_over : (k : Kind) (G H : Running) → (running.ended G ≡ true → running.ended H ≡ true) → running.ended (runs k G) ≡ true
@@ -151,7 +151,7 @@ module _ (cast : List Role) (stores : Role → Store) (answers : ScopeHead → A
   runs_over (Releasing i r I extra props level) G H f h = f h
 
   -- what has ended stays so
-  pub over_step : {M N : Mark} {d : Deed} → Steps cast stores answers updates M d N → running.ended (run M) ≡ true → running.ended (run N) ≡ true
+  pub over_step : {M N : Mark} {d : Deed} → Steps cast stores choices updates M d N → running.ended (run M) ≡ true → running.ended (run N) ≡ true
   over_step sends h = cc
   over_step lands h = cc
   over_step sets h = cc
@@ -187,7 +187,7 @@ module _ (cast : List Role) (stores : Role → Store) (answers : ScopeHead → A
   runs_light (Releasing i r I extra props level) G H f f' h = f h
 
   -- where nothing was left but messages in flight, nothing else is
-  pub light_step : {M N : Mark} {d : Deed} → Steps cast stores answers updates M d N → light (run M) ≡ true → light (run N) ≡ true
+  pub light_step : {M N : Mark} {d : Deed} → Steps cast stores choices updates M d N → light (run M) ≡ true → light (run N) ≡ true
   light_step sends h = cc
   light_step lands h = refl
   light_step sets h = cc

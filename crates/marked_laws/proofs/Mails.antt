@@ -10,7 +10,7 @@ use Rattle.dioc_terms.specs.Equality.{role_eq, key_eq}
 use Rattle.dioc_terms.specs.Processes.{Load, Val, Done}
 use Rattle.dioc_terms.specs.Stores.{Store}
 use Rattle.dpoc_process.specs.Steps.{Deed, Puts, Takes, Sets, Inputs, Picks, Chooses, key}
-use Rattle.global_steps.specs.Follow.{Answer, updated}
+use Rattle.global_steps.specs.Follow.{BookChoice, updated}
 use Rattle.marked_laws.proofs.Shapes.{none_some, some_same}
 use Rattle.marked_laws.proofs.Constructs.{Phase, Phases, Kind, Turning, Scoped, Releasing, Waits, Told, Inside, Sent, Gone, waits, all_wait, leader, index, told, whole, telling_key, backing_key, Backs, turn_backs, end_backs, letter, peer, opened, own_mail}
 use Rattle.marked_laws.proofs.Ends.{no_mail}
@@ -216,9 +216,9 @@ module _ (cast : List Role) where
   take_over true x y h = h refl
   take_over false x y h = refl
 
-  module _ (stores : Role → Store) (answers : ScopeHead → Answer) (updates : ℕ) where
+  module _ (stores : Role → Store) (choices : ScopeHead → BookChoice) (updates : ℕ) where
     -- the message that is put was not pending, and the one that is taken was
-    pub mail_fits : {M N : Mark} {d : Deed} → Steps cast stores answers updates M d N → Fine cast M → MailFits d (mail M)
+    pub mail_fits : {M N : Mark} {d : Deed} → Steps cast stores choices updates M d N → Fine cast M → MailFits d (mail M)
     mail_fits sends fine = refl
     mail_fits (lands {i = i} {o = o} {a = a} {b = b} {v = v}) fine = cond-true (key_eq (key a b i (Op o)) (key a b i (Op o))) (Some (Val v)) None (key_itself (key a b i (Op o)))
     mail_fits sets fine = tt
@@ -229,20 +229,20 @@ module _ (cast : List Role) where
     mail_fits (seq_begins {M = M} {J = J} {d = d} e s) fine =
         subst (MailFits d) (λ i j. first_then_none (mail M j) i)
         (fits_right d (mail M) (mail (Still J))
-        (λ j at. mail_absent M j (λ in_it. fine.2 j.index in_it (subst (λ n. At n (Still J)) (touched_index d j at) (deed_at cast stores answers updates s))))
+        (λ j at. mail_absent M j (λ in_it. fine.2 j.index in_it (subst (λ n. At n (Still J)) (touched_index d j at) (deed_at cast stores choices updates s))))
         (mail_fits s fine.1))
     mail_fits (seq_lags {M = M} {K = K} {d = d} s) fine =
         fits_left d (mail M) (mail K)
-        (λ j at. mail_absent K j (λ in_it. fine.2 j.index (subst (λ n. At n M) (touched_index d j at) (deed_at cast stores answers updates s)) in_it)) (mail_fits s fine.0)
+        (λ j at. mail_absent K j (λ in_it. fine.2 j.index (subst (λ n. At n M) (touched_index d j at) (deed_at cast stores choices updates s)) in_it)) (mail_fits s fine.0)
     mail_fits (seq_goes {M = M} {N = N} {d = d} e s) fine =
         fits_right d (mail M) (mail N)
-        (λ j at. mail_absent M j (λ in_it. fine.2 j.index in_it (subst (λ n. At n N) (touched_index d j at) (deed_at cast stores answers updates s)))) (mail_fits s fine.1)
+        (λ j at. mail_absent M j (λ in_it. fine.2 j.index in_it (subst (λ n. At n N) (touched_index d j at) (deed_at cast stores choices updates s)))) (mail_fits s fine.1)
     mail_fits (par_left {M = M} {K = K} {d = d} s) fine =
         fits_left d (mail M) (mail K)
-        (λ j at. mail_absent K j (λ in_it. fine.2 j.index (subst (λ n. At n M) (touched_index d j at) (deed_at cast stores answers updates s)) in_it)) (mail_fits s fine.0)
+        (λ j at. mail_absent K j (λ in_it. fine.2 j.index (subst (λ n. At n M) (touched_index d j at) (deed_at cast stores choices updates s)) in_it)) (mail_fits s fine.0)
     mail_fits (par_right {M = M} {N = N} {d = d} s) fine =
         fits_right d (mail M) (mail N)
-        (λ j at. mail_absent M j (λ in_it. fine.2 j.index in_it (subst (λ n. At n N) (touched_index d j at) (deed_at cast stores answers updates s)))) (mail_fits s fine.1)
+        (λ j at. mail_absent M j (λ in_it. fine.2 j.index in_it (subst (λ n. At n N) (touched_index d j at) (deed_at cast stores choices updates s)))) (mail_fits s fine.1)
     mail_fits picks fine = tt
     mail_fits (turns e) fine = tt
     mail_fits (stops e) fine = tt
@@ -260,7 +260,7 @@ module _ (cast : List Role) where
         ∙ cond-true (key_eq (telling_key k q) (telling_key k q)) (Some (told k q)) None (key_itself (telling_key k q)))
     mail_fits (works {k = k} {phases = phases} {M = M} {d = d} b s) fine =
         fits_right d (own_mail k phases) (mail M)
-        (λ j at. own_absent k phases j (λ is. fine.1.own (subst (λ n. At n M) (touched_index d j at ∙ is) (deed_at cast stores answers updates s)))) (mail_fits s fine.0)
+        (λ j at. own_absent k phases j (λ is. fine.1.own (subst (λ n. At n M) (touched_index d j at ∙ is) (deed_at cast stores choices updates s)))) (mail_fits s fine.0)
     mail_fits (arrives {k = k} {t = t} {phases = phases} {M = M} {q = q} b e f) fine =
         ap₂ first_of_two
         (ap (λ r. opened (letter k r (phases r)) (backing_key k t q)) (backing_peer k t q (fine.1.known q (ap waits e)).0)
@@ -278,7 +278,7 @@ module _ (cast : List Role) where
         closed_mail (Scoped i r I extra props level begin B) phases M fine c (key r q i Out)
 
     -- the mail after a step
-    pub mail_step : {M N : Mark} {d : Deed} → Steps cast stores answers updates M d N → Fine cast M → (j : Key) → mail N j ≡ mail_after d j (mail M j)
+    pub mail_step : {M N : Mark} {d : Deed} → Steps cast stores choices updates M d N → Fine cast M → (j : Key) → mail N j ≡ mail_after d j (mail M j)
     mail_step sends fine j = refl
     mail_step (lands {i = i} {o = o} {a = a} {b = b} {v = v}) fine j = by_test (key_eq j (key a b i (Op o)))
       where
@@ -293,24 +293,24 @@ module _ (cast : List Role) where
     mail_step (seq_begins {M = M} {J = J} {d = d} e s) fine j =
         ap (first_of_two (mail M j)) (mail_step s fine.1 j)
         ∙ after_right d j (mail M j) None
-        (λ at. mail_absent M j (λ in_it. fine.2 j.index in_it (subst (λ n. At n (Still J)) (touched_index d j at) (deed_at cast stores answers updates s))))
+        (λ at. mail_absent M j (λ in_it. fine.2 j.index in_it (subst (λ n. At n (Still J)) (touched_index d j at) (deed_at cast stores choices updates s))))
         ∙ ap (mail_after d j) (first_then_none (mail M j))
     mail_step (seq_lags {M = M} {K = K} {d = d} s) fine j =
         ap (λ x. first_of_two x (mail K j)) (mail_step s fine.0 j)
         ∙ after_left d j (mail M j) (mail K j)
-        (λ at. mail_absent K j (λ in_it. fine.2 j.index (subst (λ n. At n M) (touched_index d j at) (deed_at cast stores answers updates s)) in_it))
+        (λ at. mail_absent K j (λ in_it. fine.2 j.index (subst (λ n. At n M) (touched_index d j at) (deed_at cast stores choices updates s)) in_it))
     mail_step (seq_goes {M = M} {N = N} {d = d} e s) fine j =
         ap (first_of_two (mail M j)) (mail_step s fine.1 j)
         ∙ after_right d j (mail M j) (mail N j)
-        (λ at. mail_absent M j (λ in_it. fine.2 j.index in_it (subst (λ n. At n N) (touched_index d j at) (deed_at cast stores answers updates s))))
+        (λ at. mail_absent M j (λ in_it. fine.2 j.index in_it (subst (λ n. At n N) (touched_index d j at) (deed_at cast stores choices updates s))))
     mail_step (par_left {M = M} {K = K} {d = d} s) fine j =
         ap (λ x. first_of_two x (mail K j)) (mail_step s fine.0 j)
         ∙ after_left d j (mail M j) (mail K j)
-        (λ at. mail_absent K j (λ in_it. fine.2 j.index (subst (λ n. At n M) (touched_index d j at) (deed_at cast stores answers updates s)) in_it))
+        (λ at. mail_absent K j (λ in_it. fine.2 j.index (subst (λ n. At n M) (touched_index d j at) (deed_at cast stores choices updates s)) in_it))
     mail_step (par_right {M = M} {N = N} {d = d} s) fine j =
         ap (first_of_two (mail M j)) (mail_step s fine.1 j)
         ∙ after_right d j (mail M j) (mail N j)
-        (λ at. mail_absent M j (λ in_it. fine.2 j.index in_it (subst (λ n. At n N) (touched_index d j at) (deed_at cast stores answers updates s))))
+        (λ at. mail_absent M j (λ in_it. fine.2 j.index in_it (subst (λ n. At n N) (touched_index d j at) (deed_at cast stores choices updates s))))
     mail_step picks fine j = refl
     mail_step (turns e) fine j = refl
     mail_step (stops e) fine j = refl
@@ -327,7 +327,7 @@ module _ (cast : List Role) where
     mail_step (works {k = k} {phases = phases} {M = M} {d = d} b s) fine j =
         ap (first_of_two (own_mail k phases j)) (mail_step s fine.0 j)
         ∙ after_right d j (own_mail k phases j) (mail M j)
-        (λ at. own_absent k phases j (λ is. fine.1.own (subst (λ n. At n M) (touched_index d j at ∙ is) (deed_at cast stores answers updates s))))
+        (λ at. own_absent k phases j (λ is. fine.1.own (subst (λ n. At n M) (touched_index d j at ∙ is) (deed_at cast stores choices updates s))))
     mail_step (arrives {k = k} {t = t} {phases = phases} {M = M} {q = q} b e f) fine j =
         ap (λ x. first_of_two x (mail M j))
         (gate_put k phases q Sent (backing_key k t q) Done (ap (letter k q) e) (backing_letter k t q b) (backing_peer k t q (fine.1.known q (ap waits e)).0) j)

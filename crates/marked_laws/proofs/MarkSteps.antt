@@ -17,8 +17,8 @@ use Rattle.dioc_terms.specs.Stores.{Store, next_input}
 use Rattle.dioc_terms.specs.Terms.{Term, Skip, Com, Set, Input, Seq, Par, If, While, Scope, is_in, others, head_of, stamped}
 use Rattle.dioc_terms.specs.Values.{eval, is_true}
 use Rattle.projection.specs.Projection.{projected}
-use Rattle.dpoc_process.specs.Steps.{Deed, Puts, Takes, Sets, Inputs, Picks, Chooses, Given, Nil, Got, Answers, Decision, key, ended}
-use Rattle.global_steps.specs.Follow.{Answer, Kept, Replaced, updated}
+use Rattle.dpoc_process.specs.Steps.{Deed, Puts, Takes, Sets, Inputs, Picks, Chooses, Given, Alone, Got, FromBook, Decision, key, ended}
+use Rattle.global_steps.specs.Follow.{BookChoice, KeepsBody, TakesRule, updated}
 use Rattle.marked_laws.proofs.Constructs.{Phases, Kind, Branch, Turning, Stopping, Scoped, Releasing, Told, Inside, Sent, Gone, all_wait, told, telling_key, backing_key, Backs, Busy, untold, ungone}
 use Rattle.marked_laws.proofs.Mark.{Mark, Still, Flying, Over, First, Second, Both, Held, Spent, run, mail, At, place, Closed}
 use Rattle.marked_laws.proofs.Proper.{Proper}
@@ -33,9 +33,9 @@ doer_of (Picks i r b) = r
 doer_of (Chooses i r c) = r
 
 -- what holds of the bodies that the book answers: each is proper once it is stamped, and its roles are among the scope's
-pub record SoundAnswers (cast : List Role) (answers : ScopeHead → Answer) (updates : ℕ) : Type 0 where
-  pub proper : (head : ScopeHead) (name : List ℕ) (B : Term) → answers head ≡ Replaced name B → Proper cast (stamped B (suc updates) (suc head.level))
-  pub inner : (head : ScopeHead) (name : List ℕ) (B : Term) → answers head ≡ Replaced name B → (q : Role)
+pub record SoundAnswers (cast : List Role) (choices : ScopeHead → BookChoice) (updates : ℕ) : Type 0 where
+  pub proper : (head : ScopeHead) (name : List ℕ) (B : Term) → choices head ≡ TakesRule name B → Proper cast (stamped B (suc updates) (suc head.level))
+  pub inner : (head : ScopeHead) (name : List ℕ) (B : Term) → choices head ≡ TakesRule name B → (q : Role)
       → is_in q (stamped B (suc updates) (suc head.level)) ≡ true → member q head.roles ≡ true
 
 -- what comes to an act from outside, by the pending message of each key and by what is decided of each scope
@@ -43,10 +43,10 @@ abbrev pub given_by : (Key → Option Load) → (ScopeHead → Decision) → Act
 given_by mails decide (act.Take k) = message (mails k)
   where
     message : Option Load → Given
-    message None = Nil
+    message None = Alone
     message (Some l) = Got l
-given_by mails decide (act.Scope i) = Answers decide
-given_by mails decide _ = Nil
+given_by mails decide (act.Scope i) = FromBook decide
+given_by mails decide _ = Alone
 
 -- the pending messages whose index is of the mark are the mark's
 abbrev pub Agrees : (Key → Option Load) → Mark → Type 0
@@ -60,7 +60,7 @@ New updates n = n.epoch ≡ suc updates
 abbrev pub Old : ℕ → Mark → Type 0
 Old updates M = (n : Index) → At n M → New updates n → ⊥
 
-module _ (cast : List Role) (stores : Role → Store) (answers : ScopeHead → Answer) (updates : ℕ) where
+module _ (cast : List Role) (stores : Role → Store) (choices : ScopeHead → BookChoice) (updates : ℕ) where
   pub data Steps : Mark → Deed → Mark → Type 0 where
     sends : {i : Index} {o : List ℕ} {a : Role} {e : Expression} {b : Role} {x : List ℕ}
         → Steps (Still (Com i o a e b x)) (Puts (key a b i (Op o)) (Val (eval e (stores a)))) (Flying i o a e b x (eval e (stores a)))
@@ -107,11 +107,11 @@ module _ (cast : List Role) (stores : Role → Store) (answers : ScopeHead → A
     gathers : {k : Kind} {t : Tag} {phases : Phases} {M : Mark} {q : Role} {qs : List Role} → Backs k t → ungone cast k phases ≡ q ∷ qs → phases q ≡ Sent
         → Steps (Held k phases M) (Takes (backing_key k t q) None Done) (Held k (updated q Gone phases) M)
     keeps : {i : Index} {r : Role} {I : Term} {extra : List Role} {props : List (List ℕ × Value)} {level : ℕ}
-        → answers (head_of cast i r I extra props level) ≡ Kept
+        → choices (head_of cast i r I extra props level) ≡ KeepsBody
         → Steps (Still (Scope i r I extra props level)) (Chooses i r chosen.Keep)
         (Held (Scoped i r I extra props level (λ q. Keep) I) all_wait (Still I))
     replaces : {i : Index} {r : Role} {I : Term} {extra : List Role} {props : List (List ℕ × Value)} {level : ℕ} {name : List ℕ} {B : Term}
-        → answers (head_of cast i r I extra props level) ≡ Replaced name B
+        → choices (head_of cast i r I extra props level) ≡ TakesRule name B
         → Steps (Still (Scope i r I extra props level)) (Chooses i r (chosen.Rule name (suc updates)))
         (Held (Scoped i r I extra props level (λ q. Part (suc updates) (projected cast (stamped B (suc updates) (suc level)) q))
         (stamped B (suc updates) (suc level))) all_wait (Still (stamped B (suc updates) (suc level))))

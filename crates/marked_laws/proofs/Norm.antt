@@ -3,7 +3,7 @@ use Rattle.std.proofs.Common.{◌≡◌, [], ◌++◌, Bool, true, false, ◌&&�
 use Rattle.std.proofs.lemmas.Bool.{and_parts, cond-true, cond-false}
 use Rattle.dioc_terms.specs.declared.names.Role.{Role}
 use Rattle.dioc_terms.specs.declared.entries.Act.{Act}
-use Rattle.dioc_terms.specs.Moves.{Move, Does, under}
+use Rattle.dioc_terms.specs.Attempts.{Attempt, Does, under}
 use Rattle.dioc_terms.specs.Processes.{Process, Skip, Seq, Par, Tell, Gather, Nothing}
 use Rattle.dioc_terms.specs.Stores.{Store}
 use Rattle.dpoc_process.specs.Steps.{Deed, Given, ended, after, offers, is_offered, step}
@@ -64,7 +64,7 @@ norm-after P Q = by_end (ended P) refl
     by_end true e = ap norm (cond-true (ended P) Q (Seq P Q) e) ∙ ap (λ p. seq_norm p (norm Q)) (sym (norm_of_ended P e))
     by_end false e = ap norm (cond-false (ended P) Q (Seq P Q) e)
 
-abbrev pub normed : Move Deed Process → Move Deed Process
+abbrev pub normed : Attempt Deed Process → Attempt Deed Process
 normed m = under norm m
 
 seq_norm-norm : (P Q : Process) → norm (seq_norm P Q) ≡ seq_norm (norm P) (norm Q)
@@ -146,7 +146,7 @@ module _ (me : Role) where
         ∙ sym (under_twice (Par P) norm (step me s Q a given))
 
     -- of two tests that agree, and of parts that agree
-    either_way : (b : Bool) (m n m' n' : Move Deed Process) → normed m ≡ normed m' → normed n ≡ normed n'
+    either_way : (b : Bool) (m n m' n' : Attempt Deed Process) → normed m ≡ normed m' → normed n ≡ normed n'
         → normed (if b then m else n) ≡ normed (if b then m' else n')
     either_way true m n m' n' h k = h
     either_way false m n m' n' h k = k

@@ -17,7 +17,7 @@ use Rattle.dioc_terms.specs.Terms as term
 use Rattle.dioc_terms.specs.Terms.{Term, is_in, others}
 use Rattle.dpoc_process.specs.Steps.{Deed, tell, gather, ended}
 use Rattle.global_steps.specs.Running.{started}
-use Rattle.global_steps.specs.Follow.{Answer, updated}
+use Rattle.global_steps.specs.Follow.{BookChoice, updated}
 use Rattle.marked_laws.proofs.Constructs.{Phase, Phases, Kind, Branch, Turning, Stopping, Scoped, Releasing, Waits, Told, Inside, Sent, Gone, waits, gone, is_early, leader, whole, Backs, turn_backs, end_backs, leads, inside, follows, untold, ungone}
 use Rattle.marked_laws.proofs.Ends.{place_leader, place_follower, held_inside}
 use Rattle.marked_laws.proofs.Equality.{role_same, role_itself}
@@ -143,7 +143,7 @@ module _ (cast : List Role) where
       (λ other. or_right (role_eq q (leader k)) _ (gone_passed (phases q) (ungone_none cast k phases q fine.1.proper closed.gathered other in_it)))
       (cases_Bool (role_eq q (leader k)))
 
-  module _ (stores : Role → Store) (answers : ScopeHead → Answer) (updates : ℕ) where
+  module _ (stores : Role → Store) (choices : ScopeHead → BookChoice) (updates : ℕ) where
     -- the leader of a turn has still to pick again
     turn_busy : (i : Index) (r : Role) (g : Expression) (I : Term) (phases : Phases) (M : Mark) → ended (place cast (Held (Turning i r g I) phases M) r) ≡ false
     turn_busy i r g I phases M =
@@ -151,7 +151,7 @@ module _ (cast : List Role) where
         ∙ and_right _ _ (and_right (ended (place cast M r)) _ (and_right _ _ (ap ended (cond-true (role_eq r r) _ _ (role_itself r)))))
 
     -- who does a step hasn't ended before it
-    pub step_busy : {M N : Mark} {d : Deed} → Steps cast stores answers updates M d N → Fine cast M → ended (place cast M (doer_of d)) ≡ false
+    pub step_busy : {M N : Mark} {d : Deed} → Steps cast stores choices updates M d N → Fine cast M → ended (place cast M (doer_of d)) ≡ false
     step_busy (sends {a = a}) fine = ap ended (cond-true (role_eq a a) _ _ (role_itself a))
     step_busy (lands {i = i} {o = o} {a = a} {b = b} {x = x}) fine =
         ap ended (cond-false (role_eq b a) process.Skip _ (role_swap a b fine.no_self) ∙ cond-true (role_eq b b) (process.Recv i o a x) process.Skip (role_itself b))
@@ -189,7 +189,7 @@ module _ (cast : List Role) where
         ∙ and_right _ _ (and_right (ended (place cast M r)) _ (and_right _ _ (ap (λ rs. ended (tell r rs i Out (λ q. Done))) f)))
 
     -- who has begun a mark after a step had begun it before, or did the step
-    pub acted_step : {M N : Mark} {d : Deed} → Steps cast stores answers updates M d N → Fine cast M → (q : Role) → acted q N ≡ true
+    pub acted_step : {M N : Mark} {d : Deed} → Steps cast stores choices updates M d N → Fine cast M → (q : Role) → acted q N ≡ true
         → (acted q M ≡ true) ⊎ (q ≡ doer_of d)
     acted_step (sends {a = a}) fine q h = inr (role_same q a h)
     acted_step (lands {a = a} {b = b}) fine q h = ⊎_elim (λ k. inl k) (λ k. inr (role_same q b k)) (or_cases (role_eq q a) (role_eq q b) h)
@@ -238,7 +238,7 @@ module _ (cast : List Role) where
         (or_cases (is_in q (term.Scope i r I extra props level)) (in_bars q (run M)) h))
 
     -- the second invariant is kept
-    pub order_step : {M N : Mark} {d : Deed} → Steps cast stores answers updates M d N → Fine cast M → Order cast M → Order cast N
+    pub order_step : {M N : Mark} {d : Deed} → Steps cast stores choices updates M d N → Fine cast M → Order cast M → Order cast N
     order_step sends fine order = tt
     order_step lands fine order = tt
     order_step sets fine order = tt
@@ -258,7 +258,7 @@ module _ (cast : List Role) where
       order.1,
       λ q h. ⊎_elim
           (λ is. absurd (both_ways _ (step_busy s fine.0) (subst (λ y. ended (place cast M y) ≡ true) is (order.2 q h))))
-          (λ other. ap ended (place_other cast stores answers updates s fine.0 q other) ∙ order.2 q h) (role_cases q (doer_of d)),
+          (λ other. ap ended (place_other cast stores choices updates s fine.0 q other) ∙ order.2 q h) (role_cases q (doer_of d)),
     )
     order_step (seq_goes {M = M} {d = d} e s) fine order = (
       order.0,

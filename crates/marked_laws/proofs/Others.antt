@@ -13,7 +13,7 @@ use Rattle.dioc_terms.specs.Terms.{Term, is_in, others, stamped}
 use Rattle.dioc_terms.specs.Values.{eval, is_true}
 use Rattle.projection.specs.Projection.{projected}
 use Rattle.dpoc_process.specs.Steps.{Deed, tell, gather}
-use Rattle.global_steps.specs.Follow.{Answer, updated}
+use Rattle.global_steps.specs.Follow.{BookChoice, updated}
 use Rattle.marked_laws.proofs.Constructs.{Phase, Phases, Kind, Branch, Turning, Stopping, Scoped, Releasing, Waits, Told, Inside, Sent, Gone, waits, gone, all_wait, leader, whole, leads, before, outside, follows, untold, ungone}
 use Rattle.marked_laws.proofs.Ends.{place_follower}
 use Rattle.marked_laws.proofs.Gates.{outsider_waits, untold_head, untold_same, ungone_same, ungone_none}
@@ -81,8 +81,8 @@ module _ (cast : List Role) where
       ∙ ⊎_elim (λ h. ap (λ x. follows cast k q x (place cast M q)) h.0 ∙ in_case h.1) (λ h. ap (λ x. follows cast k q x (place cast M q)) h.0 ∙ out_case h.1)
       (closed_phase k phases M fine closed q other)
 
-  module _ (stores : Role → Store) (answers : ScopeHead → Answer) (updates : ℕ) where
-    pub place_other : {M N : Mark} {d : Deed} → Steps cast stores answers updates M d N → Fine cast M → (q : Role) → role_eq q (doer_of d) ≡ false
+  module _ (stores : Role → Store) (choices : ScopeHead → BookChoice) (updates : ℕ) where
+    pub place_other : {M N : Mark} {d : Deed} → Steps cast stores choices updates M d N → Fine cast M → (q : Role) → role_eq q (doer_of d) ≡ false
         → place cast N q ≡ place cast M q
     place_other (sends {i = i} {o = o} {a = a} {e = e} {b = b} {x = x}) fine q other =
         cond-false (role_eq q a) process.Skip _ other ∙ sym (cond-false (role_eq q a) (process.Send i o b e) _ other)

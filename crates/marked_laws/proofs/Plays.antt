@@ -12,16 +12,16 @@ use Rattle.dioc_terms.specs.declared.entries.Entry.TheVariants as entry
 use Rattle.dioc_terms.specs.Equality.{entry_eq}
 use Rattle.dioc_terms.specs.Expressions.{Expression}
 use Rattle.dioc_terms.specs.Messages.{is_aux, is_aux_tag, doer}
-use Rattle.dioc_terms.specs.Moves.{Stuck, Does, under, orelse, when}
+use Rattle.dioc_terms.specs.Attempts.{Stuck, Does, under, orelse, when}
 use Rattle.dioc_terms.specs.Processes.{Val}
 use Rattle.dioc_terms.specs.Stores.{Store, next_input}
 use Rattle.dioc_terms.specs.Terms as term
-use Rattle.dioc_terms.specs.Terms.{Term, is_in, head_of, stamped, mark_at}
+use Rattle.dioc_terms.specs.Terms.{Term, is_in, head_of, stamped, index_at}
 use Rattle.dioc_terms.specs.Values.{eval, is_true}
 use Rattle.dpoc_process.specs.Steps.{Deed, Puts, Takes, Sets, Inputs, Picks, Chooses, entry_of, store_after}
 use Rattle.global_steps.specs.Running as running
 use Rattle.global_steps.specs.Running.{Running, started, light, is_due}
-use Rattle.global_steps.specs.Follow.{Answer, Kept, Replaced, Effect, Leaves, Assigns, Reads, affected, operation, is_doer_due, while_plays, scope_plays, plays}
+use Rattle.global_steps.specs.Follow.{BookChoice, KeepsBody, TakesRule, Effect, Leaves, Assigns, Reads, affected, operation, is_doer_due, while_plays, scope_plays, plays}
 use Rattle.marked_laws.proofs.Constructs.{Kind, Branch, Turning, Stopping, Scoped, Releasing, body, runs, tag, whole_not_skip, Backs, turn_backs, end_backs}
 use Rattle.marked_laws.proofs.Ends.{all_over}
 use Rattle.marked_laws.proofs.Equality.{entry_same, entry_itself}
@@ -41,7 +41,7 @@ entry_index (entry.Set i r x v) = i
 entry_index (entry.Input i r x v) = i
 entry_index (entry.Pick i r b) = i
 entry_index (entry.Scope i r c) = i
-entry_index _ = mark_at 0
+entry_index _ = index_at 0
 
 pub entry_deed_index : (d : Deed) → entry_index (entry_of d) ≡ deed_index d
 entry_deed_index (Puts k l) = refl
@@ -108,36 +108,36 @@ when_stuck : {D A : Type 0} (t : Bool) → when {D = D} {A = A} t Stuck ≡ Stuc
 when_stuck true = refl
 when_stuck false = refl
 
-module _ (cast : List Role) (stores : Role → Store) (answers : ScopeHead → Answer) (updates : ℕ) where
+module _ (cast : List Role) (stores : Role → Store) (choices : ScopeHead → BookChoice) (updates : ℕ) where
   -- where no part plays the entry the whole doesn't
-  seq_stuck : (G H : Running) (e : Entry) → plays cast stores answers updates G e ≡ Stuck → plays cast stores answers updates H e ≡ Stuck
-      → plays cast stores answers updates (running.Seq G H) e ≡ Stuck
+  seq_stuck : (G H : Running) (e : Entry) → plays cast stores choices updates G e ≡ Stuck → plays cast stores choices updates H e ≡ Stuck
+      → plays cast stores choices updates (running.Seq G H) e ≡ Stuck
   seq_stuck G H e h k =
       ap₂ (λ m n. orelse (under (λ K. running.Seq K H) m) (when (light G && not (is_doer_due e G)) (under (running.Seq G) n))) h k
       ∙ when_stuck (light G && not (is_doer_due e G))
 
-  par_stuck : (G H : Running) (e : Entry) → plays cast stores answers updates G e ≡ Stuck → plays cast stores answers updates H e ≡ Stuck
-      → plays cast stores answers updates (running.Par G H) e ≡ Stuck
+  par_stuck : (G H : Running) (e : Entry) → plays cast stores choices updates G e ≡ Stuck → plays cast stores choices updates H e ≡ Stuck
+      → plays cast stores choices updates (running.Par G H) e ≡ Stuck
   par_stuck G H e h k = ap₂ (λ m n. orelse (under (λ K. running.Par K H) m) (under (running.Par G) n)) h k
 
   -- an ended running term plays nothing
-  pub ended_plays : (G : Running) (e : Entry) → running.ended G ≡ true → plays cast stores answers updates G e ≡ Stuck
+  pub ended_plays : (G : Running) (e : Entry) → running.ended G ≡ true → plays cast stores choices updates G e ≡ Stuck
   ended_plays running.Skip e h = refl
   ended_plays (running.Seq G H) e h = let parts = and_parts _ _ h in seq_stuck G H e (ended_plays G e parts.0) (ended_plays H e parts.1)
   ended_plays (running.Par G H) e h = let parts = and_parts _ _ h in par_stuck G H e (ended_plays G e parts.0) (ended_plays H e parts.1)
   ended_plays (running.Bar roles G) e h = ap (under (running.Bar roles)) (ended_plays G e h)
   ended_plays G e h = cc
 
-  while_away : (i : Index) (r : Role) (g : Expression) (I : Term) (e : Entry) → (entry_index e ≡ i → ⊥) → while_plays cast stores answers updates i r g I e ≡ Stuck
+  while_away : (i : Index) (r : Role) (g : Expression) (I : Term) (e : Entry) → (entry_index e ≡ i → ⊥) → while_plays cast stores choices updates i r g I e ≡ Stuck
   while_away i r g I e h = when_false _ _ (not_here e (entry.Pick i r (is_true (eval g (stores r)))) h)
 
-  scope_away : (i : Index) (r : Role) (I : Term) (roles : Role → Bool) (level : ℕ) (a : Answer) (e : Entry) → (entry_index e ≡ i → ⊥)
-      → scope_plays cast stores answers updates i r I roles level a e ≡ Stuck
-  scope_away i r I roles level Kept e h = when_false _ _ (not_here e (entry.Scope i r chosen.Keep) h)
-  scope_away i r I roles level (Replaced name B) e h = when_false _ _ (not_here e (entry.Scope i r (chosen.Rule name (suc updates))) h)
+  scope_away : (i : Index) (r : Role) (I : Term) (roles : Role → Bool) (level : ℕ) (a : BookChoice) (e : Entry) → (entry_index e ≡ i → ⊥)
+      → scope_plays cast stores choices updates i r I roles level a e ≡ Stuck
+  scope_away i r I roles level KeepsBody e h = when_false _ _ (not_here e (entry.Scope i r chosen.Keep) h)
+  scope_away i r I roles level (TakesRule name B) e h = when_false _ _ (not_here e (entry.Scope i r (chosen.Rule name (suc updates))) h)
 
   -- an entry of an index that a term hasn't isn't played
-  started_away : (I : Term) (e : Entry) → (Within (entry_index e) I → ⊥) → plays cast stores answers updates (started I) e ≡ Stuck
+  started_away : (I : Term) (e : Entry) → (Within (entry_index e) I → ⊥) → plays cast stores choices updates (started I) e ≡ Stuck
   started_away term.Skip e h = refl
   started_away (term.Com i o a x b y) e h = when_false _ _ (not_here e (entry.Put (operation a b i o) (note.Val (eval x (stores a)))) h)
   started_away (term.Set i x r y) e h = when_false _ _ (not_here e (entry.Set i r x (eval y (stores r))) h)
@@ -147,9 +147,9 @@ module _ (cast : List Role) (stores : Role → Store) (answers : ScopeHead → A
   started_away (term.If i r g I J) e h = when_false _ _ (not_here e (entry.Pick i r (is_true (eval g (stores r)))) (λ k. h (inl k)))
   started_away (term.While i r g I) e h = while_away i r g I e (λ k. h (inl k))
   started_away (term.Scope i r I extra props level) e h =
-      scope_away i r I (λ q. is_in q (term.Scope i r I extra props level)) level (answers (head_of cast i r I extra props level)) e (λ k. h (inl k))
+      scope_away i r I (λ q. is_in q (term.Scope i r I extra props level)) level (choices (head_of cast i r I extra props level)) e (λ k. h (inl k))
 
-  pub mark_away : (M : Mark) (e : Entry) → Fine cast M → (At (entry_index e) M → ⊥) → plays cast stores answers updates (run M) e ≡ Stuck
+  pub mark_away : (M : Mark) (e : Entry) → Fine cast M → (At (entry_index e) M → ⊥) → plays cast stores choices updates (run M) e ≡ Stuck
   mark_away (Still I) e fine h = started_away I e h
   mark_away (Flying i o a x b y v) e fine h = when_false _ _ (not_here e (entry.Take (operation a b i o) (Some y)) h)
   mark_away (Over I) e fine h = refl
@@ -168,45 +168,45 @@ module _ (cast : List Role) (stores : Role → Store) (answers : ScopeHead → A
   mark_away (Spent G) e fine h = ended_plays G e fine
 
   -- the first part plays an entry
-  first_plays : (G G' H : Running) (e : Entry) (effect : Effect) → plays cast stores answers updates G e ≡ Does effect G'
-      → plays cast stores answers updates (running.Seq G H) e ≡ Does effect (running.Seq G' H)
-  first_plays G G' H e effect h = ap (λ m. orelse (under (λ K. running.Seq K H) m) (when (light G && not (is_doer_due e G)) (under (running.Seq G) (plays cast stores answers updates H e)))) h
+  first_plays : (G G' H : Running) (e : Entry) (effect : Effect) → plays cast stores choices updates G e ≡ Does effect G'
+      → plays cast stores choices updates (running.Seq G H) e ≡ Does effect (running.Seq G' H)
+  first_plays G G' H e effect h = ap (λ m. orelse (under (λ K. running.Seq K H) m) (when (light G && not (is_doer_due e G)) (under (running.Seq G) (plays cast stores choices updates H e)))) h
 
   -- the second part plays an entry
-  second_plays : (G H H' : Running) (d : Deed) (effect : Effect) → plays cast stores answers updates G (entry_of d) ≡ Stuck → light G ≡ true
-      → is_due (doer_of d) G ≡ false → plays cast stores answers updates H (entry_of d) ≡ Does effect H'
-      → plays cast stores answers updates (running.Seq G H) (entry_of d) ≡ Does effect (running.Seq G H')
+  second_plays : (G H H' : Running) (d : Deed) (effect : Effect) → plays cast stores choices updates G (entry_of d) ≡ Stuck → light G ≡ true
+      → is_due (doer_of d) G ≡ false → plays cast stores choices updates H (entry_of d) ≡ Does effect H'
+      → plays cast stores choices updates (running.Seq G H) (entry_of d) ≡ Does effect (running.Seq G H')
   second_plays G H H' d effect away is_light none h =
       ap₂ (λ m n. orelse (under (λ K. running.Seq K H) m) (when (light G && not (is_doer_due (entry_of d) G)) (under (running.Seq G) n))) away h
       ∙ when_true (light G && not (is_doer_due (entry_of d) G)) _ (and_from _ _ is_light (not_from_false _ (doer_due d G ∙ none)))
 
   -- a loop's pick
   while_picks : (i : Index) (r : Role) (g : Expression) (I : Term) (b : Bool) → is_true (eval g (stores r)) ≡ b
-      → while_plays cast stores answers updates i r g I (entry.Pick i r b) ≡ Does Leaves (if b then running.Again i r g I (started I) else running.Skip)
+      → while_plays cast stores choices updates i r g I (entry.Pick i r b) ≡ Does Leaves (if b then running.Again i r g I (started I) else running.Skip)
   while_picks i r g I b e =
       ap (λ x. when (entry_eq (entry.Pick i r b) (entry.Pick i r x)) (Does Leaves (if x then running.Again i r g I (started I) else running.Skip))) e
       ∙ when_true (entry_eq (entry.Pick i r b) (entry.Pick i r b)) _ (entry_itself (entry.Pick i r b))
 
   -- the pick after a turn
   again_picks : (i : Index) (r : Role) (g : Expression) (I : Term) (G : Running) (b : Bool) → running.ended G ≡ true → is_true (eval g (stores r)) ≡ b
-      → plays cast stores answers updates (running.Again i r g I G) (entry.Pick i r b) ≡ Does Leaves (if b then running.Again i r g I (started I) else running.Skip)
+      → plays cast stores choices updates (running.Again i r g I G) (entry.Pick i r b) ≡ Does Leaves (if b then running.Again i r g I (started I) else running.Skip)
   again_picks i r g I G b over e =
       ap₂ (λ m n. orelse (under (running.Again i r g I) m) (when (running.ended G) n)) (ended_plays G (entry.Pick i r b) over) (while_picks i r g I b e)
       ∙ when_true (running.ended G) _ over
 
   -- what runs inside a construct plays for it, if anything runs there
-  runs_plays : (k : Kind) (G G' : Running) (e : Entry) (effect : Effect) → (body k ≡ term.Skip → ⊥) → plays cast stores answers updates G e ≡ Does effect G'
-      → plays cast stores answers updates (runs k G) e ≡ Does effect (runs k G')
+  runs_plays : (k : Kind) (G G' : Running) (e : Entry) (effect : Effect) → (body k ≡ term.Skip → ⊥) → plays cast stores choices updates G e ≡ Does effect G'
+      → plays cast stores choices updates (runs k G) e ≡ Does effect (runs k G')
   runs_plays (Branch i r g I J b) G G' e effect lives h = h
   runs_plays (Turning i r g I) G G' e effect lives h =
-      ap (λ m. orelse (under (running.Again i r g I) m) (when (running.ended G) (while_plays cast stores answers updates i r g I e))) h
+      ap (λ m. orelse (under (running.Again i r g I) m) (when (running.ended G) (while_plays cast stores choices updates i r g I e))) h
   runs_plays (Stopping i r g I) G G' e effect lives h = absurd (lives refl)
   runs_plays (Scoped i r I extra props level begin B) G G' e effect lives h = ap (under (running.Bar (λ q. is_in q (term.Scope i r I extra props level)))) h
   runs_plays (Releasing i r I extra props level) G G' e effect lives h = ap (under (running.Bar (λ q. is_in q (term.Scope i r I extra props level)))) h
 
   -- a visible step is played
-  pub run_step : {M N : Mark} {d : Deed} → Steps cast stores answers updates M d N → Fine cast M → is_aux (entry_of d) ≡ false
-      → plays cast stores answers updates (run M) (entry_of d) ≡ Does (effect_of d) (run N)
+  pub run_step : {M N : Mark} {d : Deed} → Steps cast stores choices updates M d N → Fine cast M → is_aux (entry_of d) ≡ false
+      → plays cast stores choices updates (run M) (entry_of d) ≡ Does (effect_of d) (run N)
   run_step (sends {i = i} {o = o} {a = a} {e = e} {b = b}) fine h = when_true _ _ (entry_itself (entry.Put (operation a b i o) (note.Val (eval e (stores a)))))
   run_step (lands {i = i} {o = o} {a = a} {b = b} {x = x}) fine h = when_true _ _ (entry_itself (entry.Take (operation a b i o) (Some x)))
   run_step (sets {i = i} {x = x} {r = r} {e = e}) fine h = when_true _ _ (entry_itself (entry.Set i r x (eval e (stores r))))
@@ -216,18 +216,18 @@ module _ (cast : List Role) (stores : Role → Store) (answers : ScopeHead → A
   run_step (seq_first {M = M} {N = N} {J = J} {d = d} s) fine h = first_plays (run M) (run N) (started J) (entry_of d) (effect_of d) (run_step s fine.0 h)
   run_step (seq_begins {M = M} {N = N} {J = J} {d = d} e s) fine h =
       second_plays (run M) (started J) (run N) d (effect_of d)
-      (mark_away M (entry_of d) fine.0 (λ at. fine.2 (entry_index (entry_of d)) at (subst (λ n. Within n J) (sym (entry_deed_index d)) (deed_at cast stores answers updates s))))
-      (begins_light cast stores answers updates M fine e s) (ended_due cast M (doer_of d) fine.0 e) (run_step s fine.1 h)
+      (mark_away M (entry_of d) fine.0 (λ at. fine.2 (entry_index (entry_of d)) at (subst (λ n. Within n J) (sym (entry_deed_index d)) (deed_at cast stores choices updates s))))
+      (begins_light cast stores choices updates M fine e s) (ended_due cast M (doer_of d) fine.0 e) (run_step s fine.1 h)
   run_step (seq_lags {M = M} {N = N} {K = K} {d = d} s) fine h = first_plays (run M) (run N) (run K) (entry_of d) (effect_of d) (run_step s fine.0 h)
   run_step (seq_goes {M = M} {N = N} {K = K} {d = d} e s) fine h =
       second_plays (run M) (run N) (run K) d (effect_of d)
-      (mark_away M (entry_of d) fine.0 (λ at. fine.2 (entry_index (entry_of d)) at (subst (λ n. At n N) (sym (entry_deed_index d)) (deed_at cast stores answers updates s))))
+      (mark_away M (entry_of d) fine.0 (λ at. fine.2 (entry_index (entry_of d)) at (subst (λ n. At n N) (sym (entry_deed_index d)) (deed_at cast stores choices updates s))))
       fine.3 (ended_due cast M (doer_of d) fine.0 e) (run_step s fine.1 h)
   run_step (par_left {M = M} {N = N} {K = K} {d = d} s) fine h =
-      ap (λ m. orelse (under (λ G. running.Par G (run K)) m) (under (running.Par (run M)) (plays cast stores answers updates (run K) (entry_of d)))) (run_step s fine.0 h)
+      ap (λ m. orelse (under (λ G. running.Par G (run K)) m) (under (running.Par (run M)) (plays cast stores choices updates (run K) (entry_of d)))) (run_step s fine.0 h)
   run_step (par_right {M = M} {N = N} {K = K} {d = d} s) fine h =
       ap₂ (λ m n. orelse (under (λ G. running.Par G (run N)) m) (under (running.Par (run M)) n))
-      (mark_away M (entry_of d) fine.0 (λ at. fine.2 (entry_index (entry_of d)) at (subst (λ n. At n N) (sym (entry_deed_index d)) (deed_at cast stores answers updates s))))
+      (mark_away M (entry_of d) fine.0 (λ at. fine.2 (entry_index (entry_of d)) at (subst (λ n. At n N) (sym (entry_deed_index d)) (deed_at cast stores choices updates s))))
       (run_step s fine.1 h)
   run_step (picks {i = i} {r = r} {g = g}) fine h = when_true _ _ (entry_itself (entry.Pick i r (is_true (eval g (stores r)))))
   run_step (turns {i = i} {r = r} {g = g} {I = I} e) fine h = while_picks i r g I true e
@@ -239,19 +239,19 @@ module _ (cast : List Role) (stores : Role → Store) (answers : ScopeHead → A
   run_step (tells {k = k} e) fine h = absurd (both_ways _ h (tag_aux k))
   run_step (hears {k = k} e) fine h = absurd (both_ways _ h (tag_aux k))
   run_step (works {k = k} {M = M} {N = N} {d = d} b s) fine h = runs_plays k (run M) (run N) (entry_of d) (effect_of d)
-      (λ is. skip_at M (fine.1.is_body ∙ is) (deed_index d) (deed_at cast stores answers updates s)) (run_step s fine.0 h)
+      (λ is. skip_at M (fine.1.is_body ∙ is) (deed_index d) (deed_at cast stores choices updates s)) (run_step s fine.0 h)
   run_step (arrives b e f) fine h = absurd (both_ways _ h (backs_aux b))
   run_step (gathers b e f) fine h = absurd (both_ways _ h (backs_aux b))
   run_step (keeps {i = i} {r = r} {I = I} {extra = extra} {props = props} {level = level} e) fine h =
-      ap (λ a. scope_plays cast stores answers updates i r I (λ q. is_in q (term.Scope i r I extra props level)) level a (entry.Scope i r chosen.Keep)) e
+      ap (λ a. scope_plays cast stores choices updates i r I (λ q. is_in q (term.Scope i r I extra props level)) level a (entry.Scope i r chosen.Keep)) e
       ∙ when_true _ _ (entry_itself (entry.Scope i r chosen.Keep))
   run_step (replaces {i = i} {r = r} {I = I} {extra = extra} {props = props} {level = level} {name = name} e) fine h =
-      ap (λ a. scope_plays cast stores answers updates i r I (λ q. is_in q (term.Scope i r I extra props level)) level a (entry.Scope i r (chosen.Rule name (suc updates)))) e
+      ap (λ a. scope_plays cast stores choices updates i r I (λ q. is_in q (term.Scope i r I extra props level)) level a (entry.Scope i r (chosen.Rule name (suc updates)))) e
       ∙ when_true _ _ (entry_itself (entry.Scope i r (chosen.Rule name (suc updates))))
   run_step (frees c e) fine h = absurd (both_ways false refl (sym h))
 
   -- an auxiliary step changes neither the running term nor a store
-  pub aux_step : {M N : Mark} {d : Deed} → Steps cast stores answers updates M d N → is_aux (entry_of d) ≡ true → (run N ≡ run M) × ((s : Store) → store_after d s ≡ s)
+  pub aux_step : {M N : Mark} {d : Deed} → Steps cast stores choices updates M d N → is_aux (entry_of d) ≡ true → (run N ≡ run M) × ((s : Store) → store_after d s ≡ s)
   aux_step sends h = absurd (both_ways false refl h)
   aux_step lands h = absurd (both_ways false refl h)
   aux_step sets h = absurd (both_ways false refl h)

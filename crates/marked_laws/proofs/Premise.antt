@@ -6,7 +6,7 @@ use Rattle.dioc_terms.specs.declared.names.Role.{Role}
 use Rattle.dioc_terms.specs.declared.names.Index.{Index}
 use Rattle.dioc_terms.specs.Equality.{role_eq, member}
 use Rattle.dioc_terms.specs.TermLaws.{MentionsAreRoles, CastsAreRoles, StampedBodies}
-use Rattle.dioc_terms.specs.Terms.{Term, Skip, Com, Set, Input, Seq, Par, If, While, Scope, is_in, stamped, at_epoch, self_messages, constructs, mark_at, marked_from, marked}
+use Rattle.dioc_terms.specs.Terms.{Term, Skip, Com, Set, Input, Seq, Par, If, While, Scope, is_in, stamped, at_epoch, self_messages, constructs, index_at, indexed_from, indexed}
 use Rattle.connectedness.specs.Connected.{linked, connected}
 use Rattle.connectedness.specs.Laws.{RolesAtEnds, StampedConnected}
 use Rattle.marked_laws.proofs.Equality.{role_same}
@@ -62,7 +62,7 @@ among_own : (p n a : ℕ) → p ≡ n → Among p (suc n) a → ⊥
 among_own p n a is h = omega (arith, is, h.0)
 
 -- Marking gives places in order: those of a part are in a row.
-placed : (I : Term) (n m level : ℕ) (j : Index) → Within j (stamped (marked_from n I) m level) → Among j.place n (constructs I)
+placed : (I : Term) (n m level : ℕ) (j : Index) → Within j (stamped (indexed_from n I) m level) → Among j.place n (constructs I)
 placed Skip n m level j h = absurd h
 placed (Com i o a e b x) n m level j h = among_one j.place n (ap (λ (k : Index). k.place) h)
 placed (Set i x r e) n m level j h = among_one j.place n (ap (λ (k : Index). k.place) h)
@@ -81,7 +81,7 @@ placed (Scope i r I extra props _) n m level j h = among_more j.place n (constru
     (⊎_elim (λ k. inl (ap (λ (l : Index). l.place) k)) (λ k. inr (placed I (suc n) m level j k)) h)
 
 -- so no two constructs of a marked term have one index, whatever the update
-distinct_marked : (I : Term) (n m level : ℕ) → Distinct (stamped (marked_from n I) m level)
+distinct_marked : (I : Term) (n m level : ℕ) → Distinct (stamped (indexed_from n I) m level)
 distinct_marked Skip n m level = tt
 distinct_marked (Com i o a e b x) n m level = tt
 distinct_marked (Set i x r e) n m level = tt
@@ -98,28 +98,28 @@ distinct_marked (Par I J) n m level = (
 )
 distinct_marked (If i r g I J) n m level = (
   λ j h k. among_apart j.place (suc n) (constructs I) (constructs J) (placed I (suc n) m level j h) (placed J (suc n + constructs I) m level j k),
-  λ h. among_own n n (constructs I) refl (placed I (suc n) m level (at_epoch m (mark_at n)) h),
+  λ h. among_own n n (constructs I) refl (placed I (suc n) m level (at_epoch m (index_at n)) h),
   λ h. among_own n n (constructs I + constructs J) refl
-      (among_two n (suc n) (constructs I) (constructs J) (inr (placed J (suc n + constructs I) m level (at_epoch m (mark_at n)) h))),
+      (among_two n (suc n) (constructs I) (constructs J) (inr (placed J (suc n + constructs I) m level (at_epoch m (index_at n)) h))),
   distinct_marked I (suc n) m level,
   distinct_marked J (suc n + constructs I) m level,
 )
 distinct_marked (While i r g I) n m level =
-    (λ h. among_own n n (constructs I) refl (placed I (suc n) m level (at_epoch m (mark_at n)) h), distinct_marked I (suc n) m level)
+    (λ h. among_own n n (constructs I) refl (placed I (suc n) m level (at_epoch m (index_at n)) h), distinct_marked I (suc n) m level)
 distinct_marked (Scope i r I extra props _) n m level =
-    (λ h. among_own n n (constructs I) refl (placed I (suc n) m level (at_epoch m (mark_at n)) h), distinct_marked I (suc n) m level)
+    (λ h. among_own n n (constructs I) refl (placed I (suc n) m level (at_epoch m (index_at n)) h), distinct_marked I (suc n) m level)
 
 -- a marked text is as it were the update of number 0
-marked_stamped : (I : Term) (n : ℕ) → stamped (marked_from n I) 0 0 ≡ marked_from n I
+marked_stamped : (I : Term) (n : ℕ) → stamped (indexed_from n I) 0 0 ≡ indexed_from n I
 marked_stamped Skip n = refl
 marked_stamped (Com i o a e b x) n = refl
 marked_stamped (Set i x r e) n = refl
 marked_stamped (Input i x r) n = refl
 marked_stamped (Seq I J) n = ap₂ Seq (marked_stamped I n) (marked_stamped J (n + constructs I))
 marked_stamped (Par I J) n = ap₂ Par (marked_stamped I n) (marked_stamped J (n + constructs I))
-marked_stamped (If i r g I J) n = ap₂ (If (mark_at n) r g) (marked_stamped I (suc n)) (marked_stamped J (suc n + constructs I))
-marked_stamped (While i r g I) n = ap (While (mark_at n) r g) (marked_stamped I (suc n))
-marked_stamped (Scope i r I extra props level) n = ap (λ B. Scope (mark_at n) r B extra props 0) (marked_stamped I (suc n))
+marked_stamped (If i r g I J) n = ap₂ (If (index_at n) r g) (marked_stamped I (suc n)) (marked_stamped J (suc n + constructs I))
+marked_stamped (While i r g I) n = ap (While (index_at n) r g) (marked_stamped I (suc n))
+marked_stamped (Scope i r I extra props level) n = ap (λ B. Scope (index_at n) r B extra props 0) (marked_stamped I (suc n))
 
 module _ (known : Known) where
   connected_is : (I : Term) → connected I ≡ true → Connected I
@@ -137,7 +137,7 @@ module _ (known : Known) where
   connected_is (Input i x r) h = tt
 
   -- a choreography of a text is proper, and its indices are of epoch 0
-  pub proper_text : (cast : List Role) (I : Term) → I ≡ marked I → connected I ≡ true → self_messages I ≡ []
+  pub proper_text : (cast : List Role) (I : Term) → I ≡ indexed I → connected I ≡ true → self_messages I ≡ []
       → ((q : Role) → is_in q I ≡ true → member q cast ≡ true) → Proper cast I
   proper_text cast I marks joined none roles = record {
     connected = connected_is I joined;
@@ -147,7 +147,7 @@ module _ (known : Known) where
   }
 
   -- a rule's body is proper once it is stamped
-  pub proper_update : (cast : List Role) (I : Term) (m level : ℕ) → I ≡ marked I → connected I ≡ true → self_messages I ≡ []
+  pub proper_update : (cast : List Role) (I : Term) (m level : ℕ) → I ≡ indexed I → connected I ≡ true → self_messages I ≡ []
       → ((q : Role) → is_in q I ≡ true → member q cast ≡ true) → Proper cast (stamped I m level)
   proper_update cast I m level marks joined none roles = record {
     connected = connected_is (stamped I m level) (known.stamps.as_connected I m level ∙ joined);
@@ -156,5 +156,5 @@ module _ (known : Known) where
     in_cast = λ q h. roles q (sym (known.bodies.named q I m level) ∙ h);
   }
 
-pub text_epoch : (I : Term) → I ≡ marked I → (n : Index) → Within n I → n.epoch ≡ 0
-text_epoch I marks n h = stamped_new (marked_from 0 I) 0 0 n (subst (Within n) (marks ∙ sym (marked_stamped I 0)) h)
+pub text_epoch : (I : Term) → I ≡ indexed I → (n : Index) → Within n I → n.epoch ≡ 0
+text_epoch I marks n h = stamped_new (indexed_from 0 I) 0 0 n (subst (Within n) (marks ∙ sym (marked_stamped I 0)) h)

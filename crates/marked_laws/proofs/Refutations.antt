@@ -14,28 +14,27 @@ use Rattle.dioc_terms.specs.declared.entries.Note.TheVariants as note
 use Rattle.dioc_terms.specs.declared.entries.Chosen.TheVariants as chosen
 use Rattle.dioc_terms.specs.declared.entries.Entry.{Entry}
 use Rattle.dioc_terms.specs.declared.entries.Entry.TheVariants as entry
-use Rattle.dioc_terms.specs.declared.bundles.Rule.{Rule}
-use Rattle.dioc_terms.specs.declared.bundles.Bundle.{Bundle}
+use Rattle.dioc_terms.specs.Plain.{PlainRule, PlainBundle}
 use Rattle.dioc_terms.specs.Bundles.{IsFormed, IsFormedRule}
 use Rattle.dioc_terms.specs.Equality.{role_eq, member}
 use Rattle.dioc_terms.specs.Expressions.{Const, Var}
 use Rattle.dioc_terms.specs.Messages.{visible}
-use Rattle.dioc_terms.specs.Moves.{Move, Stuck, Does}
+use Rattle.dioc_terms.specs.Attempts.{Attempt, Stuck, Does}
 use Rattle.dioc_terms.specs.Names.{is_reserved, reserved_words}
 use Rattle.dioc_terms.specs.Processes.{Process}
 use Rattle.dioc_terms.specs.Stores.{Store, fresh_store}
-use Rattle.dioc_terms.specs.Terms.{Term, Skip, Com, Set, Seq, Par, If, Scope, term, mentions, self_messages, marked, stamped}
+use Rattle.dioc_terms.specs.Terms.{Term, Skip, Com, Set, Seq, Par, If, Scope, mentions, self_messages, indexed, stamped}
 use Rattle.connectedness.specs.Connected.{connected}
 use Rattle.projection.specs.Projection.{projected}
-use Rattle.dpoc_process.specs.Steps.{Deed, Given, Nil, Answers, key, ended, offers, is_offered, step}
+use Rattle.dpoc_process.specs.Steps.{Deed, Given, Alone, FromBook, key, ended, offers, is_offered, step}
 use Rattle.global_steps.specs.Running as running
 use Rattle.global_steps.specs.Running.{Running, started, is_due}
-use Rattle.global_steps.specs.Follow.{Answer, Replaced, Effect, plays, play}
+use Rattle.global_steps.specs.Follow.{BookChoice, TakesRule, Effect, plays, play}
 use Rattle.global_steps.specs.Settled.{IsSettled}
 use Rattle.marked_laws.specs.Laws.{IsSoundTerm, IsSoundRule, Explains, HasStep, distinct_keys}
 use Rattle.marked_laws.specs.Network.{Network, network_run, network_ended, decision}
 use Rattle.marked_laws.proofs.Equality.{role_same}
-use Rattle.marked_laws.proofs.Examples.{Place, bundle_of, program, rule_of, run_to_end, a, b, c, x, y, o, q, at, unmarked, int, val, put, take_op, take_aux, relay, direct}
+use Rattle.marked_laws.proofs.Examples.{bundle_of, program, rule_of, run_to_end, a, b, c, x, y, o, q, at, unmarked, int, val, put, take_op, take_aux, relay, direct}
 
 none_is_some : {A : Type 0} {v : A} → None ≡ Some v → ⊥
 none_is_some h = cc
@@ -48,17 +47,17 @@ some_is None h = absurd (both_ways false refl h)
 abbrev apart : Term
 apart = Seq (Com unmarked o a (Const (int 1)) c x) (Com unmarked q b (Const (int 2)) c y)
 
-pub record SoundButConnected (bundle : Bundle) : Type 0 where
+pub record SoundButConnected (bundle : PlainBundle) : Type 0 where
   pub formed : IsFormed bundle
-  pub no_self_message : self_messages (term bundle.choreo) ≡ []
+  pub no_self_message : self_messages bundle.choreo ≡ []
   pub rules : All (IsSoundRule bundle.cast) bundle.rules
 
-apart-formed : (p : Place) → IsFormed (program p apart [] 0 [])
+apart-formed : IsFormed (program apart [] 0 [])
 unfolding is_reserved reserved_words
-apart-formed p = record {
+apart-formed = record {
   version = inl (refl, refl, refl);
   cast = refl;
-  choreo = record { marks = refl; parts = refl; depth = omega arith };
+  choreo = record { indices = refl; parts = refl; depth = omega arith };
   rules = All-nil _;
   opening = omega arith;
   added = refl;
@@ -69,42 +68,42 @@ apart-formed p = record {
   last = refl;
 }
 
-apart-sound : (p : Place) → SoundButConnected (program p apart [] 0 [])
-apart-sound p = record { formed = apart-formed p; no_self_message = refl; rules = All-nil _ }
+apart-sound : SoundButConnected (program apart [] 0 [])
+apart-sound = record { formed = apart-formed; no_self_message = refl; rules = All-nil _ }
 
 abbrev apart_run : List Entry
 apart_run = put b c (Op q) (at 0 1) (val 2) ∷ []
 
-pub needs_connected : Place → ((bundle : Bundle) (H : List Entry) (N : Network) → SoundButConnected bundle → network_run bundle H ≡ Some N
+pub needs_connected : ((bundle : PlainBundle) (H : List Entry) (N : Network) → SoundButConnected bundle → network_run bundle H ≡ Some N
     → Explains bundle (visible H) N) → ⊥
-needs_connected p law =
-    let ran = some_is (network_run (program p apart [] 0 []) apart_run) refl in
-    let explained : Explains (program p apart [] 0 []) (visible apart_run) ran.0 = law (program p apart [] 0 []) apart_run ran.0 (apart-sound p) ran.1 in
+needs_connected law =
+    let ran = some_is (network_run (program apart [] 0 []) apart_run) refl in
+    let explained : Explains (program apart [] 0 []) (visible apart_run) ran.0 = law (program apart [] 0 []) apart_run ran.0 apart-sound ran.1 in
     none_is_some explained.plays
 
 -- The same of the body of a rule, in a scope that keeps the order.
-pub record SoundButRules (bundle : Bundle) : Type 0 where
+pub record SoundButRules (bundle : PlainBundle) : Type 0 where
   pub formed : IsFormed bundle
-  pub choreo : IsSoundTerm (term bundle.choreo)
-  pub no_self_message : All (λ (rule : Rule). self_messages (term rule.body) ≡ []) bundle.rules
-  pub in_cast : All (λ (rule : Rule). list_all (λ r. member r bundle.cast) (mentions (term rule.body)) ≡ true) bundle.rules
+  pub choreo : IsSoundTerm bundle.choreo
+  pub no_self_message : All (λ (rule : PlainRule). self_messages rule.body ≡ []) bundle.rules
+  pub in_cast : All (λ (rule : PlainRule). list_all (λ r. member r bundle.cast) (mentions rule.body) ≡ true) bundle.rules
 
-abbrev apart_rule : Place → Bundle
-apart_rule p = program p relay (rule_of p (codes "apart") apart ∷ []) 1 []
+abbrev apart_rule : PlainBundle
+apart_rule = program relay (rule_of (codes "apart") apart ∷ []) 1 []
 
-apart_rule-sound : (p : Place) → SoundButRules (apart_rule p)
+apart_rule-sound : SoundButRules apart_rule
 unfolding is_reserved reserved_words
-apart_rule-sound p = record {
+apart_rule-sound = record {
   formed = record {
     version = inl (refl, refl, refl);
     cast = refl;
-    choreo = record { marks = refl; parts = refl; depth = omega arith };
-    rules = All-cons IsFormedRule (rule_of p (codes "apart") apart) [] (record {
+    choreo = record { indices = refl; parts = refl; depth = omega arith };
+    rules = All-cons IsFormedRule (rule_of (codes "apart") apart) [] (record {
       name = refl;
       least = refl;
       most = refl;
       condition = refl;
-      body = record { marks = refl; parts = refl; depth = omega arith };
+      body = record { indices = refl; parts = refl; depth = omega arith };
     }) (All-nil _);
     opening = omega arith;
     added = refl;
@@ -115,37 +114,37 @@ apart_rule-sound p = record {
     last = refl;
   };
   choreo = record { connected = refl; no_self_message = refl };
-  no_self_message = All-cons (λ rule. self_messages (term rule.body) ≡ []) (rule_of p (codes "apart") apart) [] refl (All-nil _);
-  in_cast = All-cons (λ rule. list_all (λ r. member r (apart_rule p).cast) (mentions (term rule.body)) ≡ true) (rule_of p (codes "apart") apart) [] refl (All-nil _);
+  no_self_message = All-cons (λ rule. self_messages rule.body ≡ []) (rule_of (codes "apart") apart) [] refl (All-nil _);
+  in_cast = All-cons (λ rule. list_all (λ r. member r apart_rule.cast) (mentions rule.body) ≡ true) (rule_of (codes "apart") apart) [] refl (All-nil _);
 }
 
 abbrev apart_rule_run : List Entry
 apart_rule_run = entry.Scope (at 0 0) a (chosen.Rule (codes "apart") 1) ∷ put a b Begin (at 0 0) (note.Part 1) ∷ take_aux a b Begin (at 0 0) ∷
     put b c (Op q) (at 1 1) (val 2) ∷ []
 
-pub needs_connected_rules : Place → ((bundle : Bundle) (H : List Entry) (N : Network) → SoundButRules bundle → network_run bundle H ≡ Some N
+pub needs_connected_rules : ((bundle : PlainBundle) (H : List Entry) (N : Network) → SoundButRules bundle → network_run bundle H ≡ Some N
     → Explains bundle (visible H) N) → ⊥
-needs_connected_rules p law =
-    let ran = some_is (network_run (apart_rule p) apart_rule_run) refl in
-    let explained : Explains (apart_rule p) (visible apart_rule_run) ran.0 = law (apart_rule p) apart_rule_run ran.0 (apart_rule-sound p) ran.1 in
+needs_connected_rules law =
+    let ran = some_is (network_run apart_rule apart_rule_run) refl in
+    let explained : Explains apart_rule (visible apart_rule_run) ran.0 = law apart_rule apart_rule_run ran.0 apart_rule-sound ran.1 in
     none_is_some explained.plays
 
 -- A message of a role to itself: `o: a(1) -> a(x)`. It is put, and nobody takes it.
 abbrev to_itself : Term
 to_itself = Com unmarked o a (Const (int 1)) a x
 
-pub record SoundButSelf (bundle : Bundle) : Type 0 where
+pub record SoundButSelf (bundle : PlainBundle) : Type 0 where
   pub formed : IsFormed bundle
-  pub connected : connected (term bundle.choreo) ≡ true
+  pub connected : connected bundle.choreo ≡ true
   pub rules : All (IsSoundRule bundle.cast) bundle.rules
 
-to_itself-sound : (p : Place) → SoundButSelf (program p to_itself [] 0 [])
+to_itself-sound : SoundButSelf (program to_itself [] 0 [])
 unfolding is_reserved reserved_words
-to_itself-sound p = record {
+to_itself-sound = record {
   formed = record {
     version = inl (refl, refl, refl);
     cast = refl;
-    choreo = record { marks = refl; parts = refl; depth = omega arith };
+    choreo = record { indices = refl; parts = refl; depth = omega arith };
     rules = All-nil _;
     opening = omega arith;
     added = refl;
@@ -162,50 +161,50 @@ to_itself-sound p = record {
 abbrev to_itself_run : List Entry
 to_itself_run = put a a (Op o) (at 0 0) (val 1) ∷ []
 
-abbrev to_itself_end : Place → Network
-to_itself_end p = (some_is (network_run (program p to_itself [] 0 []) to_itself_run) refl).0
+abbrev to_itself_end : Network
+to_itself_end = (some_is (network_run (program to_itself [] 0 []) to_itself_run) refl).0
 
 -- then a message is left over
-pub needs_others-left : Place → ((bundle : Bundle) (H : List Entry) (N : Network) → SoundButSelf bundle → network_run bundle H ≡ Some N
+pub needs_others-left : ((bundle : PlainBundle) (H : List Entry) (N : Network) → SoundButSelf bundle → network_run bundle H ≡ Some N
     → list_all (λ r. ended (N.processes r)) bundle.cast ≡ true → N.pending ≡ []) → ⊥
-needs_others-left p law = left_over (law (program p to_itself [] 0 []) to_itself_run (to_itself_end p) (to_itself-sound p) refl refl)
+needs_others-left law = left_over (law (program to_itself [] 0 []) to_itself_run to_itself_end to_itself-sound refl refl)
   where
     left_over : {A : Type 0} {m : A} {ms : List A} → m ∷ ms ≡ [] → ⊥
     left_over h = cc
 
 -- and the network stops before its end
-pub needs_others-progress : Place → ((bundle : Bundle) (H : List Entry) (N : Network) → SoundButSelf bundle → network_run bundle H ≡ Some N
-    → network_ended bundle N ≡ false → HasStep bundle N) → ⊥
-needs_others-progress p law =
-    let has : HasStep (program p to_itself [] 0 []) (to_itself_end p) =
-    law (program p to_itself [] 0 []) to_itself_run (to_itself_end p) (to_itself-sound p) refl refl in
+pub needs_others-progress : ((bundle : PlainBundle) (H : List Entry) (N : Network) → SoundButSelf bundle → network_run bundle H ≡ Some N
+    → network_ended bundle.cast N ≡ false → HasStep bundle N) → ⊥
+needs_others-progress law =
+    let has : HasStep (program to_itself [] 0 []) to_itself_end =
+    law (program to_itself [] 0 []) to_itself_run to_itself_end to_itself-sound refl refl in
     stopped has.role has.act (only_role has.role has.in_cast) has.offered
   where
     only_role : (r : Role) → member r (a ∷ []) ≡ true → r ≡ a
     only_role r h = ⊎_elim (λ is. role_same r a is) (λ none. absurd (both_ways false refl none)) (or_cases (role_eq r a) false h)
 
-    stopped : (r : Role) (done : Act) → r ≡ a → is_offered done (offers r ((to_itself_end p).processes r)) ≡ true → ⊥
-    stopped r done is h = both_ways false refl (subst (λ s. is_offered done (offers s ((to_itself_end p).processes s)) ≡ true) is h)
+    stopped : (r : Role) (done : Act) → r ≡ a → is_offered done (offers r (to_itself_end.processes r)) ≡ true → ⊥
+    stopped r done is h = both_ways false refl (subst (λ s. is_offered done (offers s (to_itself_end.processes s)) ≡ true) is h)
 
 -- Indices that aren't those of the text: beside a scope that an update replaces by `o: a(2) -> b(y)` stands `o: a(1) -> b(x)`, whose index is
 -- one of that update. Then two messages have one key, and each may be taken for the other.
 abbrev stale : Term
 stale = Par (Scope (at 0 1) a (Com (at 0 2) o a (Const (int 3)) b y) [] [] 0) (Com (at 1 0) o a (Const (int 1)) b x)
 
-abbrev again : Place → Rule
-again p = rule_of p (codes "again") (Com unmarked o a (Const (int 2)) b y)
+abbrev again : PlainRule
+again = rule_of (codes "again") (Com unmarked o a (Const (int 2)) b y)
 
-abbrev stale_bundle : Place → Bundle
-stale_bundle p = bundle_of p stale (again p ∷ []) 1 []
+abbrev stale_bundle : PlainBundle
+stale_bundle = bundle_of stale (again ∷ []) 1 []
 
-pub record SoundButFormed (bundle : Bundle) : Type 0 where
-  pub choreo : IsSoundTerm (term bundle.choreo)
+pub record SoundButFormed (bundle : PlainBundle) : Type 0 where
+  pub choreo : IsSoundTerm bundle.choreo
   pub rules : All (IsSoundRule bundle.cast) bundle.rules
 
-stale-sound : (p : Place) → SoundButFormed (stale_bundle p)
-stale-sound p = record {
+stale-sound : SoundButFormed stale_bundle
+stale-sound = record {
   choreo = record { connected = refl; no_self_message = refl };
-  rules = All-cons (IsSoundRule (stale_bundle p).cast) (again p) []
+  rules = All-cons (IsSoundRule stale_bundle.cast) again []
       (record { body = record { connected = refl; no_self_message = refl }; in_cast = refl }) (All-nil _);
 }
 
@@ -216,22 +215,22 @@ stale_begins = entry.Scope (at 0 1) a (chosen.Rule (codes "again") 1) ∷ put a 
 abbrev both_put : List Entry
 both_put = stale_begins ++ (put a b (Op o) (at 1 0) (val 1) ∷ [])
 
-abbrev both_end : Place → Network
-both_end p = (some_is (network_run (stale_bundle p) both_put) refl).0
+abbrev both_end : Network
+both_end = (some_is (network_run stale_bundle both_put) refl).0
 
-pub needs_marks-keys : Place → ((bundle : Bundle) (H : List Entry) (N : Network) → SoundButFormed bundle → network_run bundle H ≡ Some N
+pub needs_marks-keys : ((bundle : PlainBundle) (H : List Entry) (N : Network) → SoundButFormed bundle → network_run bundle H ≡ Some N
     → distinct_keys (map (λ message. message.0) N.pending) ≡ true) → ⊥
-needs_marks-keys p law = both_ways false refl (law (stale_bundle p) both_put (both_end p) (stale-sound p) refl)
+needs_marks-keys law = both_ways false refl (law stale_bundle both_put both_end stale-sound refl)
 
 -- the update's message is taken for the other one
 abbrev wrong_take : List Entry
 wrong_take = stale_begins ++ (take_op a b o (at 1 0) x ∷ [])
 
-pub needs_marks-simulation : Place → ((bundle : Bundle) (H : List Entry) (N : Network) → SoundButFormed bundle → network_run bundle H ≡ Some N
+pub needs_marks-simulation : ((bundle : PlainBundle) (H : List Entry) (N : Network) → SoundButFormed bundle → network_run bundle H ≡ Some N
     → Explains bundle (visible H) N) → ⊥
-needs_marks-simulation p law =
-    let ran = some_is (network_run (stale_bundle p) wrong_take) refl in
-    let explained : Explains (stale_bundle p) (visible wrong_take) ran.0 = law (stale_bundle p) wrong_take ran.0 (stale-sound p) ran.1 in
+needs_marks-simulation law =
+    let ran = some_is (network_run stale_bundle wrong_take) refl in
+    let explained : Explains stale_bundle (visible wrong_take) ran.0 = law stale_bundle wrong_take ran.0 stale-sound ran.1 in
     none_is_some explained.plays
 
 -- A body whose indices have two epochs loses by its stamp what told them apart.
@@ -244,20 +243,20 @@ abbrev alone : Term
 alone = Scope unmarked a (Set unmarked y a (Const (int 1))) [] [] 0
 
 -- the program names the other role elsewhere
-abbrev foreign : Place → Bundle
-foreign p = program p (Seq (Com unmarked q b (Const (int 1)) a x) alone) (rule_of p (codes "wide") direct ∷ []) 1 []
+abbrev foreign : PlainBundle
+foreign = program (Seq (Com unmarked q b (Const (int 1)) a x) alone) (rule_of (codes "wide") direct ∷ []) 1 []
 
 abbrev foreign_begins : List Entry
 foreign_begins = put b a (Op q) (at 0 0) (val 1) ∷ take_op b a q (at 0 0) x ∷ []
 
-foreign-refused : (p : Place) → network_run (foreign p) (foreign_begins ++ (entry.Scope (at 0 1) a (chosen.Rule (codes "wide") 1) ∷ [])) ≡ None
-foreign-refused p = refl
+foreign-refused : network_run foreign (foreign_begins ++ (entry.Scope (at 0 1) a (chosen.Rule (codes "wide") 1) ∷ [])) ≡ None
+foreign-refused = refl
 
-foreign-kept : (p : Place) → run_to_end (foreign p) (foreign_begins ++ (entry.Scope (at 0 1) a chosen.Keep ∷ entry.Set (at 0 2) a y (int 1) ∷ [])) ≡ Some true
-foreign-kept p = refl
+foreign-kept : run_to_end foreign (foreign_begins ++ (entry.Scope (at 0 1) a chosen.Keep ∷ entry.Set (at 0 2) a y (int 1) ∷ [])) ≡ Some true
+foreign-kept = refl
 
 -- If the book did choose it: the leader puts its message and has ended, the other role has nothing to do, and the choreography waits for it.
-abbrev next_process : Move Deed Process → (Process → Option Process) → Option Process
+abbrev next_process : Attempt Deed Process → (Process → Option Process) → Option Process
 next_process Stuck rest = None
 next_process (Does deed P) rest = rest P
 
@@ -266,28 +265,28 @@ abbrev left_after : Role → Store → Process → List (Act × Given) → Optio
 left_after me s P [] = Some P
 left_after me s P (done ∷ dones) = next_process (step me s P done.0 done.1) (λ Q. left_after me s Q dones)
 
-abbrev next_running : Move Effect Running → (Running → Option Running) → Option Running
+abbrev next_running : Attempt Effect Running → (Running → Option Running) → Option Running
 next_running Stuck rest = None
 next_running (Does effect G) rest = rest G
 
 -- a book that chooses the rule for every scope
-abbrev reckless : ScopeHead → Answer
-reckless head = Replaced (codes "wide") direct
+abbrev reckless : ScopeHead → BookChoice
+reckless head = TakesRule (codes "wide") direct
 
 -- what is left of a running term after entries, with that book and no update so far
 abbrev running_after : Running → List Entry → Option Running
 running_after G [] = Some G
 running_after G (e ∷ es) = next_running (plays (a ∷ b ∷ []) (λ r. fresh_store []) reckless 0 G e) (λ H. running_after H es)
 
-reckless-leader : option_map ended (left_after a (fresh_store []) (projected (a ∷ b ∷ []) (marked alone) a)
-    ((act.Scope (at 0 0), Answers (λ head. decision (a ∷ b ∷ []) 0 head (reckless head))) ∷ (act.Put (key a b (at 1 0) (Op o)), Nil) ∷ [])) ≡ Some true
+reckless-leader : option_map ended (left_after a (fresh_store []) (projected (a ∷ b ∷ []) (indexed alone) a)
+    ((act.Scope (at 0 0), FromBook (λ head. decision (a ∷ b ∷ []) 0 head (reckless head))) ∷ (act.Put (key a b (at 1 0) (Op o)), Alone) ∷ [])) ≡ Some true
 reckless-leader = refl
 
-reckless-other : ended (projected (a ∷ b ∷ []) (marked alone) b) ≡ true
+reckless-other : ended (projected (a ∷ b ∷ []) (indexed alone) b) ≡ true
 reckless-other = refl
 
 abbrev reckless_end : Option Running
-reckless_end = running_after (started (marked alone))
+reckless_end = running_after (started (indexed alone))
     (entry.Scope (at 0 0) a (chosen.Rule (codes "wide") 1) ∷ put a b (Op o) (at 1 0) (val 2) ∷ [])
 
 reckless-goes_on : option_map running.ended reckless_end ≡ Some false
@@ -305,13 +304,13 @@ hasty = Seq (Com unmarked o a (Const (int 1)) b x)
 abbrev hasty_visible : List Entry
 hasty_visible = put a b (Op o) (at 0 0) (val 1) ∷ entry.Scope (at 0 1) a chosen.Keep ∷ entry.Pick (at 0 2) a false ∷ entry.Set (at 0 4) a y (int 1) ∷ []
 
-hasty-played : (p : Place) → is_some (play (program p hasty [] 0 []) hasty_visible) ≡ true
-hasty-played p = refl
+hasty-played : is_some (play (program hasty [] 0 []) hasty_visible) ≡ true
+hasty-played = refl
 
-pub hasty-unsettled : (p : Place) → IsSettled (program p hasty [] 0 []) hasty_visible → ⊥
-hasty-unsettled p settled = both_ways true (settled.1.1.1.0.1.0.0 refl b refl) refl
+pub hasty-unsettled : IsSettled (program hasty [] 0 []) hasty_visible → ⊥
+hasty-unsettled settled = both_ways true (settled.1.1.1.0.1.0.0 refl b refl) refl
 
 -- the network lets nobody out so early
-hasty-network : (p : Place) → network_run (program p hasty [] 0 []) (put a b (Op o) (at 0 0) (val 1) ∷ entry.Scope (at 0 1) a chosen.Keep ∷
+hasty-network : network_run (program hasty [] 0 []) (put a b (Op o) (at 0 0) (val 1) ∷ entry.Scope (at 0 1) a chosen.Keep ∷
     put a b Begin (at 0 1) note.Keep ∷ entry.Pick (at 0 2) a false ∷ put a b Choice (at 0 2) (note.Flag false) ∷ entry.Set (at 0 4) a y (int 1) ∷ []) ≡ None
-hasty-network p = refl
+hasty-network = refl

@@ -3,11 +3,11 @@ use Rattle.std.proofs.Common.{◌≡◌, List, [], ◌∷◌, true, false, not, 
 use Rattle.std.proofs.lemmas.Bool.{cond-true, cond-false, not_from_true, not_from_false}
 use Rattle.dioc_terms.specs.declared.entries.Entry.{Entry}
 use Rattle.dioc_terms.specs.declared.entries.Entry.TheVariants as entry
-use Rattle.dioc_terms.specs.declared.bundles.Bundle.{Bundle}
+use Rattle.dioc_terms.specs.Plain.{Setting}
 use Rattle.dioc_terms.specs.Messages.{is_aux, doer, visible}
 use Rattle.dioc_terms.specs.Terms.{distinct_roles}
 use Rattle.dpoc_process.specs.Steps.{Deed, Puts, Takes, Sets, Inputs, Picks, Chooses, entry_of}
-use Rattle.global_steps.specs.Follow.{State, answer_of, follow}
+use Rattle.global_steps.specs.Follow.{State, book_choice, follow}
 use Rattle.global_steps.specs.Settled.{SettledAt, Settled, SettledFrom, nobody}
 use Rattle.marked_laws.specs.Network.{Network, network_step, run_from}
 use Rattle.marked_laws.proofs.Mark.{Mark, Order}
@@ -18,8 +18,8 @@ use Rattle.marked_laws.proofs.Settles.{settled_step}
 use Rattle.marked_laws.proofs.Simulate.{Marks, Moved, state_of, answers_in, moves, after_both}
 
 -- whether a deed's entry is settled in a state
-deed_settled : (b : Bundle) (S : State) (d : Deed)
-    → SettledAt b.cast S.stores (λ head. answer_of b.rules S.book head (S.stores head.leader)) S.updates nobody S.running (entry_of d) (doer_of d)
+deed_settled : (b : Setting) (S : State) (d : Deed)
+    → SettledAt b.cast S.stores (λ head. book_choice b.rules S.book head (S.stores head.leader)) S.updates nobody S.running (entry_of d) (doer_of d)
     → Settled b S (entry_of d)
 deed_settled b S (Puts k l) h = h
 deed_settled b S (Takes k x l) h = h
@@ -29,7 +29,7 @@ deed_settled b S (Picks i r t) h = h
 deed_settled b S (Chooses i r c) h = h
 
 -- a change is
-change_settled : (b : Bundle) (S : State) (e : Entry) → doer e ≡ None → Settled b S e
+change_settled : (b : Setting) (S : State) (e : Entry) → doer e ≡ None → Settled b S e
 change_settled b S (entry.Add name) h = tt
 change_settled b S (entry.Drop name) h = tt
 change_settled b S (entry.Env key v) h = tt
@@ -38,7 +38,7 @@ change_settled b S e h = absurd (none_some (sym h))
 if_some : {A : Type 0} (P : A → Type 0) (o : Option A) (a : A) → o ≡ Some a → P a → IfSome o P
 if_some P o a h p = subst (λ x. IfSome x P) (sym h) p
 
-module _ (b : Bundle) (unique : distinct_roles b.cast ≡ true) (sound : (N : Network) → SoundAnswers b.cast (answers_in b N) N.updates) where
+module _ (b : Setting) (unique : distinct_roles b.cast ≡ true) (sound : (N : Network) → SoundAnswers b.cast (answers_in b N) N.updates) where
   moved_order : (N : Network) (M : Mark) (e : Entry) (N' : Network) → Marks b.cast N M → Order b.cast M → (moved : Moved b N M e N') → Order b.cast moved.mark
   moved_order N M e N' marks order moved = ⊎_elim
       (λ step. order_step b.cast N.stores (answers_in b N) N.updates step.2 marks.fine order)

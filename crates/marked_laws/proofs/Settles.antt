@@ -12,7 +12,7 @@ use Rattle.dioc_terms.specs.declared.entries.Entry.TheVariants as entry
 use Rattle.dioc_terms.specs.Equality.{role_eq, member}
 use Rattle.dioc_terms.specs.Expressions.{Expression}
 use Rattle.dioc_terms.specs.Messages.{is_aux}
-use Rattle.dioc_terms.specs.Moves.{Move, Stuck, Does}
+use Rattle.dioc_terms.specs.Attempts.{Attempt, Stuck, Does}
 use Rattle.dioc_terms.specs.Processes.{Load, Done}
 use Rattle.dioc_terms.specs.Stores.{Store}
 use Rattle.dioc_terms.specs.Terms as term
@@ -20,7 +20,7 @@ use Rattle.dioc_terms.specs.Terms.{Term, is_in, others}
 use Rattle.dpoc_process.specs.Steps.{Deed, ended, entry_of}
 use Rattle.global_steps.specs.Running as running
 use Rattle.global_steps.specs.Running.{Running, started, is_due}
-use Rattle.global_steps.specs.Follow.{Answer, Effect, plays}
+use Rattle.global_steps.specs.Follow.{BookChoice, Effect, plays}
 use Rattle.global_steps.specs.Settled.{Due, due_after, nobody, Released, Played, SettledAt}
 use Rattle.marked_laws.proofs.Plays.{tag_aux, backs_aux}
 use Rattle.marked_laws.proofs.Tells.{tell_ended}
@@ -89,7 +89,7 @@ module _ (cast : List Role) where
       no_others : others cast r (term.Scope i r I extra props level) ≡ [] → ⊥
       no_others none = both_ways _ (ap (member q) none) (is_follower cast (Scoped i r I extra props level begin B) q proper other in_q)
 
-  module _ (stores : Role → Store) (answers : ScopeHead → Answer) (updates : ℕ) where
+  module _ (stores : Role → Store) (choices : ScopeHead → BookChoice) (updates : ℕ) where
     -- nobody who has begun the mark is due before it
     abbrev pub Clear : Due → Mark → Type 0
     Clear due M = (q : Role) → acted q M ≡ true → due q ≡ false
@@ -137,16 +137,16 @@ module _ (cast : List Role) where
     )
     released due (Spent G) fine order s h clear = released_ended due G s fine clear
 
-    played_there : (m : Move Effect Running) (A B : Type 0) {effect : Effect} {G : Running} → m ≡ Does effect G → A → Played m A B
+    played_there : (m : Attempt Effect Running) (A B : Type 0) {effect : Effect} {G : Running} → m ≡ Does effect G → A → Played m A B
     played_there m A B h a = subst (λ x. Played x A B) (sym h) a
 
-    played_here : (m : Move Effect Running) (A B : Type 0) → m ≡ Stuck → B → Played m A B
+    played_here : (m : Attempt Effect Running) (A B : Type 0) → m ≡ Stuck → B → Played m A B
     played_here m A B h b = subst (λ x. Played x A B) (sym h) b
 
     -- a construct settles what its body does
     settled_inside : (k : Kind) (due : Due) (G : Running) (e : Entry) (doer : Role) {effect : Effect} {G' : Running}
-        → plays cast stores answers updates G e ≡ Does effect G' → SettledAt cast stores answers updates due G e doer
-        → SettledAt cast stores answers updates due (runs k G) e doer
+        → plays cast stores choices updates G e ≡ Does effect G' → SettledAt cast stores choices updates due G e doer
+        → SettledAt cast stores choices updates due (runs k G) e doer
     settled_inside (Branch i r g I J b) due G e doer h settled = settled
     settled_inside (Turning i r g I) due G e doer h settled = played_there _ _ _ h settled
     settled_inside (Stopping i r g I) due G e doer h settled = tt
@@ -154,22 +154,22 @@ module _ (cast : List Role) where
     settled_inside (Releasing i r I extra props level) due G e doer h settled = settled
 
     -- a mark plays no entry of a step elsewhere
-    elsewhere : (M : Mark) → Fine cast M → (d : Deed) → (At (deed_index d) M → ⊥) → plays cast stores answers updates (run M) (entry_of d) ≡ Stuck
+    elsewhere : (M : Mark) → Fine cast M → (d : Deed) → (At (deed_index d) M → ⊥) → plays cast stores choices updates (run M) (entry_of d) ≡ Stuck
     elsewhere M fine d out =
-        mark_away cast stores answers updates M (entry_of d) fine (λ h. out (subst (λ n. At n M) (entry_deed_index d) h))
+        mark_away cast stores choices updates M (entry_of d) fine (λ h. out (subst (λ n. At n M) (entry_deed_index d) h))
 
     -- the next pick of a loop is settled, since all its roles have told the leader that they are through with the turn
     again_settled : (i : Index) (r : Role) (g : Expression) (I : Term) (phases : Phases) (M : Mark) → Fine cast (Held (Turning i r g I) phases M)
         → Closed cast (Turning i r g I) phases M → (b : Bool) → (due : Due) → Clear due (Held (Turning i r g I) phases M)
-        → SettledAt cast stores answers updates due (running.Again i r g I (run M)) (entry.Pick i r b) r
+        → SettledAt cast stores choices updates due (running.Again i r g I (run M)) (entry.Pick i r b) r
     again_settled i r g I phases M fine closed b due clear =
-        played_here _ _ _ (ended_plays cast stores answers updates (run M) (entry.Pick i r b)
+        played_here _ _ _ (ended_plays cast stores choices updates (run M) (entry.Pick i r b)
         (all_over cast M fine.0 (closed_ended cast (Turning i r g I) phases M fine closed)))
         (λ q in_it. clear q (or_left _ (acted q M) (closed_passed cast (Turning i r g I) phases M fine closed q in_it)))
 
     -- a visible step is settled, at a place before which nobody is due who has begun it
-    settled_from : {M N : Mark} {d : Deed} → Steps cast stores answers updates M d N → Fine cast M → Order cast M → is_aux (entry_of d) ≡ false
-        → (due : Due) → Clear due M → SettledAt cast stores answers updates due (run M) (entry_of d) (doer_of d)
+    settled_from : {M N : Mark} {d : Deed} → Steps cast stores choices updates M d N → Fine cast M → Order cast M → is_aux (entry_of d) ≡ false
+        → (due : Due) → Clear due M → SettledAt cast stores choices updates due (run M) (entry_of d) (doer_of d)
     settled_from sends fine order visible due clear = tt
     settled_from lands fine order visible due clear = tt
     settled_from sets fine order visible due clear = tt
@@ -177,25 +177,25 @@ module _ (cast : List Role) where
     settled_from (seq_opens {I = I} {J = J} s) fine order visible due clear = settled_from s (first_fine cast I J fine) tt visible due clear
     settled_from (par_opens {I = I} {J = J} s) fine order visible due clear = settled_from s (both_fine cast I J fine) (tt, tt) visible due clear
     settled_from (seq_first s) fine order visible due clear =
-        played_there _ _ _ (run_step cast stores answers updates s fine.0 visible) (settled_from s fine.0 order visible due clear)
+        played_there _ _ _ (run_step cast stores choices updates s fine.0 visible) (settled_from s fine.0 order visible due clear)
     settled_from (seq_begins {M = M} {d = d} e s) fine order visible due clear =
-        played_here _ _ _ (elsewhere M fine.0 d (λ h. fine.2 (deed_index d) h (deed_at cast stores answers updates s))) (
+        played_here _ _ _ (elsewhere M fine.0 d (λ h. fine.2 (deed_index d) h (deed_at cast stores choices updates s))) (
           released due M fine.0 order (doer_of d) e clear,
           settled_from s fine.1 tt visible (due_after due (run M)) (λ q h. absurd (both_ways false refl h)),
         )
     settled_from (seq_lags {K = K} s) fine order visible due clear =
-        played_there _ _ _ (run_step cast stores answers updates s fine.0 visible)
+        played_there _ _ _ (run_step cast stores choices updates s fine.0 visible)
         (settled_from s fine.0 order.0 visible due (λ q h. clear q (or_left _ (acted q K) h)))
     settled_from (seq_goes {M = M} {N = N} {d = d} e s) fine order visible due clear =
-        played_here _ _ _ (elsewhere M fine.0 d (λ h. fine.2 (deed_index d) h (deed_at cast stores answers updates s))) (
+        played_here _ _ _ (elsewhere M fine.0 d (λ h. fine.2 (deed_index d) h (deed_at cast stores choices updates s))) (
           released due M fine.0 order.0 (doer_of d) e (λ q h. clear q (or_left _ (acted q N) h)),
           settled_from s fine.1 order.1 visible (due_after due (run M)) (clear_second due M N fine.0 order.2 clear),
         )
     settled_from (par_left {K = K} s) fine order visible due clear =
-        played_there _ _ _ (run_step cast stores answers updates s fine.0 visible)
+        played_there _ _ _ (run_step cast stores choices updates s fine.0 visible)
         (settled_from s fine.0 order.0 visible due (λ q h. clear q (or_left _ (acted q K) h)))
     settled_from (par_right {M = M} {d = d} s) fine order visible due clear =
-        played_here _ _ _ (elsewhere M fine.0 d (λ h. fine.2 (deed_index d) h (deed_at cast stores answers updates s)))
+        played_here _ _ _ (elsewhere M fine.0 d (λ h. fine.2 (deed_index d) h (deed_at cast stores choices updates s)))
         (settled_from s fine.1 order.1 visible due (λ q h. clear q (or_right (acted q M) _ h)))
     settled_from picks fine order visible due clear = tt
     settled_from (turns e) fine order visible due clear = tt
@@ -207,7 +207,7 @@ module _ (cast : List Role) where
     settled_from (tells {k = k} e) fine order visible due clear = absurd (both_ways _ visible (tag_aux k))
     settled_from (hears {k = k} e) fine order visible due clear = absurd (both_ways _ visible (tag_aux k))
     settled_from (works {k = k} {phases = phases} {M = M} {d = d} b s) fine order visible due clear =
-        settled_inside k due (run M) (entry_of d) (doer_of d) (run_step cast stores answers updates s fine.0 visible)
+        settled_inside k due (run M) (entry_of d) (doer_of d) (run_step cast stores choices updates s fine.0 visible)
         (settled_from s fine.0 order visible due (λ q h. clear q (or_right (has_passed q k (phases q)) _ h)))
     settled_from (arrives b e f) fine order visible due clear = absurd (both_ways _ visible (backs_aux b))
     settled_from (gathers b e f) fine order visible due clear = absurd (both_ways _ visible (backs_aux b))
@@ -216,6 +216,6 @@ module _ (cast : List Role) where
     settled_from (frees closed f) fine order visible due clear = absurd (both_ways true visible refl)
 
     -- each visible step of a run is settled
-    pub settled_step : {M N : Mark} {d : Deed} → Steps cast stores answers updates M d N → Fine cast M → Order cast M → is_aux (entry_of d) ≡ false
-        → SettledAt cast stores answers updates nobody (run M) (entry_of d) (doer_of d)
+    pub settled_step : {M N : Mark} {d : Deed} → Steps cast stores choices updates M d N → Fine cast M → Order cast M → is_aux (entry_of d) ≡ false
+        → SettledAt cast stores choices updates nobody (run M) (entry_of d) (doer_of d)
     settled_step s fine order visible = settled_from s fine order visible nobody (λ q h. refl)

@@ -8,19 +8,19 @@ use Rattle.dioc_terms.specs.declared.processes.ScopeHead.{ScopeHead}
 use Rattle.dioc_terms.specs.declared.entries.Chosen.TheVariants as chosen
 use Rattle.dioc_terms.specs.declared.entries.Entry.{Entry}
 use Rattle.dioc_terms.specs.declared.entries.Entry.TheVariants as entry
-use Rattle.dioc_terms.specs.declared.bundles.Rule.{Rule}
+use Rattle.dioc_terms.specs.Plain.{PlainRule}
 use Rattle.dioc_terms.specs.declared.bundles.Change.{Change}
 use Rattle.dioc_terms.specs.declared.bundles.Timed.{Timed}
-use Rattle.dioc_terms.specs.declared.bundles.Bundle.{Bundle}
+use Rattle.dioc_terms.specs.Plain.{Setting}
 use Rattle.dioc_terms.specs.Equality.{role_eq, entry_eq}
 use Rattle.dioc_terms.specs.Messages.{is_aux, doer, visible}
-use Rattle.dioc_terms.specs.Moves.{Move, Stuck, Does}
+use Rattle.dioc_terms.specs.Attempts.{Attempt, Stuck, Does}
 use Rattle.dioc_terms.specs.Processes.{Process, Load}
 use Rattle.dioc_terms.specs.Rules.{apply}
 use Rattle.dioc_terms.specs.Terms.{distinct_roles}
 use Rattle.dpoc_process.specs.Steps.{Deed, Puts, Takes, Sets, Inputs, Picks, Chooses, Decision, entry_of, store_after, step}
 use Rattle.global_steps.specs.Running.{Running}
-use Rattle.global_steps.specs.Follow.{Answer, Effect, State, affected, answer_of, change_entry, shows, updates_after, updated, plays, follow, follow_change, play_from}
+use Rattle.global_steps.specs.Follow.{BookChoice, Effect, State, affected, book_choice, change_entry, shows, updates_after, updated, plays, follow, follow_change, play_from}
 use Rattle.marked_laws.specs.Network.{Network, decision, pending_at, visible_after, network_step, run_from}
 use Rattle.marked_laws.proofs.Equality.{entry_itself}
 use Rattle.marked_laws.proofs.Found.{found}
@@ -38,8 +38,8 @@ use Rattle.marked_laws.proofs.Roles.{role_cases, updated_here, updated_there}
 use Rattle.marked_laws.proofs.Stays.{fine_step}
 
 -- what the book answers of a scope in a network, given the stores as they are
-abbrev pub answers_in : Bundle → Network → ScopeHead → Answer
-answers_in b N head = answer_of b.rules N.book head (N.stores head.leader)
+abbrev pub answers_in : Setting → Network → ScopeHead → BookChoice
+answers_in b N head = book_choice b.rules N.book head (N.stores head.leader)
 
 -- the state of the play that the mark is in
 abbrev pub state_of : Network → Mark → State
@@ -90,7 +90,7 @@ updated_same r a f h = λ i q. each q i
     each q = ⊎_elim (λ is. subst (λ y. updated r a f y ≡ f y) (sym is) (updated_here r a f ∙ h)) (λ differs. updated_there r a f q differs) (role_cases q r)
 
 -- an entry of a role in a play
-abbrev role_state : State → Role → Entry → Move Effect Running → Option State
+abbrev role_state : State → Role → Entry → Attempt Effect Running → Option State
 role_state S r e Stuck = None
 role_state S r e (Does effect G) =
     Some (record {
@@ -102,8 +102,8 @@ role_state S r e (Does effect G) =
       entries = suc S.entries;
     })
 
-follow_deed : (b : Bundle) (S : State) (d : Deed) → follow b S (entry_of d)
-    ≡ role_state S (doer_of d) (entry_of d) (plays b.cast S.stores (λ head. answer_of b.rules S.book head (S.stores head.leader)) S.updates S.running (entry_of d))
+follow_deed : (b : Setting) (S : State) (d : Deed) → follow b S (entry_of d)
+    ≡ role_state S (doer_of d) (entry_of d) (plays b.cast S.stores (λ head. book_choice b.rules S.book head (S.stores head.leader)) S.updates S.running (entry_of d))
 follow_deed b S (Puts k l) = refl
 follow_deed b S (Takes k x l) = refl
 follow_deed b S (Sets i r x v) = refl
@@ -111,7 +111,7 @@ follow_deed b S (Inputs i r x v) = refl
 follow_deed b S (Picks i r t) = refl
 follow_deed b S (Chooses i r c) = refl
 
-follow_nobody : (b : Bundle) (S : State) (e : Entry) → doer e ≡ None → follow b S e ≡ follow_change b S e
+follow_nobody : (b : Setting) (S : State) (e : Entry) → doer e ≡ None → follow b S e ≡ follow_change b S e
 follow_nobody b S (entry.Add name) h = refl
 follow_nobody b S (entry.Drop name) h = refl
 follow_nobody b S (entry.Env key v) h = refl
@@ -123,7 +123,7 @@ nobody_visible (entry.Drop name) h = refl
 nobody_visible (entry.Env key v) h = refl
 nobody_visible e h = absurd (none_some (sym h))
 
-abbrev script_state : Bundle → State → Entry → Option Timed → Option State
+abbrev script_state : Setting → State → Entry → Option Timed → Option State
 script_state b S e None = None
 script_state b S e (Some timed) =
     if shows b.rules e timed.change && nat_le timed.after S.entries
@@ -137,18 +137,18 @@ script_state b S e (Some timed) =
     })
     else None
 
-follow_script : (b : Bundle) (S : State) (e : Entry) → follow_change b S e ≡ script_state b S e (slice_get b.script S.changes)
+follow_script : (b : Setting) (S : State) (e : Entry) → follow_change b S e ≡ script_state b S e (slice_get b.script S.changes)
 follow_script b S e = refl
 
 abbrev is_shown : Entry → Option Entry → Bool
 is_shown e None = false
 is_shown e (Some d) = entry_eq e d
 
-shows_is : (rules : List Rule) (e : Entry) (c : Change) → shows rules e c ≡ is_shown e (change_entry rules c)
+shows_is : (rules : List PlainRule) (e : Entry) (c : Change) → shows rules e c ≡ is_shown e (change_entry rules c)
 shows_is rules e c = refl
 
 -- one step of the network, and the mark after it
-pub record Moved (b : Bundle) (N : Network) (M : Mark) (e : Entry) (N' : Network) : Type 0 where
+pub record Moved (b : Setting) (N : Network) (M : Mark) (e : Entry) (N' : Network) : Type 0 where
   pub mark : Mark
   pub marks : Marks b.cast N' mark
   -- an auxiliary step changes nothing in the play, and another one is played
@@ -156,7 +156,7 @@ pub record Moved (b : Bundle) (N : Network) (M : Mark) (e : Entry) (N' : Network
   -- it is a step of the mark or a change
   pub why : ((d : Deed) × (e ≡ entry_of d) × Steps b.cast N.stores (answers_in b N) N.updates M d mark) ⊎ ((doer e ≡ None) × (mark ≡ M))
 
-module _ (b : Bundle) (unique : distinct_roles b.cast ≡ true) (sound : (N : Network) → SoundAnswers b.cast (answers_in b N) N.updates) where
+module _ (b : Setting) (unique : distinct_roles b.cast ≡ true) (sound : (N : Network) → SoundAnswers b.cast (answers_in b N) N.updates) where
   deed_marks : (N : Network) (M M' : Mark) (r : Role) (d : Deed) (P : Process) → Marks b.cast N M → Steps b.cast N.stores (answers_in b N) N.updates M d M'
       → norm P ≡ norm (place b.cast M' r) → doer_of d ≡ r → Marks b.cast (after_deed N r d P) M'
   deed_marks N M M' r d P marks steps same who = record {
@@ -214,13 +214,13 @@ module _ (b : Bundle) (unique : distinct_roles b.cast ≡ true) (sound : (N : Ne
   role_moves : (N : Network) (M : Mark) (e : Entry) (N' : Network) → Marks b.cast N M → RoleStep b N e N' → Moved b N M e N'
   role_moves N M e N' marks s =
       let mails : Key → Option Load = λ k. pending_at k N.pending in
-      let decide : ScopeHead → Decision = λ head. decision b.cast N.updates head (answer_of b.rules N.book head (N.stores s.role)) in
+      let decide : ScopeHead → Decision = λ head. decision b.cast N.updates head (book_choice b.rules N.book head (N.stores s.role)) in
       let steps : step s.role (N.stores s.role) (N.processes s.role) s.act (given_by mails decide s.act) ≡ Does s.deed s.next =
       ap (step s.role (N.stores s.role) (N.processes s.role) s.act) (sym (given_same b N s.role s.act)) ∙ s.steps in
       let alike = alike_step s.role (N.stores s.role) s.act (given_by mails decide s.act) (N.processes s.role) (place b.cast M s.role) (marks.places s.role) steps in
       let here = found b.cast N.stores (answers_in b N) N.updates unique M marks.fine mails decide s.role
       (λ j at. pending_is j N.pending (mail M j) (marks.mails j))
-      (λ head is. ap (λ r. decision b.cast N.updates head (answer_of b.rules N.book head (N.stores r))) (sym is))
+      (λ head is. ap (λ r. decision b.cast N.updates head (book_choice b.rules N.book head (N.stores r))) (sym is))
       s.act alike.1 in
       let moved : Moved b N M (entry_of s.deed) (after_deed N s.role s.deed s.next) = record {
         mark = here.0;

@@ -14,7 +14,7 @@ use Rattle.dioc_terms.specs.Terms.{Term, is_in, others, head_of, stamped}
 use Rattle.dioc_terms.specs.Values.{eval, is_true}
 use Rattle.projection.specs.Projection.{projected}
 use Rattle.dpoc_process.specs.Steps.{Deed, ended}
-use Rattle.global_steps.specs.Follow.{Answer, Replaced, updated}
+use Rattle.global_steps.specs.Follow.{BookChoice, TakesRule, updated}
 use Rattle.marked_laws.proofs.Constructs.{Phase, Phases, Kind, Branch, Turning, Stopping, Scoped, Releasing, Waits, Told, Inside, Sent, Gone, waits, is_early, is_late, all_wait, leader, index, whole, body, Begins, Busy}
 use Rattle.marked_laws.proofs.Ends.{all_over}
 use Rattle.marked_laws.proofs.Gates.{untold_head, closed_ended}
@@ -99,16 +99,16 @@ module _ (cast : List Role) where
       busy)
       (λ differs. differs) (role_cases q t)
 
-  module _ (stores : Role → Store) (answers : ScopeHead → Answer) (updates : ℕ) (sound : SoundAnswers cast answers updates) where
+  module _ (stores : Role → Store) (choices : ScopeHead → BookChoice) (updates : ℕ) (sound : SoundAnswers cast choices updates) where
     -- the roles of an update's body are of the scope
     inner_update : (i : Index) (r : Role) (I : Term) (extra : List Role) (props : List (List ℕ × Value)) (level : ℕ) (name : List ℕ) (B : Term)
-        → answers (head_of cast i r I extra props level) ≡ Replaced name B → (q : Role) → is_in q (term.Scope i r I extra props level) ≡ false
+        → choices (head_of cast i r I extra props level) ≡ TakesRule name B → (q : Role) → is_in q (term.Scope i r I extra props level) ≡ false
         → is_in q (stamped B (suc updates) (suc level)) ≡ false
     inner_update i r I extra props level name B e q h = false_from_ne_true _ (λ in_it.
         both_ways (is_in q (term.Scope i r I extra props level)) h
         (filter_member (λ s. is_in s (term.Scope i r I extra props level)) cast q (sound.inner (head_of cast i r I extra props level) name B e q in_it)).0)
 
-    pub fine_step : {M N : Mark} {d : Deed} → Steps cast stores answers updates M d N → Fine cast M → Old updates M → Fine cast N
+    pub fine_step : {M N : Mark} {d : Deed} → Steps cast stores choices updates M d N → Fine cast M → Old updates M → Fine cast N
     fine_step sends fine old = fine
     fine_step lands fine old = tt
     fine_step sets fine old = tt
@@ -118,36 +118,36 @@ module _ (cast : List Role) where
     fine_step (seq_first {J = J} s) fine old = (
       fine_step s fine.0 (λ n a. old n (inl a)),
       fine.1,
-      λ n a b. ⊎_elim (λ at. fine.2 n at b) (λ new. old n (inr b) new) (at_step cast stores answers updates s n a),
-      subst (λ I. Linked I J) (sym (origin_step cast stores answers updates s)) fine.3,
+      λ n a b. ⊎_elim (λ at. fine.2 n at b) (λ new. old n (inr b) new) (at_step cast stores choices updates s n a),
+      subst (λ I. Linked I J) (sym (origin_step cast stores choices updates s)) fine.3,
     )
     fine_step (seq_begins {M = M} e s) fine old = (
       fine.0,
       fine_step s fine.1 (λ n a. old n (inr a)),
-      λ n a b. ⊎_elim (λ at. fine.2 n a at) (λ new. old n (inl a) new) (at_step cast stores answers updates s n b),
-      begins_light cast stores answers updates M fine e s,
+      λ n a b. ⊎_elim (λ at. fine.2 n a at) (λ new. old n (inl a) new) (at_step cast stores choices updates s n b),
+      begins_light cast stores choices updates M fine e s,
     )
     fine_step (seq_lags s) fine old = (
       fine_step s fine.0 (λ n a. old n (inl a)),
       fine.1,
-      λ n a b. ⊎_elim (λ at. fine.2 n at b) (λ new. old n (inr b) new) (at_step cast stores answers updates s n a),
-      light_step cast stores answers updates s fine.3,
+      λ n a b. ⊎_elim (λ at. fine.2 n at b) (λ new. old n (inr b) new) (at_step cast stores choices updates s n a),
+      light_step cast stores choices updates s fine.3,
     )
     fine_step (seq_goes e s) fine old = (
       fine.0,
       fine_step s fine.1 (λ n a. old n (inr a)),
-      λ n a b. ⊎_elim (λ at. fine.2 n a at) (λ new. old n (inl a) new) (at_step cast stores answers updates s n b),
+      λ n a b. ⊎_elim (λ at. fine.2 n a at) (λ new. old n (inl a) new) (at_step cast stores choices updates s n b),
       fine.3,
     )
     fine_step (par_left s) fine old = (
       fine_step s fine.0 (λ n a. old n (inl a)),
       fine.1,
-      λ n a b. ⊎_elim (λ at. fine.2 n at b) (λ new. old n (inr b) new) (at_step cast stores answers updates s n a),
+      λ n a b. ⊎_elim (λ at. fine.2 n at b) (λ new. old n (inr b) new) (at_step cast stores choices updates s n a),
     )
     fine_step (par_right s) fine old = (
       fine.0,
       fine_step s fine.1 (λ n a. old n (inr a)),
-      λ n a b. ⊎_elim (λ at. fine.2 n a at) (λ new. old n (inl a) new) (at_step cast stores answers updates s n b),
+      λ n a b. ⊎_elim (λ at. fine.2 n a at) (λ new. old n (inl a) new) (at_step cast stores choices updates s n b),
     )
     fine_step (picks {i = i} {r = r} {g = g} {I = I} {J = J}) fine old =
         let b : Bool = is_true (eval g (stores r)) in
@@ -175,14 +175,14 @@ module _ (cast : List Role) where
       fine_step s fine.0 (λ n a. old n (inr a)),
       record {
         proper = fine.1.proper;
-        is_body = origin_step cast stores answers updates s ∙ fine.1.is_body;
-        own = λ a. ⊎_elim (λ at. fine.1.own at) (λ new. old (index k) (inl (index_in k)) new) (at_step cast stores answers updates s (index k) a);
+        is_body = origin_step cast stores choices updates s ∙ fine.1.is_body;
+        own = λ a. ⊎_elim (λ at. fine.1.own at) (λ new. old (index k) (inl (index_in k)) new) (at_step cast stores choices updates s (index k) a);
         inner = fine.1.inner;
         begins = fine.1.begins;
         known = fine.1.known;
-        fresh = λ q h other. place_other cast stores answers updates s fine.0 q (busy_early k phases q (doer_of d) b h other)
-            ∙ fine.1.fresh q h other ∙ ap (λ I. projected cast I q) (sym (origin_step cast stores answers updates s));
-        through = λ q h. ap ended (place_other cast stores answers updates s fine.0 q (busy_late k phases M q (doer_of d) fine.1 b h)) ∙ fine.1.through q h;
+        fresh = λ q h other. place_other cast stores choices updates s fine.0 q (busy_early k phases q (doer_of d) b h other)
+            ∙ fine.1.fresh q h other ∙ ap (λ I. projected cast I q) (sym (origin_step cast stores choices updates s));
+        through = λ q h. ap ended (place_other cast stores choices updates s fine.0 q (busy_late k phases M q (doer_of d) fine.1 b h)) ∙ fine.1.through q h;
       },
     )
     fine_step (arrives {k = k} {phases = phases} {M = M} {q = t} b e f) fine old =

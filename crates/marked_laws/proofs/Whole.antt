@@ -6,17 +6,17 @@ use Rattle.dioc_terms.specs.declared.names.Role.{Role}
 use Rattle.dioc_terms.specs.declared.processes.Key.{Key}
 use Rattle.dioc_terms.specs.declared.processes.ScopeHead.{ScopeHead}
 use Rattle.dioc_terms.specs.declared.entries.Entry.{Entry}
-use Rattle.dioc_terms.specs.declared.bundles.Bundle.{Bundle}
+use Rattle.dioc_terms.specs.Plain.{PlainBundle, setting}
 use Rattle.dioc_terms.specs.Equality.{role_eq, member}
 use Rattle.dioc_terms.specs.Messages.{visible}
 use Rattle.dioc_terms.specs.Processes as process
 use Rattle.dioc_terms.specs.Processes.{Process, Load}
-use Rattle.dioc_terms.specs.Moves.{Move, Does}
+use Rattle.dioc_terms.specs.Attempts.{Attempt, Does}
 use Rattle.dioc_terms.specs.declared.entries.Act.{Act}
 use Rattle.dioc_terms.specs.Terms as term
-use Rattle.dioc_terms.specs.Terms.{Term, is_in, distinct_roles, term as term_of}
+use Rattle.dioc_terms.specs.Terms.{Term, is_in, distinct_roles}
 use Rattle.dpoc_process.specs.Steps.{Deed, Decision, ended, is_offered, step}
-use Rattle.global_steps.specs.Follow.{answer_of, play}
+use Rattle.global_steps.specs.Follow.{book_choice, play}
 use Rattle.marked_laws.specs.Laws.{IsSound, Simulation, Settlement, UniqueKeys, Progress, NothingLeft, distinct_keys, taken_keys}
 use Rattle.marked_laws.specs.Network.{Network, decision, given_at, pending_at, no_message, network_start, network_run, network_ended}
 use Rattle.marked_laws.specs.Offers.{distinct_acts, DistinctOffers}
@@ -66,25 +66,25 @@ all_roles cast N M marks h q = ⊎_elim
     (λ out. stranger cast M marks.fine q out)
     (cases_Bool (member q cast))
 
-outcome_some : (N : Network) (r : Role) (m : Move Deed Process) (d : Deed) (P : Process) → m ≡ Does d P → IsSome (deed_outcome N r m)
+outcome_some : (N : Network) (r : Role) (m : Attempt Deed Process) (d : Deed) (P : Process) → m ≡ Does d P → IsSome (deed_outcome N r m)
 outcome_some N r m d P h = subst (λ x. IsSome (deed_outcome N r x)) (sym h) refl
 
 module _ (known : Known) where
   -- the mark of the start
-  start_marks : (b : Bundle) → IsSound b → Marks b.cast (network_start b) (Still (term_of b.choreo))
+  start_marks : (b : PlainBundle) → IsSound b → Marks b.cast (network_start b) (Still b.choreo)
   start_marks b sound = record {
-    fine = proper_text known b.cast (term_of b.choreo) sound.formed.choreo.marks sound.choreo.connected sound.choreo.no_self_message
-        (λ q h. subst (λ c. member q c ≡ true) (sym sound.formed.cast) (known.casts.same q (term_of b.choreo) ∙ h));
+    fine = proper_text known b.cast b.choreo sound.formed.choreo.indices sound.choreo.connected sound.choreo.no_self_message
+        (λ q h. subst (λ c. member q c ≡ true) (sym sound.formed.cast) (known.casts.same q b.choreo ∙ h));
     places = λ q. refl;
     mails = λ k. refl;
-    old = λ n at. omega (arith, text_epoch (term_of b.choreo) sound.formed.choreo.marks n at);
+    old = λ n at. omega (arith, text_epoch b.choreo sound.formed.choreo.indices n at);
   }
 
   -- a run ends in a network of a mark, and what is visible of it is played
-  explained : (b : Bundle) (H : List Entry) (N : Network) → IsSound b → network_run b H ≡ Some N
+  explained : (b : PlainBundle) (H : List Entry) (N : Network) → IsSound b → network_run b H ≡ Some N
       → (M : Mark) × Marks b.cast N M × (play b (visible H) ≡ Some (state_of N M))
   explained b H N sound h =
-      runs_explained b (cast_unique known b sound) (sound_answers known b sound) H (network_start b) N (Still (term_of b.choreo)) (start_marks b sound) h
+      runs_explained (setting b) (cast_unique known b sound) (sound_answers known b sound) H (network_start b) N (Still b.choreo) (start_marks b sound) h
 
   pub simulation : Simulation
   simulation b H N sound h =
@@ -103,7 +103,7 @@ module _ (known : Known) where
 
   pub settlement : Settlement
   settlement b H N sound h =
-      runs_settled b (cast_unique known b sound) (sound_answers known b sound) H (network_start b) N (Still (term_of b.choreo)) (start_marks b sound) tt h
+      runs_settled (setting b) (cast_unique known b sound) (sound_answers known b sound) H (network_start b) N (Still b.choreo) (start_marks b sound) tt h
 
   pub unique_keys : UniqueKeys
   unique_keys b H N sound h =
@@ -129,9 +129,9 @@ module _ (known : Known) where
       let M : Mark = parts.0 in
       let marks = parts.1 in
       let mails : Key → Option Load = λ k. pending_at k N.pending in
-      let decide : Role → ScopeHead → Decision = λ r head. decision b.cast N.updates head (answer_of b.rules N.book head (N.stores r)) in
+      let decide : Role → ScopeHead → Decision = λ r head. decision b.cast N.updates head (book_choice b.rules N.book head (N.stores r)) in
       ⊎_elim
-      (λ over. absurd (both_ways (network_ended b N) not_ended
+      (λ over. absurd (both_ways (network_ended b.cast N) not_ended
       (and_from (list_all (λ q. ended (N.processes q)) b.cast) (no_message N.pending)
       (all_pass (λ q. ended (N.processes q)) b.cast (λ q. ended_alike (N.processes q) (place b.cast M q) (marks.places q) ∙ over q))
       (ap no_message (no_loads N.pending (λ k. marks.mails k ∙ ap queued (no_mail b.cast M marks.fine over k)))))))
@@ -144,8 +144,8 @@ module _ (known : Known) where
         act = a;
         in_cast = go.4;
         offered = ap (is_offered a) (offers_alike q (N.processes q) (place b.cast M q) (marks.places q)) ∙ go.5;
-        defined = outcome_some N q (step q (N.stores q) (N.processes q) a (given_at b N q a)) go.2 alike.0
-            (ap (step q (N.stores q) (N.processes q) a) (given_same b N q a) ∙ alike.1);
+        defined = outcome_some N q (step q (N.stores q) (N.processes q) a (given_at (setting b) N q a)) go.2 alike.0
+            (ap (step q (N.stores q) (N.processes q) a) (given_same (setting b) N q a) ∙ alike.1);
       })
       (goes b.cast N.stores M marks.fine mails decide (λ j at. pending_is j N.pending (mail M j) (marks.mails j)))
     where

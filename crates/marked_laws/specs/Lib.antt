@@ -3,3 +3,4 @@ pub mod MailLaws
 pub mod Network
 pub mod Offers
 pub mod RunLaws
+pub mod Versions

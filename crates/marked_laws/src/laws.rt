@@ -6,6 +6,7 @@ ghost use Rattle.dioc_terms.specs.TermLaws.{MentionsAreRoles, CastsAreRoles, Sta
 ghost use Rattle.marked_laws.specs.Laws.{Simulation, Settlement, UniqueKeys, Progress, NothingLeft};
 ghost use Rattle.marked_laws.specs.Offers.{DistinctOffers};
 ghost use Rattle.marked_laws.specs.RunLaws.{Extensions};
+ghost use Rattle.marked_laws.specs.Versions.{RunsReadNoVersion};
 
 /// What the crates below prove of terms, together.
 fn known()
@@ -70,4 +71,9 @@ pub fn nothing_left()
 /// It does nothing.
 pub fn runs_extend()
     ensures { Extensions }
+{}
+
+/// A law: what a bundle's choreography plays and what its network runs doesn't depend on its version. It does nothing.
+pub fn runs_read_no_version()
+    ensures { RunsReadNoVersion }
 {}

@@ -5,6 +5,7 @@ mod laws;
 mod mail_laws;
 
 pub use laws::{
-    distinct_offers, nothing_left, progress, runs_extend, settlement, simulation, unique_keys,
+    distinct_offers, nothing_left, progress, runs_extend, runs_read_no_version, settlement,
+    simulation, unique_keys,
 };
 pub use mail_laws::mail_is_a_map;

@@ -16,7 +16,7 @@ use Rattle.dioc_terms.specs.declared.bundles.Timed.{Timed}
 use Rattle.dioc_terms.specs.declared.bundles.Bundle.{Bundle}
 use Rattle.dioc_terms.specs.Expressions.{Expression, Const, Var, Prop, Env, Bin}
 use Rattle.dioc_terms.specs.Messages.{visible}
-use Rattle.dioc_terms.specs.Terms.{Term, Skip, Com, Set, Seq, Par, If, While, Scope, marked, cast_of}
+use Rattle.dioc_terms.specs.Terms.{Term, Skip, Com, Set, Seq, Par, If, While, Scope, indexed, cast_of}
 use Rattle.global_steps.specs.Follow.{play, stray}
 use Rattle.marked_laws.specs.Network.{network_run}
 use Rattle.net_core.specs.declared.refusals.Refusal.TheVariants.{SelfMessage, Unlinked}
@@ -111,14 +111,14 @@ self-refused p = refl
 -- a rule without priority
 abbrev pub rule_of : Place → List ℕ → ℕ → Expression → Term → Rule
 rule_of p name priority condition body =
-    record { name = name; priority = pos priority; cond = expr_at p condition; body = choreo_at p (marked body) }
+    record { name = name; priority = pos priority; cond = expr_at p condition; body = choreo_at p (indexed body) }
 
 -- a program with rules, the first so many of them opening, an environment and a script
 abbrev pub program_with : Place → ℕ → Term → List Rule → ℕ → List (List ℕ × Value) → List Timed → Bundle
 program_with p version I rules opening env script = record {
   version = version;
   cast = cast_of I;
-  choreo = choreo_at p (marked I);
+  choreo = choreo_at p (indexed I);
   rules = rules;
   opening = opening;
   env = env;

@@ -19,7 +19,7 @@ use Rattle.dioc_terms.specs.declared.entries.Entry.{Entry}
 use Rattle.dioc_terms.specs.declared.entries.Entry.TheVariants as entry
 use Rattle.dioc_terms.specs.declared.bundles.Bundle.{Bundle}
 use Rattle.dioc_terms.specs.Expressions.{Expression, Const, Var, Prop, Env, Not, Neg, Bin}
-use Rattle.dioc_terms.specs.Terms.{Term, Skip, Com, Set, Input, Seq, Par, If, While, Scope, cast_of, marked}
+use Rattle.dioc_terms.specs.Terms.{Term, Skip, Com, Set, Input, Seq, Par, If, While, Scope, cast_of, indexed}
 use Rattle.global_steps.specs.Running as running
 use Rattle.global_steps.specs.Follow.{State, play, stray}
 use Rattle.marked_laws.specs.Network.{Network, network_run, network_ended}
@@ -55,7 +55,7 @@ abbrev pub program : Place → Term → Bundle
 program p I = record {
   version = 1;
   cast = cast_of I;
-  choreo = choreo_at p (marked I);
+  choreo = choreo_at p (indexed I);
   rules = [];
   opening = 0;
   env = [];

@@ -12,14 +12,14 @@ use Rattle.dioc_terms.specs.declared.entries.Entry.{Entry}
 use Rattle.dioc_terms.specs.declared.bundles.Bundle.{Bundle}
 use Rattle.dioc_terms.specs.Equality.{role_eq, member, act_eq}
 use Rattle.dioc_terms.specs.Messages.{act_of}
-use Rattle.dioc_terms.specs.Moves.{Move as Step, Stuck, Does}
+use Rattle.dioc_terms.specs.Attempts.{Move as Step, Stuck, Does}
 use Rattle.dioc_terms.specs.Processes.{Process, Load}
 use Rattle.dioc_terms.specs.Terms.{term as term_of}
 use Rattle.dpoc_process.specs.Laws.{given_fits, is_done, load_fits, OffersAreSteps}
-use Rattle.dpoc_process.specs.Steps.{Deed, Puts, Takes, Sets, Inputs, Picks, Chooses, Given, Nil, Got, Decision, entry_of, offers, is_offered, step}
-use Rattle.global_steps.specs.Follow.{answer_of}
+use Rattle.dpoc_process.specs.Steps.{Deed, Puts, Takes, Sets, Inputs, Picks, Chooses, Given, Alone, Got, Decision, entry_of, offers, is_offered, step}
+use Rattle.global_steps.specs.Follow.{book_choice}
 use Rattle.marked_laws.specs.Laws.{IsSound, HasStep}
-use Rattle.marked_laws.specs.Network.{Network, Outcome, decision, given_at, pending_at, act_step, network_start, network_run, network_ended}
+use Rattle.marked_laws.specs.Network.{Network, NextNetwork, decision, given_at, pending_at, act_step, network_start, network_run, network_ended}
 use Rattle.dpoc_process.proofs.Lemmas.{steps-show_their_acts}
 use Rattle.marked_laws.proofs.Choices.{cast_unique, sound_answers}
 use Rattle.marked_laws.proofs.Equality.{role_same, act_same, act_itself}
@@ -57,7 +57,7 @@ has_right [] ys h = h
 has_right (x ∷ xs) ys h = refl
 
 abbrev message_given : Option Load → Given
-message_given None = Nil
+message_given None = Alone
 message_given (Some l) = Got l
 
 take_fits : (k : Key) (o : Option Load) → is_some o ≡ true → ((l : Load) → o ≡ Some l → load_fits k.tag l ≡ true) → given_fits (act.Take k) (message_given o) ≡ true
@@ -147,17 +147,17 @@ role_listed N q (r ∷ rs) is some = ⊎_elim
     (or_cases (role_eq q r) (member q rs) is)
 
 -- what a step of a role is: the entry shows the role and the act, and what is taken is pending
-pub record IsDeed (N : Network) (M : Mark) (q : Role) (a : Act) (outcome : Outcome) : Type 0 where
+pub record IsDeed (N : Network) (M : Mark) (q : Role) (a : Act) (outcome : NextNetwork) : Type 0 where
   pub deed : Deed
   pub entry : outcome.entry ≡ entry_of deed
   pub who : doer_of deed ≡ q
   pub act : act_of (entry_of deed) ≡ Some a
   pub mail : MailFits deed (mail M)
 
-outcome_deed : (N : Network) (q : Role) (m : Step Deed Process) (outcome : Outcome) → deed_outcome N q m ≡ Some outcome
+outcome_deed : (N : Network) (q : Role) (m : Step Deed Process) (outcome : NextNetwork) → deed_outcome N q m ≡ Some outcome
     → (d : Deed) × (P : Process) × (m ≡ Does d P) × (outcome.entry ≡ entry_of d)
 outcome_deed N q Stuck outcome h = absurd (none_some h)
-outcome_deed N q (Does d P) outcome h = (d, P, refl, ap (λ (o : Outcome). o.entry) (sym (some_same h)))
+outcome_deed N q (Does d P) outcome h = (d, P, refl, ap (λ (o : NextNetwork). o.entry) (sym (some_same h)))
 
 taken_pending : (M : Mark) (d : Deed) (k : Key) → act_of (entry_of d) ≡ Some (act.Take k) → MailFits d (mail M) → is_some (mail M k) ≡ true
 taken_pending M (Takes j x l) k is fits = subst (λ i. is_some (mail M i) ≡ true) (same is) (ap is_some fits)
@@ -191,17 +191,17 @@ module _ (known : Known) (b : Bundle) (sound : IsSound b) where
     pub mail_of_tags : MailOfTags N
     mail_of_tags k l h = mail_of_tag b.cast M marks.fine k l (sym (pending_mail k) ∙ h)
 
-    pub deed_of : (q : Role) (a : Act) (outcome : Outcome) → act_step b N q a ≡ Some outcome → IsDeed N M q a outcome
+    pub deed_of : (q : Role) (a : Act) (outcome : NextNetwork) → act_step b N q a ≡ Some outcome → IsDeed N M q a outcome
     deed_of q a outcome h =
         let mails : Key → Option Load = λ k. pending_at k N.pending in
-        let decide : ScopeHead → Decision = λ head. decision b.cast N.updates head (answer_of b.rules N.book head (N.stores q)) in
+        let decide : ScopeHead → Decision = λ head. decision b.cast N.updates head (book_choice b.rules N.book head (N.stores q)) in
         let did = outcome_deed N q (step q (N.stores q) (N.processes q) a (given_at b N q a)) outcome h in
         let steps : step q (N.stores q) (N.processes q) a (given_by mails decide a) ≡ Does did.0 did.1 =
         ap (step q (N.stores q) (N.processes q) a) (sym (given_same b N q a)) ∙ did.2 in
         let alike = alike_step q (N.stores q) a (given_by mails decide a) (N.processes q) (place b.cast M q) (marks.places q) steps in
         let here = found b.cast N.stores (answers_in b N) N.updates (cast_unique known b sound) M marks.fine mails decide q
         (λ j at. pending_mail j)
-        (λ head is. ap (λ r. decision b.cast N.updates head (answer_of b.rules N.book head (N.stores r))) (sym is)) a alike.1 in
+        (λ head is. ap (λ r. decision b.cast N.updates head (book_choice b.rules N.book head (N.stores r))) (sym is)) a alike.1 in
         record {
           deed = did.0;
           entry = did.3;

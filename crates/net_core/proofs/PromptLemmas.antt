@@ -13,11 +13,11 @@ use Rattle.dioc_terms.specs.declared.entries.Entry.TheVariants as entry
 use Rattle.dioc_terms.specs.declared.bundles.Timed.{Timed}
 use Rattle.dioc_terms.specs.declared.bundles.Bundle.{Bundle}
 use Rattle.dioc_terms.specs.Messages.{is_aux, doer, visible}
-use Rattle.dioc_terms.specs.Moves.{Move, Stuck, Does}
+use Rattle.dioc_terms.specs.Attempts.{Move, Stuck, Does}
 use Rattle.dioc_terms.specs.Processes.{Process}
 use Rattle.dpoc_process.specs.Steps.{Deed, Puts, Takes, Sets, Inputs, Picks, Chooses, entry_of, step}
 use Rattle.global_steps.specs.Follow.{change_entry}
-use Rattle.marked_laws.specs.Network.{Network, Outcome, act_step, change_step, given_at, network_start, network_ended, visible_after}
+use Rattle.marked_laws.specs.Network.{Network, NextNetwork, act_step, change_step, given_at, network_start, network_ended, visible_after}
 use Rattle.marked_laws.proofs.Networks.{after_deed, deed_outcome, after_change, entry_outcome, script_outcome}
 use Rattle.marked_laws.proofs.Shapes.{none_some, some_same, if_some}
 use Rattle.net_core.specs.declared.moves.Move.{Move as NetMove}
@@ -52,7 +52,7 @@ prompt_all b H h before e rest is does =
     ap₂ (change_due b.script) (omega arith) (omega arith) ∙ prompt_at b.script 0 0 before e rest (subst (PromptFrom b.script 0 0) is h) does
 
 -- the counts of the network after a move are those of one entry more
-record Counts (N : Network) (outcome : Outcome) : Type 0 where
+record Counts (N : Network) (outcome : NextNetwork) : Type 0 where
   changes : outcome.network.changes ≡ N.changes + changes_in (outcome.entry ∷ [])
   visible : outcome.network.visible ≡ N.visible + length (visible (outcome.entry ∷ []))
 
@@ -78,12 +78,12 @@ one_change : (e : Entry) → is_none (doer e) ≡ true → changes_in (e ∷ [])
 one_change e h = ap length (cond-true (is_none (doer e)) (e ∷ []) [] h)
 
 -- an outcome of a role is that of its deed
-outcome_deed : (N : Network) (r : Role) (m : Move Deed Process) (outcome : Outcome) → deed_outcome N r m ≡ Some outcome
+outcome_deed : (N : Network) (r : Role) (m : Move Deed Process) (outcome : NextNetwork) → deed_outcome N r m ≡ Some outcome
     → (d : Deed) × (P : Process) × (outcome.entry ≡ entry_of d) × (outcome.network ≡ after_deed N r d P)
 outcome_deed N r Stuck outcome h = absurd (none_some h)
-outcome_deed N r (Does d P) outcome h = (d, P, ap (λ (o : Outcome). o.entry) (sym (some_same h)), ap (λ (o : Outcome). o.network) (sym (some_same h)))
+outcome_deed N r (Does d P) outcome h = (d, P, ap (λ (o : NextNetwork). o.entry) (sym (some_same h)), ap (λ (o : NextNetwork). o.network) (sym (some_same h)))
 
-act_counts : (b : Bundle) (N : Network) (q : Role) (a : Act) (outcome : Outcome) → act_step b N q a ≡ Some outcome → Counts N outcome
+act_counts : (b : Bundle) (N : Network) (q : Role) (a : Act) (outcome : NextNetwork) → act_step b N q a ≡ Some outcome → Counts N outcome
 act_counts b N q a outcome h =
     let did = outcome_deed N q (step q (N.stores q) (N.processes q) a (given_at b N q a)) outcome h in
     let nobodys : is_none (doer outcome.entry) ≡ false = ap (λ e. is_none (doer e)) did.2 ∙ is_somebodys did.0 in
@@ -106,25 +106,25 @@ change_shows rules (change.Add m) e h = of_rule (slice_get rules m) h
 change_shows rules (change.Drop name) e h = subst OfChange (some_same h) (record { changes = refl; visible = refl })
 change_shows rules (change.Env key v) e h = subst OfChange (some_same h) (record { changes = refl; visible = refl })
 
-outcome_entry : (b : Bundle) (N : Network) (timed : Timed) (o : Option Entry) (outcome : Outcome) → entry_outcome b N timed o ≡ Some outcome
+outcome_entry : (b : Bundle) (N : Network) (timed : Timed) (o : Option Entry) (outcome : NextNetwork) → entry_outcome b N timed o ≡ Some outcome
     → (o ≡ Some outcome.entry) × (outcome.network ≡ after_change b N timed)
 outcome_entry b N timed None outcome h = absurd (none_some h)
 outcome_entry b N timed (Some e) outcome h =
     let parts = if_some (nat_le timed.after N.visible) (record { entry = e; network = after_change b N timed }) h in
-    (ap (λ (o : Outcome). Some o.entry) (sym parts.1), ap (λ (o : Outcome). o.network) parts.1)
+    (ap (λ (o : NextNetwork). Some o.entry) (sym parts.1), ap (λ (o : NextNetwork). o.network) parts.1)
 
-outcome_script : (b : Bundle) (N : Network) (o : Option Timed) (outcome : Outcome) → script_outcome b N o ≡ Some outcome
+outcome_script : (b : Bundle) (N : Network) (o : Option Timed) (outcome : NextNetwork) → script_outcome b N o ≡ Some outcome
     → (timed : Timed) × (entry_outcome b N timed (change_entry b.rules timed.change) ≡ Some outcome)
 outcome_script b N None outcome h = absurd (none_some h)
 outcome_script b N (Some timed) outcome h = (timed, h)
 
-change_is_nobodys : (b : Bundle) (N : Network) (outcome : Outcome) → change_step b N ≡ Some outcome → OfChange outcome.entry × (outcome.network.changes ≡ suc N.changes) × (outcome.network.visible ≡ suc N.visible)
+change_is_nobodys : (b : Bundle) (N : Network) (outcome : NextNetwork) → change_step b N ≡ Some outcome → OfChange outcome.entry × (outcome.network.changes ≡ suc N.changes) × (outcome.network.visible ≡ suc N.visible)
 change_is_nobodys b N outcome h =
     let script = outcome_script b N (slice_get b.script N.changes) outcome h in
     let shown = outcome_entry b N script.0 (change_entry b.rules (script.0).change) outcome script.1 in
     (change_shows b.rules (script.0).change outcome.entry shown.0, ap (λ (M : Network). M.changes) shown.1, ap (λ (M : Network). M.visible) shown.1)
 
-change_counts : (b : Bundle) (N : Network) (outcome : Outcome) → change_step b N ≡ Some outcome → Counts N outcome
+change_counts : (b : Bundle) (N : Network) (outcome : NextNetwork) → change_step b N ≡ Some outcome → Counts N outcome
 change_counts b N outcome h =
     let did = change_is_nobodys b N outcome h in
     record {
@@ -132,17 +132,17 @@ change_counts b N outcome h =
       visible = did.2 ∙ sym (cond-false (is_aux outcome.entry) N.visible (suc N.visible) did.0.visible) ∙ seen_one outcome.entry N.visible;
     }
 
-move_counts : (b : Bundle) (N : Network) (m : NetMove) (outcome : Outcome) → move_step b N m ≡ Some outcome → Counts N outcome
+move_counts : (b : Bundle) (N : Network) (m : NetMove) (outcome : NextNetwork) → move_step b N m ≡ Some outcome → Counts N outcome
 move_counts b N move.Change outcome h = change_counts b N outcome h
 move_counts b N (move.Act q a) outcome h = act_counts b N q a outcome h
 
 -- what the schedule takes is a move
-taken : (b : Bundle) (N : Network) (m : Option NetMove) (outcome : Outcome) → option_and_then (move_step b N) m ≡ Some outcome → Counts N outcome
+taken : (b : Bundle) (N : Network) (m : Option NetMove) (outcome : NextNetwork) → option_and_then (move_step b N) m ≡ Some outcome → Counts N outcome
 taken b N None outcome h = absurd (none_some h)
 taken b N (Some m) outcome h = move_counts b N m outcome h
 
 -- where the next change is due, it is what the schedule takes
-due_taken : (b : Bundle) (N : Network) (outcome : Outcome) → network_ended b N ≡ false → change_due b.script N.changes N.visible ≡ true → scheduled b N None ≡ Some outcome
+due_taken : (b : Bundle) (N : Network) (outcome : NextNetwork) → network_ended b N ≡ false → change_due b.script N.changes N.visible ≡ true → scheduled b N None ≡ Some outcome
     → change_step b N ≡ Some outcome
 due_taken b N outcome goes due h = sym (ap (λ ms. option_and_then (move_step b N) (slice_get ms 0)) first) ∙ h
   where
@@ -150,7 +150,7 @@ due_taken b N outcome goes due h = sym (ap (λ ms. option_and_then (move_step b 
     first = ap (λ ms. ms ++ flat_map (role_moves N) b.cast)
         (cond-true (change_due b.script N.changes N.visible && not (network_ended b N)) (move.Change ∷ []) [] (λ j. due j && not (goes j)))
 
-not_due : (b : Bundle) (N : Network) (outcome : Outcome) → network_ended b N ≡ false → scheduled b N None ≡ Some outcome → is_some (doer outcome.entry) ≡ true
+not_due : (b : Bundle) (N : Network) (outcome : NextNetwork) → network_ended b N ≡ false → scheduled b N None ≡ Some outcome → is_some (doer outcome.entry) ≡ true
     → change_due b.script N.changes N.visible ≡ false
 not_due b N outcome goes h does = by_test (change_due b.script N.changes N.visible) refl
   where
@@ -166,10 +166,10 @@ continued_prompt : (b : Bundle) (count : ℕ) (N : Network) → PromptFrom b.scr
 continued_prompt b zero N = tt
 continued_prompt b (suc count) N = by_test (network_ended b N) refl (λ M. continued_prompt b count M)
   where
-    entries_of : Option Outcome → List Entry
-    entries_of o = option_map_or (λ (outcome : Outcome). outcome.entry ∷ continued b None count outcome.network) o []
+    entries_of : Option NextNetwork → List Entry
+    entries_of o = option_map_or (λ (outcome : NextNetwork). outcome.entry ∷ continued b None count outcome.network) o []
 
-    by_outcome : (o : Option Outcome) → scheduled b N None ≡ o → network_ended b N ≡ false
+    by_outcome : (o : Option NextNetwork) → scheduled b N None ≡ o → network_ended b N ≡ false
         → ((M : Network) → PromptFrom b.script M.changes M.visible (continued b None count M)) → PromptFrom b.script N.changes N.visible (entries_of o)
     by_outcome None is goes more = tt
     by_outcome (Some outcome) is goes more =

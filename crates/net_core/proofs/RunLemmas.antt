@@ -10,7 +10,7 @@ use Rattle.dioc_terms.specs.declared.entries.Act.{Act}
 use Rattle.dioc_terms.specs.declared.entries.Act.TheVariants as act
 use Rattle.dioc_terms.specs.declared.entries.Entry.{Entry}
 use Rattle.dioc_terms.specs.declared.bundles.Bundle.{Bundle}
-use Rattle.marked_laws.specs.Network.{Network, Outcome, act_step, network_ended, network_start}
+use Rattle.marked_laws.specs.Network.{Network, NextNetwork, act_step, network_ended, network_start}
 use Rattle.net_core.specs.declared.moves.Move.{Move}
 use Rattle.net_core.specs.declared.moves.Move.TheVariants as move
 use Rattle.net_core.specs.declared.moves.Finish.{Finish}
@@ -31,13 +31,13 @@ continued-ended b zero N ends = refl
 continued-ended b (suc count) N ends = rw ends refl
 
 -- a network that goes on takes its first move
-continued-goes : (b : Bundle) (count : ℕ) (N : Network) (q : Role) (a : Act) (outcome : Outcome) → network_ended b N ≡ false
+continued-goes : (b : Bundle) (count : ℕ) (N : Network) (q : Role) (a : Act) (outcome : NextNetwork) → network_ended b N ≡ false
     → slice_get (moves b N) 0 ≡ Some (move.Act q a) → act_step b N q a ≡ Some outcome
     → continued b None (suc count) N ≡ outcome.entry ∷ continued b None count outcome.network
 continued-goes b count N q a outcome goes first steps =
     let taken : scheduled b N None ≡ Some outcome = ap (option_and_then (move_step b N)) first ∙ steps in
-    ap (λ t. if t then [] else option_map_or (λ (o : Outcome). o.entry ∷ continued b None count o.network) (scheduled b N None) []) goes
-    ∙ ap (λ r. option_map_or (λ (o : Outcome). o.entry ∷ continued b None count o.network) r []) taken
+    ap (λ t. if t then [] else option_map_or (λ (o : NextNetwork). o.entry ∷ continued b None count o.network) (scheduled b N None) []) goes
+    ∙ ap (λ r. option_map_or (λ (o : NextNetwork). o.entry ∷ continued b None count o.network) r []) taken
 
 -- a run that has ended
 pub finishes_ended : (b : Bundle) (net : NetState) → IsNetOf b net → network_ended b (network_of b net) ≡ true → Finishes b net net finish.Ended

@@ -11,7 +11,7 @@ use Rattle.dioc_terms.specs.Equality.{entry_eq}
 use Rattle.dioc_terms.specs.Messages.{doer, act_of}
 use Rattle.dpoc_process.specs.Laws.{OffersAreSteps}
 use Rattle.marked_laws.specs.Laws.{IsSound, Progress, Simulation}
-use Rattle.marked_laws.specs.Network.{Network, Outcome, act_step, change_step, network_after, network_step, run_from, network_run, network_ended}
+use Rattle.marked_laws.specs.Network.{Network, NextNetwork, act_step, change_step, network_after, network_step, run_from, network_run, network_ended}
 use Rattle.marked_laws.proofs.Equality.{entry_itself}
 use Rattle.marked_laws.proofs.Extension.{extensions}
 use Rattle.marked_laws.proofs.Mark.{Mark}
@@ -31,7 +31,7 @@ abbrev step_by : Bundle → Network → Entry → Option Role → Option Act →
 step_by b N e (Some r) (Some a) = network_after e (act_step b N r a)
 step_by b N e _ _ = network_after e (change_step b N)
 
-after_own : (outcome : Outcome) (o : Option Outcome) → o ≡ Some outcome → network_after outcome.entry o ≡ Some outcome.network
+after_own : (outcome : NextNetwork) (o : Option NextNetwork) → o ≡ Some outcome → network_after outcome.entry o ≡ Some outcome.network
 after_own outcome o h = ap (network_after outcome.entry) h ∙ cond-true (entry_eq outcome.entry outcome.entry) (Some outcome.network) None (entry_itself outcome.entry)
 
 -- a run of one part and then of another
@@ -58,7 +58,7 @@ record Onward (b : Bundle) (N : Network) (count : ℕ) (entries : List Entry) : 
 
 module _ (known : Known) (progress : Progress) (offered_steps : OffersAreSteps) (b : Bundle) (sound : IsSound b) where
   -- a move that is done is a step of the network
-  move_after : (N : Network) (M : Mark) → Marks b.cast N M → (m : Move) (outcome : Outcome) → move_step b N m ≡ Some outcome
+  move_after : (N : Network) (M : Mark) → Marks b.cast N M → (m : Move) (outcome : NextNetwork) → move_step b N m ≡ Some outcome
       → network_step b N outcome.entry ≡ Some outcome.network
   move_after N M marks move.Change outcome h =
       ap (λ who. step_by b N outcome.entry who (act_of outcome.entry)) (change_is_nobodys b N outcome h) ∙ after_own outcome (change_step b N) h
@@ -78,7 +78,7 @@ module _ (known : Known) (progress : Progress) (offered_steps : OffersAreSteps) 
 
   -- a network that has not ended takes a next entry
   record Next (N : Network) (seed : Option ℕ) : Type 0 where
-    outcome : Outcome
+    outcome : NextNetwork
     takes : scheduled b N seed ≡ Some outcome
     steps : network_step b N outcome.entry ≡ Some outcome.network
 
@@ -94,7 +94,7 @@ module _ (known : Known) (progress : Progress) (offered_steps : OffersAreSteps) 
   onward (suc count) seed H N h = by_test (network_ended b N) refl (λ outcome k. onward count (next_seed seed) (H ++ outcome.entry ∷ []) outcome.network k)
     where
       by_test : (t : Bool) → network_ended b N ≡ t
-          → ((outcome : Outcome) → network_run b (H ++ outcome.entry ∷ []) ≡ Some outcome.network → Onward b outcome.network count (continued b (next_seed seed) count outcome.network))
+          → ((outcome : NextNetwork) → network_run b (H ++ outcome.entry ∷ []) ≡ Some outcome.network → Onward b outcome.network count (continued b (next_seed seed) count outcome.network))
           → Onward b N (suc count) (continued b seed (suc count) N)
       by_test true ends more =
           subst (Onward b N (suc count)) (sym (cond-true (network_ended b N) [] _ ends)) (record { network = N; runs = refl; within = omega arith; finished = inl ends })
@@ -103,7 +103,7 @@ module _ (known : Known) (progress : Progress) (offered_steps : OffersAreSteps) 
           let rest = more next.outcome (run_append b _ H (next.outcome.entry ∷ []) N h ∙ ap (option_and_then (λ n. Some n)) next.steps) in
           let entries : continued b seed (suc count) N ≡ next.outcome.entry ∷ continued b (next_seed seed) count next.outcome.network =
           cond-false (network_ended b N) [] _ goes
-          ∙ ap (λ o. option_map_or (λ (outcome : Outcome). outcome.entry ∷ continued b (next_seed seed) count outcome.network) o []) next.takes in
+          ∙ ap (λ o. option_map_or (λ (outcome : NextNetwork). outcome.entry ∷ continued b (next_seed seed) count outcome.network) o []) next.takes in
           subst (Onward b N (suc count)) (sym entries) (record {
             network = rest.network;
             runs = ap (option_and_then (λ n. run_from b n (continued b (next_seed seed) count next.outcome.network))) next.steps ∙ rest.runs;

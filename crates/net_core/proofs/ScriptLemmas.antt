@@ -13,7 +13,7 @@ use Rattle.dioc_terms.specs.declared.bundles.Bundle.{Bundle}
 use Rattle.dioc_terms.specs.Bundles.{IsFormed, adds, numbers_from}
 use Rattle.dioc_terms.specs.Messages.{doer}
 use Rattle.global_steps.specs.Follow.{change_entry}
-use Rattle.marked_laws.specs.Network.{Network, Outcome, change_step}
+use Rattle.marked_laws.specs.Network.{Network, NextNetwork, change_step}
 use Rattle.marked_laws.proofs.Networks.{after_change, entry_outcome, script_outcome}
 use Rattle.marked_laws.proofs.Shapes.{none_some, some_same, if_some}
 use Rattle.net_core.specs.Schedule.{change_due}
@@ -72,7 +72,7 @@ change_steps b N formed due =
     let is : script_outcome b N (slice_get b.script N.changes) ≡ Some (record { entry = shown.0; network = after_change b N next.0 }) =
     ap (script_outcome b N) next.1 ∙ ap (entry_outcome b N next.0) shown.1
     ∙ cond-true (nat_le (next.0).after N.visible) (Some (record { entry = shown.0; network = after_change b N next.0 })) None next.2 in
-    subst (λ (o : Option Outcome). IsSome o) (sym is) refl
+    subst (λ (o : Option NextNetwork). IsSome o) (sym is) refl
 
 change_nobody : (rules : List Rule) (c : Change) (e : Entry) → change_entry rules c ≡ Some e → doer e ≡ None
 change_nobody rules (change.Add m) e h = of_rule (slice_get rules m) h
@@ -83,17 +83,17 @@ change_nobody rules (change.Add m) e h = of_rule (slice_get rules m) h
 change_nobody rules (change.Drop name) e h = ap doer (sym (some_same h))
 change_nobody rules (change.Env key v) e h = ap doer (sym (some_same h))
 
-entry_nobody : (b : Bundle) (N : Network) (timed : Timed) (outcome : Outcome) (o : Option Entry) → change_entry b.rules timed.change ≡ o
+entry_nobody : (b : Bundle) (N : Network) (timed : Timed) (outcome : NextNetwork) (o : Option Entry) → change_entry b.rules timed.change ≡ o
     → entry_outcome b N timed o ≡ Some outcome → doer outcome.entry ≡ None
 entry_nobody b N timed outcome None is h = absurd (none_some h)
 entry_nobody b N timed outcome (Some e) is h =
     let parts = if_some (nat_le timed.after N.visible) (record { entry = e; network = after_change b N timed }) h in
-    ap (λ (x : Outcome). doer x.entry) parts.1 ∙ change_nobody b.rules timed.change e is
+    ap (λ (x : NextNetwork). doer x.entry) parts.1 ∙ change_nobody b.rules timed.change e is
 
-script_nobody : (b : Bundle) (N : Network) (outcome : Outcome) (o : Option Timed) → script_outcome b N o ≡ Some outcome → doer outcome.entry ≡ None
+script_nobody : (b : Bundle) (N : Network) (outcome : NextNetwork) (o : Option Timed) → script_outcome b N o ≡ Some outcome → doer outcome.entry ≡ None
 script_nobody b N outcome None h = absurd (none_some h)
 script_nobody b N outcome (Some timed) h = entry_nobody b N timed outcome (change_entry b.rules timed.change) refl h
 
 -- the entry of a change is nobody's
-pub change_is_nobodys : (b : Bundle) (N : Network) (outcome : Outcome) → change_step b N ≡ Some outcome → doer outcome.entry ≡ None
+pub change_is_nobodys : (b : Bundle) (N : Network) (outcome : NextNetwork) → change_step b N ≡ Some outcome → doer outcome.entry ≡ None
 change_is_nobodys b N outcome h = script_nobody b N outcome (slice_get b.script N.changes) h

@@ -8,7 +8,7 @@ use Rattle.dioc_terms.specs.Bundles.{IsFormed, IsFormedTerm, IsFormedRule, is_id
 use Rattle.dioc_terms.specs.Expressions.{Const}
 use Rattle.dioc_terms.specs.Names.{is_reserved, reserved_words}
 use Rattle.dioc_terms.specs.Supported.{IsSupported, is_one_interaction}
-use Rattle.dioc_terms.specs.Terms.{Term, Com, mark_at, term, cast_of}
+use Rattle.dioc_terms.specs.Terms.{Term, Com, index_at, term, cast_of}
 
 pub a_is_identifier : is_identifier (codes "a") ≡ true
 unfolding is_reserved reserved_words
@@ -28,7 +28,7 @@ x_is_identifier = refl
 
 -- `hi: a(1) -> b(x)`, to a receiver of this name
 abbrev pub greeting : List ℕ → Term
-greeting receiver = Com (mark_at 0) (codes "hi") (record { 0 = codes "a" }) (Const (value.Int (pos 1))) (record { 0 = receiver }) (codes "x")
+greeting receiver = Com (index_at 0) (codes "hi") (record { 0 = codes "a" }) (Const (value.Int (pos 1))) (record { 0 = receiver }) (codes "x")
 
 -- a bundle of the interaction alone
 pub record Greets (receiver : List ℕ) (b : Bundle) : Type 0 where

@@ -15,7 +15,7 @@ use Rattle.dioc_terms.specs.Expressions.{Const}
 use Rattle.dioc_terms.specs.Supported.{IsSupported}
 use Rattle.dioc_terms.specs.Terms.{Com, term}
 use Rattle.dpoc_process.specs.Steps.{offers, is_offered}
-use Rattle.marked_laws.specs.Network.{Network, Outcome, act_step, network_run, network_start, network_ended}
+use Rattle.marked_laws.specs.Network.{Network, NextNetwork, act_step, network_run, network_start, network_ended}
 use Rattle.net_core.specs.declared.moves.Move.{Move}
 use Rattle.net_core.specs.declared.moves.Move.TheVariants as move
 use Rattle.net_core.specs.declared.moves.StepFault.{StepFault}
@@ -91,7 +91,7 @@ step_fault b net q a = first_fault (network_ended b (network_of b net)) (nat_le 
 
 -- the net has made the step of this act of this role
 pub record Steps (b : Bundle) (old : NetState) (q : Role) (a : Act) (new : NetState) : Type 0 where
-  pub outcome : Outcome
+  pub outcome : NextNetwork
   pub no_fault : step_fault b old q a ≡ None
   pub steps : act_step b (network_of b old) q a ≡ Some outcome
   pub history : new.history ≡ old.history ++ outcome.entry ∷ []

@@ -9,7 +9,7 @@ use Rattle.dioc_terms.specs.declared.bundles.Timed.{Timed}
 use Rattle.dioc_terms.specs.declared.bundles.Bundle.{Bundle}
 use Rattle.dioc_terms.specs.Messages.{visible, doer}
 use Rattle.dpoc_process.specs.Steps.{offers}
-use Rattle.marked_laws.specs.Network.{Network, Outcome, act_step, change_step, network_run, network_ended, pending_at}
+use Rattle.marked_laws.specs.Network.{Network, NextNetwork, act_step, change_step, network_run, network_ended, pending_at}
 use Rattle.net_core.specs.declared.moves.Move.{Move}
 use Rattle.net_core.specs.declared.moves.Move.TheVariants as move
 
@@ -31,7 +31,7 @@ abbrev pub moves : Bundle → Network → List Move
 moves b N =
     (if change_due b.script N.changes N.visible && not (network_ended b N) then move.Change ∷ [] else []) ++ flat_map (role_moves N) b.cast
 
-abbrev pub move_step : Bundle → Network → Move → Option Outcome
+abbrev pub move_step : Bundle → Network → Move → Option NextNetwork
 move_step b N move.Change = change_step b N
 move_step b N (move.Act q a) = act_step b N q a
 
@@ -48,7 +48,7 @@ abbrev pub next_seed : Option ℕ → Option ℕ
 next_seed seed = option_map next_number seed
 
 -- what a schedule takes next
-abbrev pub scheduled : Bundle → Network → Option ℕ → Option Outcome
+abbrev pub scheduled : Bundle → Network → Option ℕ → Option NextNetwork
 scheduled b N seed = option_and_then (move_step b N) (slice_get (moves b N) (move_place seed (length (moves b N))))
 
 -- the entries that a schedule takes from a network on: until it has ended, and at most so many
@@ -56,7 +56,7 @@ abbrev pub continued : Bundle → Option ℕ → ℕ → Network → List Entry
 continued b seed zero N = []
 continued b seed (suc count) N =
     if network_ended b N then [] else
-    option_map_or (λ (outcome : Outcome). outcome.entry ∷ continued b (next_seed seed) count outcome.network) (scheduled b N seed) []
+    option_map_or (λ (outcome : NextNetwork). outcome.entry ∷ continued b (next_seed seed) count outcome.network) (scheduled b N seed) []
 
 -- a history continued by the schedule, to at most limit entries
 abbrev pub sched_from : Bundle → List Entry → Option ℕ → ℕ → List Entry

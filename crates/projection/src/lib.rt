@@ -1,7 +1,6 @@
 //! What each role does of a choreography.
 #![tactic(auto)]
 
-mod forms;
 mod laws;
 mod named;
 mod projected;

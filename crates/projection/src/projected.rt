@@ -8,11 +8,8 @@ ghost use Rattle.dioc_terms.specs.Terms.{term, is_in, roles_in};
 ghost use Rattle.projection.specs.Leaders.{is_construct, leads};
 ghost use Rattle.projection.specs.Projection.{projected};
 
-use crate::forms::{
-    assign, follow_choice, follow_loop, follow_scope, lead_choice, lead_loop, read, receive, send,
-};
 use crate::named::{names, others, roles_in};
-use dioc_terms::{Bindings, Choreo, Index, Memory, Proc, Role, ScopeHead};
+use dioc_terms::{Bindings, Choreo, Index, Memory, Proc, Role, ScopeHead, new_box};
 use std::alloc::Global;
 
 /// The process of a role: the constructs of the choreography in which it takes part, and nothing in place of the others.
@@ -61,7 +58,7 @@ fn boxed_part(
 ) -> Result<Box<Proc>, Memory>
     ensures { IfOk result (λ made. process made.value ≡ projected cast.now (term choreo.now) role.now) }
 {
-    boxed(alloc, part(alloc, choreo, role, cast)?)
+    new_box(alloc, part(alloc, choreo, role, cast)?)
 }
 
 /// The process of the role in a choice, a loop or a scope.
@@ -109,7 +106,7 @@ fn lead(alloc: Global, whole: &Choreo, role: &Role, cast: &[Role]) -> Result<Pro
             let yes = boxed_part(alloc, yes, role, cast)?;
             let no = boxed_part(alloc, no, role, cast)?;
             let others = others(alloc, cast, leader, whole)?;
-            lead_choice(alloc, *index, guard, others, yes, no)
+            Proc::lead_choice(alloc, *index, guard, others, yes, no)
         }
         Choreo::While {
             index,
@@ -119,7 +116,7 @@ fn lead(alloc: Global, whole: &Choreo, role: &Role, cast: &[Role]) -> Result<Pro
         } => {
             let body = boxed_part(alloc, body, role, cast)?;
             let others = others(alloc, cast, leader, whole)?;
-            lead_loop(alloc, *index, guard, others, body)
+            Proc::lead_loop(alloc, *index, guard, others, body)
         }
         Choreo::Scope {
             index,
@@ -178,7 +175,7 @@ fn follow(alloc: Global, whole: &Choreo, role: &Role, cast: &[Role]) -> Result<P
         } => {
             let yes = boxed_part(alloc, yes, role, cast)?;
             let no = boxed_part(alloc, no, role, cast)?;
-            follow_choice(alloc, *index, leader, yes, no)
+            Proc::follow_choice(alloc, *index, leader, yes, no)
         }
         Choreo::While {
             index,
@@ -187,7 +184,7 @@ fn follow(alloc: Global, whole: &Choreo, role: &Role, cast: &[Role]) -> Result<P
             ..
         } => {
             let body = boxed_part(alloc, body, role, cast)?;
-            follow_loop(alloc, *index, leader, body)
+            Proc::follow_loop(alloc, *index, leader, body)
         }
         Choreo::Scope {
             index,
@@ -196,7 +193,7 @@ fn follow(alloc: Global, whole: &Choreo, role: &Role, cast: &[Role]) -> Result<P
             ..
         } => {
             let body = inside(alloc, body, role, cast)?;
-            follow_scope(alloc, *index, leader, body)
+            Proc::follow_scope(alloc, *index, leader, body)
         }
         _ => unreachable!(),
     }
@@ -211,7 +208,7 @@ fn inside(alloc: Global, body: &Choreo, role: &Role, cast: &[Role]) -> Result<Bo
     if names(body, role) {
         return boxed_part(alloc, body, role, cast);
     }
-    boxed(alloc, Proc::Skip)
+    new_box(alloc, Proc::Skip)
 }
 
 /// The process of the role in a term with no term inside.
@@ -233,9 +230,9 @@ fn leaf_part(alloc: Global, leaf: &Choreo, role: &Role, cast: &[Role]) -> Result
             var,
         } => {
             if role == from {
-                send(alloc, *index, op, to, expr)
+                Proc::send(alloc, *index, op, to, expr)
             } else {
-                receive(alloc, *index, op, from, var)
+                Proc::receive(alloc, *index, op, from, var)
             }
         }
         Choreo::Set {
@@ -243,15 +240,8 @@ fn leaf_part(alloc: Global, leaf: &Choreo, role: &Role, cast: &[Role]) -> Result
             var,
             expr,
             ..
-        } => assign(alloc, *index, var, expr),
-        Choreo::Input { index, var, .. } => read(alloc, *index, var),
+        } => Proc::assign(alloc, *index, var, expr),
+        Choreo::Input { index, var, .. } => Proc::read(alloc, *index, var),
         _ => Ok(Proc::Skip),
     }
-}
-
-/// The process in a box.
-fn boxed(alloc: Global, proc: Proc) -> Result<Box<Proc>, Memory>
-    ensures { IfOk result (λ made. made.value ≡ proc) }
-{
-    Ok(Box::new(alloc, proc)?)
 }

@@ -12,7 +12,7 @@ use Rattle.dioc_terms.specs.declared.processes.Payload.{Payload}
 use Rattle.dioc_terms.specs.Equality.{key_eq}
 use Rattle.dioc_terms.specs.EqualityLemmas.{equivalence_from_Decides, key_eq-decides}
 use Rattle.dioc_terms.specs.Processes.{Load, load}
-use Rattle.role_mailbox.specs.Pending.{messages, payload_at, ChangesOnly, HasDistinctKeys}
+use Rattle.role_mailbox.specs.Pending.{messages, payload_at, ChangesOnly, HoldsKeysOnce}
 use Rattle.role_mailbox.specs.declared.mail.Mail.{Mail}
 
 abbrev shown : List (Key × Payload) → List (Key × Load)
@@ -73,7 +73,7 @@ put_counts old new key payload free inserted = ap (λ entries. length (shown ent
         by false none rest = let more = rest none in omega arith
 
 -- a map whose keys are distinct shows distinct keys
-pub distinct_shown : (mail : Mail) → IsDistinct key_eq (keys_of mail.pending.entries) → HasDistinctKeys mail
+pub distinct_shown : (mail : Mail) → IsDistinct key_eq (keys_of mail.pending.entries) → HoldsKeysOnce mail
 distinct_shown mail distinct = subst (IsDistinct key_eq) (sym (keys-shown mail.pending.entries)) distinct
 
 -- where one key of the map is changed, one key of the mail is

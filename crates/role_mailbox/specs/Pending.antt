@@ -25,5 +25,5 @@ pub record ChangesOnly (old new : Mail) (key : Key) (payload : Option Load) : Ty
   pub at : (other : Key) → payload_at other new ≡ (if key_eq other key then payload else payload_at other old)
 
 -- no two messages have one key
-abbrev pub HasDistinctKeys : Mail → Type 0
-HasDistinctKeys mail = IsDistinct key_eq (keys_of (messages mail))
+abbrev pub HoldsKeysOnce : Mail → Type 0
+HoldsKeysOnce mail = IsDistinct key_eq (keys_of (messages mail))

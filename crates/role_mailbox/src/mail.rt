@@ -16,7 +16,7 @@ impl Mail {
     ghost use Rattle.std.specs.Option.{option_map};
     ghost use Rattle.dioc_terms.specs.declared.processes.Key.{Key};
     ghost use Rattle.dioc_terms.specs.Processes.{load};
-    ghost use Rattle.role_mailbox.specs.Pending.{messages, payload_at, room, ChangesOnly, HasDistinctKeys};
+    ghost use Rattle.role_mailbox.specs.Pending.{messages, payload_at, room, ChangesOnly, HoldsKeysOnce};
 
     /// No message is pending. It takes no memory.
     pub fn new(alloc: Global) -> Mail
@@ -46,7 +46,7 @@ impl Mail {
         ensures put { ChangesOnly self.old self.new key (Some (load payload)) }
         ensures count { length (messages self.new) ≡ length (messages self.old) + 1 }
         ensures room_left { room self.old ≤ room self.new + 1 }
-        ensures distinct { HasDistinctKeys self.new }
+        ensures distinct { HoldsKeysOnce self.new }
     {
         // The key is new, so what is dropped is no payload.
         drop(self.pending.insert(key, payload).unwrap());
@@ -60,7 +60,7 @@ impl Mail {
         ensures count { length (messages self.new) + (if is_some result then 1 else 0) ≡ length (messages self.old) }
         ensures same { IfNone result (messages self.new ≡ messages self.old) }
         ensures keeps_room { room self.old ≤ room self.new }
-        ensures distinct { HasDistinctKeys self.new }
+        ensures distinct { HoldsKeysOnce self.new }
     {
         self.pending.swap_remove(key)
     }
@@ -78,7 +78,7 @@ impl Mail {
     pub fn len(&self) -> usize
         ensures count { result ≡ length (messages self.now) }
         ensures none { (result ≡ 0) ↔ ((key : Key) → payload_at key self.now ≡ None) }
-        ensures distinct { HasDistinctKeys self.now }
+        ensures distinct { HoldsKeysOnce self.now }
     {
         self.pending.len()
     }

@@ -14,7 +14,7 @@ use Rattle.dioc_terms.specs.declared.values.Value.{Value}
 use Rattle.dioc_terms.specs.Equality.{role_eq, member}
 use Rattle.dioc_terms.specs.EqualityLemmas.{role_eq-decides}
 use Rattle.dioc_terms.specs.Expressions.{expression}
-use Rattle.dioc_terms.specs.RuleLaws.{better, chosen_among, ChoicesGoOn}
+use Rattle.dioc_terms.specs.RuleLaws.{greater_of, chosen_among, ChoicesGoOn}
 use Rattle.dioc_terms.specs.Rules.{Book, fits, no_lower}
 use Rattle.dioc_terms.specs.Stores.{Store}
 use Rattle.dioc_terms.specs.TermLaws.{CastsAreRoles, MentionsAreRoles}
@@ -114,7 +114,7 @@ module _ (rules : List Rule) where
 
   matches-next : (best : Option (ℕ × ℤ)) (chosen : Option ℕ) (name : List ℕ) (kept : KeptRule) (fit : Bool) → IsKept rules name kept → Matches rules best chosen
       → Matches rules (if option_map_or (λ b. int_lt b.1 kept.priority) best true && fit then Some (kept.number, kept.priority) else best)
-      (if fit then better rules chosen kept.number else chosen)
+      (if fit then greater_of rules chosen kept.number else chosen)
   matches-next None None name kept true is m = record { rule = is.rule; number = refl; at = is.at; priority = is.priority }
   matches-next None None name kept false is m = tt
   matches-next (Some best) (Some n) name kept true is m = by (int_le kept.priority best.1) refl (compared n best name kept m is)
@@ -157,7 +157,7 @@ module _ (rules : List Rule) where
         let fit = fits-kept mentioned casts book head s env e.0 e.1 known all.0 in
         let step = matches-next best (chosen_among rules book head s front) e.0 e.1 (kept_fits head s env e.1) all.0 m in
         let more = goes.one_more rules book head s front e.1.number
-        ∙ ap (λ (t : Bool). if t then better rules (chosen_among rules book head s front) e.1.number else chosen_among rules book head s front) fit in
+        ∙ ap (λ (t : Bool). if t then greater_of rules (chosen_among rules book head s front) e.1.number else chosen_among rules book head s front) fit in
         subst (λ (l : List ℕ). Matches rules (fold (next_best head s env) (next_best head s env best e.1) (map (λ e. e.1) es)) (chosen_among rules book head s l))
         (append_assoc front (e.1.number ∷ []) (order_of es))
         (matches-all (front ++ e.1.number ∷ []) es (next_best head s env best e.1) all.1

@@ -12,7 +12,7 @@ use Rattle.dioc_terms.specs.declared.values.Value.TheVariants as value
 use Rattle.dioc_terms.specs.Bundles.{IsFormedTerm, IsFormedRule, is_identifier, is_formed_condition, adds, is_formed_change, is_formed_timed, largest}
 use Rattle.dioc_terms.specs.Expressions.{Const, Env, expression}
 use Rattle.dioc_terms.specs.Names.{is_reserved, reserved_words}
-use Rattle.dioc_terms.specs.Terms.{Term, Set, mark_at, term}
+use Rattle.dioc_terms.specs.Terms.{Term, Set, index_at, term}
 use Rattle.std.specs.Prelude.{nat_le}
 
 pub k_is_identifier : is_identifier (107 ∷ []) ≡ true
@@ -28,7 +28,7 @@ k_is_condition name e = λ j. (ap is_identifier e ∙ k_is_identifier) j && true
 
 -- `x` at a role is set to nil
 abbrev pub setting : ℕ → Term
-setting role = Set (mark_at 0) (120 ∷ []) (record { 0 = role ∷ [] }) (Const value.Nil)
+setting role = Set (index_at 0) (120 ∷ []) (record { 0 = role ∷ [] }) (Const value.Nil)
 
 setting_formed : (role : ℕ) → is_identifier (role ∷ []) ≡ true → IsFormedTerm (setting role)
 setting_formed role named = record { marks = refl; parts = λ j. x_is_identifier j && named j && true; depth = omega arith }

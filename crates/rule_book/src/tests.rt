@@ -5,7 +5,7 @@ ghost use Rattle.std.specs.List.{list_all};
 ghost use Rattle.dioc_terms.specs.Bundles.{IsFormed, IsFormedRule, adds, is_formed_condition, is_formed_timed, is_identifier};
 ghost use Rattle.dioc_terms.specs.declared.values.Value.TheVariants.{Nil};
 ghost use Rattle.dioc_terms.specs.Expressions.{Const, expression};
-ghost use Rattle.dioc_terms.specs.Terms.{Set, mark_at, term};
+ghost use Rattle.dioc_terms.specs.Terms.{Set, index_at, term};
 ghost use Rattle.rule_book.specs.KeptBooks.{coming};
 
 use crate::Book;
@@ -69,7 +69,7 @@ fn condition(alloc: Global, is_key: bool) -> Result<Expr, NameFault>
 
 /// `x` at the role is set to nil.
 fn body(alloc: Global, letter: u8) -> Result<Choreo, NameFault>
-    ensures { IfOk result (λ body. term body ≡ Set (mark_at 0) (120 ∷ []) (record { 0 = letter ∷ [] }) (Const Nil)) }
+    ensures { IfOk result (λ body. term body ≡ Set (index_at 0) (120 ∷ []) (record { 0 = letter ∷ [] }) (Const Nil)) }
 {
     let var = name(alloc, b'x')?;
     let role = role(alloc, letter)?;

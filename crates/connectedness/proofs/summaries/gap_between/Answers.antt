@@ -1,13 +1,13 @@
 -- Either nobody is missing, or the first one that is.
 use Rattle.std.proofs.Common.{sym, ◌∙◌, subst}
 use Rattle.connectedness.specs.Connected.{gap_at}
-use Rattle.connectedness.specs.Summaries.{IsKept}
+use Rattle.connectedness.specs.Summaries.{IsGapOf}
 use Rattle.connectedness.proofs.SummaryLemmas.{none_missing, one_missing}
 use Rattle.connectedness.proofs.summaries.gap_between.Goals as goal
 
 pub returns-in_err-role : goal.returns-in_err-role
 returns-in_err-role c = λ cast I J a b.
-    subst (λ kept. IsKept cast kept (gap_at cast I J)) (sym c.from_residual-in_err-role.ensures)
+    subst (λ kept. IsGapOf cast kept (gap_at cast I J)) (sym c.from_residual-in_err-role.ensures)
     (none_missing c.roles_at_ends.ensures cast I J c.args.first.now c.args.second.now a b (sym c.first_missing.ensures ∙ c.in_err-role.was))
 
 pub returns : goal.returns

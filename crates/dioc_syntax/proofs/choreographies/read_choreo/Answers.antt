@@ -4,5 +4,5 @@ use Rattle.dioc_syntax.specs.Readers.{FormAt}
 use Rattle.dioc_syntax.proofs.Marks.{stands_marked}
 use Rattle.dioc_syntax.proofs.choreographies.read_choreo.Goals as goal
 
-pub returns-in-Some-clause-marked : goal.returns-in-Some-clause-marked
-returns-in-Some-clause-marked c = stands_marked (subst (FormAt c.args.version Choreography 512 256 0 c.new-text.result c.args.at) c.in-Some.is c.in_ok-found.ensures).front.reads.stands
+pub returns-in-Some-clause-indexed : goal.returns-in-Some-clause-indexed
+returns-in-Some-clause-indexed c = stands_marked (subst (FormAt c.args.version Choreography 512 256 0 c.new-text.result c.args.at) c.in-Some.is c.in_ok-found.ensures).front.reads.stands

@@ -1,6 +1,6 @@
 use Rattle.std.proofs.Common.{◌+◌, [], ◌∷◌, ◌++◌, refl, sym, ap, ◌∙◌, subst, drop}
 use Rattle.aioc_tokens.specs.declared.words.Sort.TheVariants as sorts
-use Rattle.aioc_tokens.specs.declared.words.Mark.TheVariants as mark
+use Rattle.aioc_tokens.specs.declared.words.Punctuator.TheVariants as punctuator
 use Rattle.aioc_tokens.specs.Fronts.{Longest}
 use Rattle.dioc_syntax.specs.Choreographies.{NamesRoles}
 use Rattle.dioc_syntax.proofs.HeadSorts.{follows}
@@ -15,7 +15,7 @@ loop-alloc-init c =
 
 pub role_at-requires-in-loop-alloc : goal.role_at-requires-in-loop-alloc
 role_at-requires-in-loop-alloc c =
-    (follows c.args.text.now (sorts.Symbol mark.Comma) (sorts.Name ∷ []) c.loop-alloc.next (c.loop-alloc.next + 1) refl (c.begins.ensures.0 cc)).1.0
+    (follows c.args.text.now (sorts.Symbol punctuator.Comma) (sorts.Name ∷ []) c.loop-alloc.next (c.loop-alloc.next + 1) refl (c.begins.ensures.0 cc)).1.0
 
 pub loop-alloc-preserved : goal.loop-alloc-preserved
 loop-alloc-preserved c =

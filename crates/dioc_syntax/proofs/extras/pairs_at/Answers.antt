@@ -1,5 +1,5 @@
 use Rattle.std.proofs.Common.{◌+◌, [], ◌∷◌, ◌++◌, refl, sym, ap, ◌∙◌, subst, drop}
-use Rattle.aioc_tokens.specs.declared.words.Mark.TheVariants as mark
+use Rattle.aioc_tokens.specs.declared.words.Punctuator.TheVariants as punctuator
 use Rattle.aioc_tokens.specs.Lexemes.{sort_of}
 use Rattle.aioc_tokens.specs.Fronts.{Longest}
 use Rattle.dioc_syntax.specs.Choreographies.{GivesProperties}
@@ -25,7 +25,7 @@ pub returns-in-None-2 : goal.returns-in-None-2
 returns-in-None-2 c =
     let so_far = c.loop-alloc.invariant in
     let none = subst (PairAt c.args.text.now (c.loop-alloc.next + 1)) c.in-None-2.is c.in_ok-pair-2.ensures in
-    let comma = symbol_here c.args.text.now mark.Comma c.loop-alloc.next (c.loop-alloc.next + 1) refl (c.has.ensures.value.0 c.loop-alloc-test.true) in (
+    let comma = symbol_here c.args.text.now punctuator.Comma c.loop-alloc.next (c.loop-alloc.next + 1) refl (c.has.ensures.value.0 c.loop-alloc-test.true) in (
       subst (λ props. Longest (GivesProperties (drop c.args.at c.args.text.now)) props (drop c.loop-alloc.next c.args.text.now)) (sym c.new.ensures)
           (given_ended so_far.given (λ others end rest comma2 given. none rest end (subst (λ list. GivesProperties list rest end) (behind_is refl comma2 comma) given))),
       so_far.after,

@@ -1,5 +1,5 @@
 use Rattle.std.proofs.Common.{◌+◌, sym, refl, [], ◌∷◌}
-use Rattle.aioc_tokens.specs.declared.words.Mark.TheVariants as mark
+use Rattle.aioc_tokens.specs.declared.words.Punctuator.TheVariants as punctuator
 use Rattle.aioc_tokens.specs.declared.words.Sort.TheVariants as sorts
 use Rattle.aioc_tokens.proofs.Places.{begins_here, symbol_at}
 use Rattle.expr_syntax.proofs.LeafFacts.{member_taken, member_none}
@@ -10,10 +10,10 @@ returns-then-not-begins c = member_none c.args.text.now c.args.at (λ begins. le
 
 pub name_at-requires : goal.name_at-requires
 name_at-requires c =
-    let here = begins_here c.args.text.now c.args.at (sorts.Symbol mark.Dot) (sorts.Name ∷ []) (c.begins.ensures.0 c.if-not-begins.false) in
+    let here = begins_here c.args.text.now c.args.at (sorts.Symbol punctuator.Dot) (sorts.Name ∷ []) (c.begins.ensures.0 c.if-not-begins.false) in
     sym (begins_here c.args.text.now (c.args.at + 1) sorts.Name [] here.1).0
 
 pub returns : goal.returns
 returns c =
-    let here = begins_here c.args.text.now c.args.at (sorts.Symbol mark.Dot) (sorts.Name ∷ []) (c.begins.ensures.0 c.if-not-begins.false) in
-    member_taken c.args.text.now c.args.at c.in_ok-name.name (symbol_at c.args.text.now c.args.at mark.Dot mark.Dot here.0 refl) c.in_ok-name.ensures.value
+    let here = begins_here c.args.text.now c.args.at (sorts.Symbol punctuator.Dot) (sorts.Name ∷ []) (c.begins.ensures.0 c.if-not-begins.false) in
+    member_taken c.args.text.now c.args.at c.in_ok-name.name (symbol_at c.args.text.now c.args.at punctuator.Dot punctuator.Dot here.0 refl) c.in_ok-name.ensures.value

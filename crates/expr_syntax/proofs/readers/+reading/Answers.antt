@@ -1,7 +1,7 @@
 use Rattle.std.proofs.Common.{◌+◌, ◌-◌, refl, sym, ◌∙◌, ap, subst, arith, drop}
 use Rattle.aioc_tokens.specs.Fronts.{NoFront}
 use Rattle.aioc_tokens.specs.declared.words.Word.TheVariants as word
-use Rattle.aioc_tokens.specs.declared.words.Mark.TheVariants as mark
+use Rattle.aioc_tokens.specs.declared.words.Punctuator.TheVariants as punctuator
 use Rattle.aioc_tokens.proofs.Places.{one_more, symbol_at, reserved_at}
 use Rattle.expr_syntax.specs.Readers.{FoundAt, Finds}
 use Rattle.expr_syntax.specs.Grammar.{IsShallow}
@@ -14,19 +14,19 @@ use Rattle.expr_syntax.proofs.readers.+reading.Goals as goal
 
 pub bracket_at-returns-in-None : goal.bracket_at-returns-in-None
 bracket_at-returns-in-None t c =
-    let begins = symbol_at c.args.text.now c.args.at mark.LeftParen mark.LeftParen (sym c.requires.sort) refl in
+    let begins = symbol_at c.args.text.now c.args.at punctuator.LeftParen punctuator.LeftParen (sym c.requires.sort) refl in
     bracket_none (drop (c.args.at + 1) c.args.text.now) begins (subst (FoundAt c.args.kind Disjunction (c.args.room - 1) c.args.deep c.args.text.now (c.args.at + 1)) c.in-None.is c.in_ok-inner.ensures)
 
 pub bracket_at-returns-then-stands : goal.bracket_at-returns-then-stands
 bracket_at-returns-then-stands t c =
-    let begins = symbol_at c.args.text.now c.args.at mark.LeftParen mark.LeftParen (sym c.requires.sort) refl in
+    let begins = symbol_at c.args.text.now c.args.at punctuator.LeftParen punctuator.LeftParen (sym c.requires.sort) refl in
     bracket_found c.args.kind c.args.room c.args.deep c.args.text.now c.args.at c.in-Some.inner (omega arith) begins
     (subst (FoundAt c.args.kind Disjunction (c.args.room - 1) c.args.deep c.args.text.now (c.args.at + 1)) c.in-Some.is c.in_ok-inner.ensures)
-    (symbol_at c.args.text.now c.in-Some.inner.at mark.RightParen mark.RightParen (c.stands.ensures.value.0 c.if-stands.true) refl) (c.stands.ensures.within c.if-stands.true (λ same. cc))
+    (symbol_at c.args.text.now c.in-Some.inner.at punctuator.RightParen punctuator.RightParen (c.stands.ensures.value.0 c.if-stands.true) refl) (c.stands.ensures.within c.if-stands.true (λ same. cc))
 
 pub bracket_at-returns-else-stands : goal.bracket_at-returns-else-stands
 bracket_at-returns-else-stands t c =
-    let begins = symbol_at c.args.text.now c.args.at mark.LeftParen mark.LeftParen (sym c.requires.sort) refl in
+    let begins = symbol_at c.args.text.now c.args.at punctuator.LeftParen punctuator.LeftParen (sym c.requires.sort) refl in
     let inner = subst (FoundAt c.args.kind Disjunction (c.args.room - 1) c.args.deep c.args.text.now (c.args.at + 1)) c.in-Some.is c.in_ok-inner.ensures in
     subst (FoundAt c.args.kind Unary c.args.room c.args.deep c.args.text.now c.args.at) (sym c.refused.ensures)
     (bracket_open begins inner.front (λ is. let found = c.stands.ensures.value.1 (sym is) in let missed = c.if-stands.false in cc))
@@ -92,14 +92,14 @@ follow-returns-in-Ok-None t c =
 
 pub minus_at-returns-in_ok-whole-in-Some : goal.minus_at-returns-in_ok-whole-in-Some
 minus_at-returns-in_ok-whole-in-Some t c =
-    let begins = symbol_at c.args.text.now c.args.at mark.Minus mark.Minus (sym c.requires.sort) refl in
+    let begins = symbol_at c.args.text.now c.args.at punctuator.Minus punctuator.Minus (sym c.requires.sort) refl in
     let here = c.in_ok-whole-in-Some in
     negated_found c.args.kind c.args.room c.args.deep c.args.text.now c.args.at c.in-Some.inner here.whole (omega arith) begins (sym c.is_number.ensures ∙ c.if-is_number.false)
     (subst (FoundAt c.args.kind Unary c.args.room (c.args.deep - 1) c.args.text.now (c.args.at + 1)) c.in-Some.is c.in_ok-inner.ensures) here.ensures.expr here.ensures.depth here.ensures.at
 
 pub minus_at-returns-in-None : goal.minus_at-returns-in-None
 minus_at-returns-in-None t c =
-    let begins = symbol_at c.args.text.now c.args.at mark.Minus mark.Minus (sym c.requires.sort) refl in
+    let begins = symbol_at c.args.text.now c.args.at punctuator.Minus punctuator.Minus (sym c.requires.sort) refl in
     minus_none (drop (c.args.at + 1) c.args.text.now) begins (sym c.is_number.ensures ∙ c.if-is_number.false)
     (subst (FoundAt c.args.kind Unary c.args.room (c.args.deep - 1) c.args.text.now (c.args.at + 1)) c.in-None.is c.in_ok-inner.ensures)
 

@@ -4,14 +4,14 @@ use Rattle.dioc_terms.specs.declared.values.Value.{Value}
 use Rattle.dioc_terms.specs.declared.values.Value.TheVariants as value
 use Rattle.dioc_terms.specs.declared.expressions.Oper.{Oper}
 use Rattle.dioc_terms.specs.declared.expressions.Oper.TheVariants.{Eq, Ne}
-use Rattle.dioc_terms.specs.declared.seen.Seen.{Seen}
-use Rattle.dioc_terms.specs.declared.seen.Seen.TheVariants as seen
+use Rattle.dioc_terms.specs.declared.borrowed.BorrowedValue.{BorrowedValue}
+use Rattle.dioc_terms.specs.declared.borrowed.BorrowedValue.TheVariants as seen
 
-abbrev pub seen_value : Seen → Value
-seen_value seen.Nil = value.Nil
-seen_value (seen.Bool b) = value.Bool b
-seen_value (seen.Int z) = value.Int z
-seen_value (seen.Text bytes) = value.Text bytes.now
+abbrev pub borrowed_value : BorrowedValue → Value
+borrowed_value seen.Nil = value.Nil
+borrowed_value (seen.Bool b) = value.Bool b
+borrowed_value (seen.Int z) = value.Int z
+borrowed_value (seen.Text bytes) = value.Text bytes.now
 
 -- the number, or Nil
 abbrev pub number_or_nil : Option ℤ → Value
