@@ -23,8 +23,8 @@ impl MemSource {
     /// first call has the number 1. This takes no memory.
     pub fn new(bytes: Vec<u8>, most: usize, fails: Vec<u64>) -> MemSource
         requires { 1 ≤ most }
-        ensures left { ⟦<MemSource as Source>⟧.left result ≡ Some bytes.items }
-        ensures faults { ⟦<MemSource as Source>⟧.faults result ≡ 0 }
+        ensures left { (⟦<MemSource as Source>⟧.state result).left ≡ Some bytes.items }
+        ensures faults { (⟦<MemSource as Source>⟧.state result).faults ≡ 0 }
         ensures plan { IsNewPlan (source_plan result) most fails.items }
     {
         MemSource {
@@ -38,9 +38,7 @@ impl Source for MemSource {
     ghost use Rattle.aioc_io.specs.Memory.{source_plan, bytes_to_read};
     ghost use Rattle.aioc_io.specs.Plan.{FailsNext, OneCall};
 
-    ghost left = { λ source. Some (bytes_to_read source) };
-
-    ghost faults = { λ source. source.plan.faults };
+    ghost state = { λ source. record { left = Some (bytes_to_read source); faults = source.plan.faults } };
 
     fn read(&mut self, into: &mut [u8]) -> Result<usize, Failed>
         ensures planned { IsErr result ↔ FailsNext (source_plan self.old) }
@@ -76,8 +74,8 @@ impl MemSink {
     /// first call has the number 1, and so does each that finds no memory. This takes none yet.
     pub fn new(alloc: Global, most: usize, fails: Vec<u64>) -> MemSink
         requires { 1 ≤ most }
-        ensures taken { ⟦<MemSink as Sink>⟧.taken result ≡ Some [] }
-        ensures faults { ⟦<MemSink as Sink>⟧.faults result ≡ 0 }
+        ensures taken { (⟦<MemSink as Sink>⟧.state result).taken ≡ Some [] }
+        ensures faults { (⟦<MemSink as Sink>⟧.state result).faults ≡ 0 }
         ensures plan { IsNewPlan (sink_plan result) most fails.items }
     {
         MemSink {
@@ -88,7 +86,7 @@ impl MemSink {
 
     /// The bytes that were taken.
     pub fn taken(&self) -> &[u8]
-        ensures { ⟦<MemSink as Sink>⟧.taken self.now ≡ Some result.now }
+        ensures { (⟦<MemSink as Sink>⟧.state self.now).taken ≡ Some result.now }
     {
         &self.taken
     }
@@ -98,9 +96,7 @@ impl Sink for MemSink {
     ghost use Rattle.aioc_io.specs.Memory.{sink_plan, bytes_taken};
     ghost use Rattle.aioc_io.specs.Plan.{FailsNext, OneCall};
 
-    ghost taken = { λ sink. Some (bytes_taken sink) };
-
-    ghost faults = { λ sink. sink.plan.faults };
+    ghost state = { λ sink. record { taken = Some (bytes_taken sink); faults = sink.plan.faults } };
 
     fn write(&mut self, piece: &[u8]) -> Result<usize, Failed>
         requires { 0 < length piece.now }

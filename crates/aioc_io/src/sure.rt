@@ -18,8 +18,8 @@ impl SureSource {
 
     /// All the bytes are left. This takes no memory.
     pub fn new(bytes: Vec<u8>) -> SureSource
-        ensures left { ⟦<SureSource as Source>⟧.left result ≡ Some bytes.items }
-        ensures faults { ⟦<SureSource as Source>⟧.faults result ≡ 0 }
+        ensures left { (⟦<SureSource as Source>⟧.state result).left ≡ Some bytes.items }
+        ensures faults { (⟦<SureSource as Source>⟧.state result).faults ≡ 0 }
     {
         SureSource { bytes, at: 0 }
     }
@@ -28,9 +28,7 @@ impl SureSource {
 impl Source for SureSource {
     ghost use Rattle.aioc_io.specs.Sure.{bytes_left};
 
-    ghost left = { λ source. Some (bytes_left source) };
-
-    ghost faults = { λ _. 0 };
+    ghost state = { λ source. record { left = Some (bytes_left source); faults = 0 } };
 
     /// Moves as many bytes as are left and fit.
     fn read(&mut self, into: &mut [u8]) -> Result<usize, Failed>
@@ -66,7 +64,7 @@ impl SureSink {
     /// No byte was taken. This takes no memory.
     pub fn new() -> SureSink
         ensures number { number_taken result ≡ 0 }
-        ensures faults { ⟦<SureSink as Sink>⟧.faults result ≡ 0 }
+        ensures faults { (⟦<SureSink as Sink>⟧.state result).faults ≡ 0 }
     {
         SureSink { count: 0 }
     }
@@ -75,9 +73,7 @@ impl SureSink {
 impl Sink for SureSink {
     ghost use Rattle.aioc_io.specs.Sure.{number_taken};
 
-    ghost taken = { λ _. None };
-
-    ghost faults = { λ _. 0 };
+    ghost state = { λ _. record { taken = None; faults = 0 } };
 
     /// Takes the whole piece.
     fn write(&mut self, piece: &[u8]) -> Result<usize, Failed>
