@@ -44,14 +44,18 @@ impl Source for MemSource {
         ensures planned { IsErr result ↔ FailsNext (source_plan self.old) }
         ensures call { OneCall (source_plan self.old) (source_plan self.new) }
         ensures count { IfOk result (λ count. count
-            ≡ min (length (bytes_to_read self.old)) (min (source_plan self.old).most (length into.old))) }
-        ensures faults { (source_plan self.new).faults ≡ count_after result (source_plan self.old).faults }
+            ≡ min (length (bytes_to_read self.old))
+            (min (source_plan self.old).most (length into.old))) }
+        ensures faults { (source_plan self.new).faults ≡ count_after result
+            (source_plan self.old).faults }
 
         // What every source ensures.
         ensures within { ReadsAtMost result into.new }
-        ensures bytes { ReadConsumes (Some (bytes_to_read self.old)) (Some (bytes_to_read self.new)) result into.new }
+        ensures bytes { ReadConsumes (Some (bytes_to_read self.old)) (Some (bytes_to_read self.new))
+            result into.new }
         ensures never_falls { (source_plan self.old).faults ≤ (source_plan self.new).faults }
-        ensures rose { OnErr result (Rose (source_plan self.old).faults (source_plan self.new).faults) }
+        ensures rose { OnErr result
+            (Rose (source_plan self.old).faults (source_plan self.new).faults) }
     {
         self.plan.begin_call()?;
         let most = self.plan.most.min(into.len());
@@ -102,13 +106,16 @@ impl Sink for MemSink {
         requires { 0 < length piece.now }
         ensures planned { FailsNext (sink_plan self.old) → IsErr result }
         ensures call { OneCall (sink_plan self.old) (sink_plan self.new) }
-        ensures count { IfOk result (λ count. count ≡ min (sink_plan self.old).most (length piece.now)) }
-        ensures faults { (sink_plan self.new).faults ≡ count_after result (sink_plan self.old).faults }
+        ensures count { IfOk result
+            (λ count. count ≡ min (sink_plan self.old).most (length piece.now)) }
+        ensures faults { (sink_plan self.new).faults ≡ count_after result
+            (sink_plan self.old).faults }
 
         // What every sink ensures.
         ensures some { IfOk result (λ count. 0 < count) }
         ensures within { WritesAtMost result piece.now }
-        ensures bytes { WriteAppends (Some (bytes_taken self.old)) (Some (bytes_taken self.new)) result piece.now }
+        ensures bytes { WriteAppends (Some (bytes_taken self.old)) (Some (bytes_taken self.new))
+            result piece.now }
         ensures never_falls { (sink_plan self.old).faults ≤ (sink_plan self.new).faults }
         ensures rose { OnErr result (Rose (sink_plan self.old).faults (sink_plan self.new).faults) }
     {

@@ -8,8 +8,8 @@ use crate::Failed;
 
 /// What bytes are written to.
 pub trait Sink {
-    /// The bytes that were taken, where the sink tells them, and how often a call has failed: 0 when the sink is made, and it
-    /// never falls.
+    /// The bytes that were taken, where the sink tells them, and how often a call has failed: 0
+    /// when the sink is made, and it never falls.
     ghost state: { Self → SinkState };
 
     /// Takes bytes from the front of `piece`, at least one, and answers their number.
@@ -27,7 +27,8 @@ pub trait Sink {
 /// and takes no memory.
 pub fn write_all<O: Sink>(out: &mut O, bytes: &[u8]) -> Result<(), Failed>
     ensures whole { OnOk result (Appends (O.state out.old).taken (O.state out.new).taken bytes.now) }
-    ensures part { OnErr result (TakesPart (O.state out.old).taken (O.state out.new).taken bytes.now) }
+    ensures part { OnErr result (TakesPart (O.state out.old).taken (O.state out.new).taken
+        bytes.now) }
     ensures rose { OnErr result (Rose (O.state out.old).faults (O.state out.new).faults) }
     ensures never_falls { (O.state out.old).faults ≤ (O.state out.new).faults }
 {

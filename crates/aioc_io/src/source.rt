@@ -12,8 +12,8 @@ use std::fmt;
 
 /// What bytes are read from.
 pub trait Source {
-    /// The bytes that are left, where the source tells them, and how often a call has failed: 0 when the source is made, and
-    /// it never falls.
+    /// The bytes that are left, where the source tells them, and how often a call has failed: 0
+    /// when the source is made, and it never falls.
     ghost state: { Self → SourceState };
 
     /// Moves bytes to the front of `into`, no more than fit there, and answers their number, which
@@ -88,7 +88,8 @@ pub fn read_all<S: Source>(
     ensures given { IsErrOf result ReadAllFault.TooLong
         ⊎ GivesAtMost limit (S.state source.old).left (S.state source.new).left }
 
-    ensures fault { IsErrOf result ReadAllFault.Fault → Rose (S.state source.old).faults (S.state source.new).faults }
+    ensures fault { IsErrOf result ReadAllFault.Fault → Rose (S.state source.old).faults
+        (S.state source.new).faults }
     ensures never_falls { (S.state source.old).faults ≤ (S.state source.new).faults }
 {
     let mut bytes = Vec::new(alloc);

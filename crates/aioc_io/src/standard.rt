@@ -37,7 +37,8 @@ impl<R: Read> Source for StdSource<R> {
         ensures within { ReadsAtMost result into.new }
         ensures bytes { let state = ⟦<StdSource<R> as Source>⟧.state in
             ReadConsumes (state self.old).left (state self.new).left result into.new }
-        ensures never_falls { let state = ⟦<StdSource<R> as Source>⟧.state in (state self.old).faults ≤ (state self.new).faults }
+        ensures never_falls { let state = ⟦<StdSource<R> as Source>⟧.state in
+            (state self.old).faults ≤ (state self.new).faults }
         ensures rose { let state = ⟦<StdSource<R> as Source>⟧.state in
             OnErr result (Rose (state self.old).faults (state self.new).faults) }
     {
@@ -80,7 +81,8 @@ impl<W: Write> Sink for StdSink<W> {
         ensures within { WritesAtMost result piece.now }
         ensures bytes { let state = ⟦<StdSink<W> as Sink>⟧.state in
             WriteAppends (state self.old).taken (state self.new).taken result piece.now }
-        ensures never_falls { let state = ⟦<StdSink<W> as Sink>⟧.state in (state self.old).faults ≤ (state self.new).faults }
+        ensures never_falls { let state = ⟦<StdSink<W> as Sink>⟧.state in (state self.old).faults ≤
+            (state self.new).faults }
         ensures rose { let state = ⟦<StdSink<W> as Sink>⟧.state in
             OnErr result (Rose (state self.old).faults (state self.new).faults) }
     {

@@ -34,7 +34,8 @@ impl Source for SureSource {
     fn read(&mut self, into: &mut [u8]) -> Result<usize, Failed>
         ensures count { result ≡ Ok (min (length (bytes_left self.old)) (length into.old)) }
         ensures within { ReadsAtMost result into.new }
-        ensures bytes { ReadConsumes (Some (bytes_left self.old)) (Some (bytes_left self.new)) result into.new }
+        ensures bytes { ReadConsumes (Some (bytes_left self.old)) (Some (bytes_left self.new))
+            result into.new }
     {
         let count = copy_front(&self.bytes[self.at..], into);
         self.at += count;
@@ -78,7 +79,8 @@ impl Sink for SureSink {
     /// Takes the whole piece.
     fn write(&mut self, piece: &[u8]) -> Result<usize, Failed>
         ensures whole { result ≡ Ok (length piece.now) }
-        ensures number { number_taken self.new ≡ min (number_taken self.old + length piece.now) last_count }
+        ensures number { number_taken self.new ≡ min (number_taken self.old + length piece.now)
+            last_count }
     {
         self.count = self.count.saturating_add(piece.len() as u64);
         Ok(piece.len())

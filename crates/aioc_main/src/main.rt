@@ -1,4 +1,5 @@
-//! The program `aioc`: its words, standard input, standard output and standard error go to the top call.
+//! The program `aioc`: its words, standard input, standard output and standard error go to the top
+//! call.
 #![tactic(auto)]
 
 use aioc_io::{StdSink, StdSource};

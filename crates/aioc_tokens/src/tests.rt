@@ -160,7 +160,8 @@ const PUNCTUATORS: [Punctuator; 28] = [
 #[test]
 fn shows_words(rt: HostRuntime) -> Result<(), Fail> {
     let text =
-        b"aioc skip if else while scope prop rule on do true false nil and or not input N E Aioc skips";
+        b"aioc skip if else while scope prop rule on do true false nil and or not input N E Aioc
+            skips";
     let found = tokens(rt.alloc(), text)?;
     let lexed = Lexed::new(text, &found);
     for (place, word) in WORDS.iter().enumerate() {

@@ -11,7 +11,8 @@ use Rattle.dioc_terms.specs.Processes.{Process, Load, Val, Flag, Keep, Part}
 use Rattle.dioc_terms.specs.Stores.{Store}
 use Rattle.dpoc_process.specs.Steps.{Deed, Given, Got, FromBook, entry_of, ended, offers, is_offered, step}
 
--- what a message with this tag carries: a value, a flag, or the begin of a scope; of the ends of parts nothing is asked
+-- what a message with this tag carries: a value, a flag, or the begin of a scope; of the ends of
+-- parts nothing is asked
 abbrev pub load_fits : Tag → Load → Bool
 load_fits (Op o) (Val v) = true
 load_fits (Op o) _ = false
@@ -38,14 +39,19 @@ is_done (Does d a) = true
 
 pub record OffersAreSteps : Type 0 where
   -- with what fits an act, a process does the act exactly where it offers it
-  pub exactly : (me : Role) (s : Store) (P : Process) (a : Act) (given : Given) → given_fits a given ≡ true
+  pub exactly : (me : Role) (s : Store) (P : Process) (a : Act) (given : Given) → given_fits a given
+      ≡ true
       → is_done (step me s P a given) ≡ is_offered a (offers me P)
   -- with anything else it does none but those
-  pub only : (me : Role) (s : Store) (P : Process) (a : Act) (given : Given) → is_done (step me s P a given) ≡ true → is_offered a (offers me P) ≡ true
+  pub only : (me : Role) (s : Store) (P : Process) (a : Act) (given : Given)
+      → is_done (step me s P a given) ≡ true → is_offered a (offers me P) ≡ true
   -- an ended process does nothing
-  pub ended : (me : Role) (s : Store) (P : Process) (a : Act) (given : Given) → ended P ≡ true → is_done (step me s P a given) ≡ false
+  pub ended : (me : Role) (s : Store) (P : Process) (a : Act) (given : Given) → ended P ≡ true
+      → is_done (step me s P a given) ≡ false
 
 -- what is done is the act
 abbrev pub StepsShowTheirActs : Type 0
-StepsShowTheirActs = (me : Role) (s : Store) (P : Process) (a : Act) (given : Given) (d : Deed) (P' : Process) → step me s P a given ≡ Does d P'
+StepsShowTheirActs =
+    (me : Role) (s : Store) (P : Process) (a : Act) (given : Given) (d : Deed) (P' : Process)
+    → step me s P a given ≡ Does d P'
     → act_of (entry_of d) ≡ Some a

@@ -2,8 +2,8 @@
 
 ghost use Rattle.dpoc_process.specs.Laws.{OffersAreSteps, StepsShowTheirActs};
 
-/// A law: with what fits an act from outside, a process does the act exactly where it offers it; it does no others; and an
-/// ended process does nothing. It does nothing itself.
+/// A law: with what fits an act from outside, a process does the act exactly where it offers it; it
+/// does no others; and an ended process does nothing. It does nothing itself.
 pub fn offers_are_steps()
     ensures { OffersAreSteps }
 {}

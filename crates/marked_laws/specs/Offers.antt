@@ -14,5 +14,7 @@ distinct_acts (a ∷ acts) = not (is_offered a acts) && distinct_acts acts
 
 -- Distinct offers: in every network of a run no act stands twice in what a role offers.
 abbrev pub DistinctOffers : Type 0
-DistinctOffers = (b : PlainBundle) (H : List Entry) (N : Network) → IsSound b → network_run b H ≡ Some N → (q : Role)
+DistinctOffers =
+    (b : PlainBundle) (H : List Entry) (N : Network) → IsSound b → network_run b H ≡ Some N
+    → (q : Role)
     → distinct_acts (offers q (N.processes q)) ≡ true

@@ -7,4 +7,5 @@ use Rattle.projection.specs.Projection.{projected}
 
 -- a role's projection has ended from the start exactly where the term doesn't name the role
 abbrev pub OutsidersHaveEnded : Type 0
-OutsidersHaveEnded = (cast : List Role) (I : Term) (q : Role) → ended (projected cast I q) ≡ not (is_in q I)
+OutsidersHaveEnded =
+    (cast : List Role) (I : Term) (q : Role) → ended (projected cast I q) ≡ not (is_in q I)
