@@ -15,6 +15,3 @@ pub use kinds::{Kind, NAME_LIMIT, TEXT_LIMIT, Token, TokenFault};
 pub use scan::tokens;
 pub use view::{Lexed, place};
 pub use words::{Mark, Sort, Word, find_mark, find_word};
-
-#[cfg(test)]
-mod tests;
