@@ -8,6 +8,7 @@ mod lexemes;
 mod links;
 mod services;
 mod sizes;
+mod spellings;
 mod tokenizing;
 mod values;
 
@@ -19,6 +20,8 @@ use std::alloc::Global;
 pub fn answer(alloc: Global, case: &Case) -> Result<Vec<u8>, Problem> {
     let mut out = Vec::new(alloc);
     match case.call.as_slice() {
+        b"name" => spellings::answer_name(alloc, case, &mut out)?,
+        b"text" => spellings::answer_text(alloc, case, &mut out)?,
         b"tokens" => tokenizing::answer(alloc, case, &mut out)?,
         b"lexemes" => lexemes::answer(alloc, case, &mut out)?,
         b"read_expr" => expressions::answer(alloc, case, &mut out)?,
