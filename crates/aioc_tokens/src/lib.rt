@@ -16,6 +16,3 @@ pub use kinds::{Kind, NAME_LIMIT, TEXT_LIMIT, Token, TokenFault};
 pub use scan::tokens;
 pub use view::{Lexed, place};
 pub use words::{Punctuator, Sort, Word, find_punctuator, find_word};
-
-#[cfg(test)]
-mod tests;

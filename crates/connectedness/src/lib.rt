@@ -8,6 +8,3 @@ mod summaries;
 
 pub use checks::{CheckFault, check};
 pub use laws::{gaps_are_found, roles_at_ends, stamped_connected};
-
-#[cfg(test)]
-mod tests;
