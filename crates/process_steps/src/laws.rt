@@ -1,6 +1,6 @@
 //! What a process offers is what it can do.
 
-ghost use Rattle.dpoc_process.specs.Laws.{OffersAreSteps, StepsShowTheirActs};
+ghost use Rattle.process_steps.specs.Laws.{OffersAreSteps, StepsShowTheirActs};
 
 /// A law: with what fits an act from outside, a process does the act exactly where it offers it; it
 /// does no others; and an ended process does nothing. It does nothing itself.

@@ -15,8 +15,8 @@ use Rattle.dioc_terms.specs.Messages.{act_of}
 use Rattle.dioc_terms.specs.Attempts.{Attempt, Stuck, Does, under, when}
 use Rattle.dioc_terms.specs.Processes.{Process, Skip, Send, Recv, Assign, Read, Seq, Par, IfLead, IfFollow, WhileLead, WhileFollow, ScopeLead, ScopeFollow, Tell, Gather, Nothing, More, Val, Flag, Keep, Part}
 use Rattle.dioc_terms.specs.Stores.{Store}
-use Rattle.dpoc_process.specs.Laws.{given_fits, is_done, OffersAreSteps, StepsShowTheirActs}
-use Rattle.dpoc_process.specs.Steps.{Deed, Given, Got, FromBook, Decision, Keeps, Replaces, entry_of, key, ended, after, offers, is_offered, take_value, take_flag, take_any, take_begin, begin_scope, choose_scope, while_follows, gathering, step}
+use Rattle.process_steps.specs.Laws.{given_fits, is_done, OffersAreSteps, StepsShowTheirActs}
+use Rattle.process_steps.specs.Steps.{Deed, Given, Got, FromBook, Decision, Keeps, Replaces, entry_of, key, ended, after, offers, is_offered, take_value, take_flag, take_any, take_begin, begin_scope, choose_scope, while_follows, gathering, step}
 
 done_under : {D A B : Type 0} (f : A → B) (m : Attempt D A) → is_done (under f m) ≡ is_done m
 done_under f Stuck = refl

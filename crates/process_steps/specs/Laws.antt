@@ -9,7 +9,7 @@ use Rattle.dioc_terms.specs.Messages.{act_of}
 use Rattle.dioc_terms.specs.Attempts.{Attempt, Stuck, Does}
 use Rattle.dioc_terms.specs.Processes.{Process, Load, Val, Flag, Keep, Part}
 use Rattle.dioc_terms.specs.Stores.{Store}
-use Rattle.dpoc_process.specs.Steps.{Deed, Given, Got, FromBook, entry_of, ended, offers, is_offered, step}
+use Rattle.process_steps.specs.Steps.{Deed, Given, Got, FromBook, entry_of, ended, offers, is_offered, step}
 
 -- what a message with this tag carries: a value, a flag, or the begin of a scope; of the ends of
 -- parts nothing is asked
