@@ -21,7 +21,7 @@ mod writer;
 #[cfg(test)]
 mod writer_tests;
 
-pub use bundle::{LONGEST, read_bundle};
+pub use bundle::read_bundle;
 pub use choreographies::{CHOREO_DEPTH_LIMIT, read_choreo};
 pub use found::FoundChoreo;
 pub use laws::{
