@@ -5,7 +5,8 @@ use Rattle.std.specs.Prelude.{◌≡◌, ◌⊎◌, ℕ, ◌+◌, ◌<◌, min, 
 abbrev pub last_count : ℕ
 last_count = 18446744073709551615
 
--- the count rose in a call: it is greater after the call than before, or stands at a counter's last value
+-- the count rose in a call: it is greater after the call than before, or stands at a counter's last
+-- value
 abbrev pub Rose : ℕ → ℕ → Type 0
 Rose before after = (before < after) ⊎ (after ≡ last_count)
 

@@ -4,4 +4,11 @@ use Rattle.std.specs.Io.KnownBytes.{Appends}
 
 -- the bytes were taken up to a place before their end, and none after it
 abbrev pub TakesPart : Option (List ℕ) → Option (List ℕ) → List ℕ → Type 0
-TakesPart before after bytes = (count : ℕ) × (count < length bytes) × Appends before after (take count bytes)
+TakesPart before after bytes =
+    (count : ℕ) × (count < length bytes) × Appends before after (take count bytes)
+
+-- what contracts see of a sink: the bytes that it took, where it tells them, and how often a call
+-- has failed
+pub record SinkState : Type 0 where
+  pub taken : Option (List ℕ)
+  pub faults : ℕ

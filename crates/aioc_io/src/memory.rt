@@ -23,8 +23,8 @@ impl MemSource {
     /// first call has the number 1. This takes no memory.
     pub fn new(bytes: Vec<u8>, most: usize, fails: Vec<u64>) -> MemSource
         requires { 1 ≤ most }
-        ensures left { ⟦<MemSource as Source>⟧.left result ≡ Some bytes.items }
-        ensures faults { ⟦<MemSource as Source>⟧.faults result ≡ 0 }
+        ensures left { (⟦<MemSource as Source>⟧.state result).left ≡ Some bytes.items }
+        ensures faults { (⟦<MemSource as Source>⟧.state result).faults ≡ 0 }
         ensures plan { IsNewPlan (source_plan result) most fails.items }
     {
         MemSource {
@@ -38,22 +38,24 @@ impl Source for MemSource {
     ghost use Rattle.aioc_io.specs.Memory.{source_plan, bytes_to_read};
     ghost use Rattle.aioc_io.specs.Plan.{FailsNext, OneCall};
 
-    ghost left = { λ source. Some (bytes_to_read source) };
-
-    ghost faults = { λ source. source.plan.faults };
+    ghost state = { λ source. record { left = Some (bytes_to_read source); faults = source.plan.faults } };
 
     fn read(&mut self, into: &mut [u8]) -> Result<usize, Failed>
         ensures planned { IsErr result ↔ FailsNext (source_plan self.old) }
         ensures call { OneCall (source_plan self.old) (source_plan self.new) }
         ensures count { IfOk result (λ count. count
-            ≡ min (length (bytes_to_read self.old)) (min (source_plan self.old).most (length into.old))) }
-        ensures faults { (source_plan self.new).faults ≡ count_after result (source_plan self.old).faults }
+            ≡ min (length (bytes_to_read self.old))
+            (min (source_plan self.old).most (length into.old))) }
+        ensures faults { (source_plan self.new).faults ≡ count_after result
+            (source_plan self.old).faults }
 
         // What every source ensures.
         ensures within { ReadsAtMost result into.new }
-        ensures bytes { ReadConsumes (Some (bytes_to_read self.old)) (Some (bytes_to_read self.new)) result into.new }
+        ensures bytes { ReadConsumes (Some (bytes_to_read self.old)) (Some (bytes_to_read self.new))
+            result into.new }
         ensures never_falls { (source_plan self.old).faults ≤ (source_plan self.new).faults }
-        ensures rose { OnErr result (Rose (source_plan self.old).faults (source_plan self.new).faults) }
+        ensures rose { OnErr result
+            (Rose (source_plan self.old).faults (source_plan self.new).faults) }
     {
         self.plan.begin_call()?;
         let most = self.plan.most.min(into.len());
@@ -76,8 +78,8 @@ impl MemSink {
     /// first call has the number 1, and so does each that finds no memory. This takes none yet.
     pub fn new(alloc: Global, most: usize, fails: Vec<u64>) -> MemSink
         requires { 1 ≤ most }
-        ensures taken { ⟦<MemSink as Sink>⟧.taken result ≡ Some [] }
-        ensures faults { ⟦<MemSink as Sink>⟧.faults result ≡ 0 }
+        ensures taken { (⟦<MemSink as Sink>⟧.state result).taken ≡ Some [] }
+        ensures faults { (⟦<MemSink as Sink>⟧.state result).faults ≡ 0 }
         ensures plan { IsNewPlan (sink_plan result) most fails.items }
     {
         MemSink {
@@ -88,7 +90,7 @@ impl MemSink {
 
     /// The bytes that were taken.
     pub fn taken(&self) -> &[u8]
-        ensures { ⟦<MemSink as Sink>⟧.taken self.now ≡ Some result.now }
+        ensures { (⟦<MemSink as Sink>⟧.state self.now).taken ≡ Some result.now }
     {
         &self.taken
     }
@@ -98,21 +100,22 @@ impl Sink for MemSink {
     ghost use Rattle.aioc_io.specs.Memory.{sink_plan, bytes_taken};
     ghost use Rattle.aioc_io.specs.Plan.{FailsNext, OneCall};
 
-    ghost taken = { λ sink. Some (bytes_taken sink) };
-
-    ghost faults = { λ sink. sink.plan.faults };
+    ghost state = { λ sink. record { taken = Some (bytes_taken sink); faults = sink.plan.faults } };
 
     fn write(&mut self, piece: &[u8]) -> Result<usize, Failed>
         requires { 0 < length piece.now }
         ensures planned { FailsNext (sink_plan self.old) → IsErr result }
         ensures call { OneCall (sink_plan self.old) (sink_plan self.new) }
-        ensures count { IfOk result (λ count. count ≡ min (sink_plan self.old).most (length piece.now)) }
-        ensures faults { (sink_plan self.new).faults ≡ count_after result (sink_plan self.old).faults }
+        ensures count { IfOk result
+            (λ count. count ≡ min (sink_plan self.old).most (length piece.now)) }
+        ensures faults { (sink_plan self.new).faults ≡ count_after result
+            (sink_plan self.old).faults }
 
         // What every sink ensures.
         ensures some { IfOk result (λ count. 0 < count) }
         ensures within { WritesAtMost result piece.now }
-        ensures bytes { WriteAppends (Some (bytes_taken self.old)) (Some (bytes_taken self.new)) result piece.now }
+        ensures bytes { WriteAppends (Some (bytes_taken self.old)) (Some (bytes_taken self.new))
+            result piece.now }
         ensures never_falls { (sink_plan self.old).faults ≤ (sink_plan self.new).faults }
         ensures rose { OnErr result (Rose (sink_plan self.old).faults (sink_plan self.new).faults) }
     {

@@ -3,7 +3,7 @@ ghost use Rattle.std.specs.Io.{ReadsAtMost};
 ghost use Rattle.std.specs.Io.KnownBytes.{IsAtEnd, ReadConsumes};
 ghost use Rattle.aioc_io.specs.declared.source.ReadAllFault.TheVariants.{Fault, Memory};
 ghost use Rattle.aioc_io.specs.Faults.{Rose};
-ghost use Rattle.aioc_io.specs.Source.{GivesAtMost};
+ghost use Rattle.aioc_io.specs.Source.{GivesAtMost, SourceState};
 
 use crate::Failed;
 use std::alloc::{AllocError, Global};
@@ -12,11 +12,9 @@ use std::fmt;
 
 /// What bytes are read from.
 pub trait Source {
-    /// The bytes that are left, where the source tells them.
-    ghost left: { Self → Option (List ℕ) };
-
-    /// How often a call has failed: 0 when the source is made, and it never falls.
-    ghost faults: { Self → ℕ };
+    /// The bytes that are left, where the source tells them, and how often a call has failed: 0
+    /// when the source is made, and it never falls.
+    ghost state: { Self → SourceState };
 
     /// Moves bytes to the front of `into`, no more than fit there, and answers their number, which
     /// is 0 only at the end. What stands behind them in `into` is left open. A call that fails has
@@ -24,9 +22,9 @@ pub trait Source {
     fn read(&mut self, into: &mut [u8]) -> Result<usize, Failed>
         requires { 0 < length into.old }
         ensures within { ReadsAtMost result into.new }
-        ensures bytes { ReadConsumes (left self.old) (left self.new) result into.new }
-        ensures never_falls { faults self.old ≤ faults self.new }
-        ensures rose { OnErr result (Rose (faults self.old) (faults self.new)) };
+        ensures bytes { ReadConsumes (state self.old).left (state self.new).left result into.new }
+        ensures never_falls { (state self.old).faults ≤ (state self.new).faults }
+        ensures rose { OnErr result (Rose (state self.old).faults (state self.new).faults) };
 }
 
 /// Why a source was not read to its end.
@@ -80,18 +78,19 @@ pub fn read_all<S: Source>(
     source: &mut S,
     limit: usize,
 ) -> Result<Vec<u8>, ReadAllFault>
-    ensures bytes { IfOk result (λ all. IfSome (S.left source.old) (λ told. all.items ≡ told)) }
-    ensures end { OnOk result (IsAtEnd (S.left source.new)) }
+    ensures bytes { IfOk result (λ all. IfSome (S.state source.old).left (λ told. all.items ≡ told)) }
+    ensures end { OnOk result (IsAtEnd (S.state source.new).left) }
     ensures within { IfOk result (λ all. vec_len all ≤ limit) }
 
     // Too long is what gave `limit + 1` bytes, and nothing else.
-    ensures too_long { IsErrOf result ReadAllFault.TooLong → IfSome (S.left source.old)
-        (λ told. (limit < length told) × (S.left source.new ≡ Some (drop (limit + 1) told))) }
+    ensures too_long { IsErrOf result ReadAllFault.TooLong → IfSome (S.state source.old).left
+        (λ told. (limit < length told) × ((S.state source.new).left ≡ Some (drop (limit + 1) told))) }
     ensures given { IsErrOf result ReadAllFault.TooLong
-        ⊎ GivesAtMost limit (S.left source.old) (S.left source.new) }
+        ⊎ GivesAtMost limit (S.state source.old).left (S.state source.new).left }
 
-    ensures fault { IsErrOf result ReadAllFault.Fault → Rose (S.faults source.old) (S.faults source.new) }
-    ensures never_falls { S.faults source.old ≤ S.faults source.new }
+    ensures fault { IsErrOf result ReadAllFault.Fault → Rose (S.state source.old).faults
+        (S.state source.new).faults }
+    ensures never_falls { (S.state source.old).faults ≤ (S.state source.new).faults }
 {
     let mut bytes = Vec::new(alloc);
     let mut piece = [0; PIECE];

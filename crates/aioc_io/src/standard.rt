@@ -19,29 +19,28 @@ pub struct StdSource<R: Read> {
 impl<R: Read> StdSource<R> {
     /// Takes no memory.
     pub fn new(inner: R) -> StdSource<R>
-        ensures left { ⟦<StdSource<R> as Source>⟧.left result ≡ R.remaining inner }
-        ensures faults { ⟦<StdSource<R> as Source>⟧.faults result ≡ 0 }
+        ensures left { (⟦<StdSource<R> as Source>⟧.state result).left ≡ R.remaining inner }
+        ensures faults { (⟦<StdSource<R> as Source>⟧.state result).faults ≡ 0 }
     {
         StdSource { inner, faults: 0 }
     }
 }
 
 impl<R: Read> Source for StdSource<R> {
-    ghost left = { λ source. R.remaining source.inner };
-
-    ghost faults = { λ source. source.faults };
+    ghost state = { λ source. record { left = R.remaining source.inner; faults = source.faults } };
 
     fn read(&mut self, into: &mut [u8]) -> Result<usize, Failed>
-        ensures faults { let faults = ⟦<StdSource<R> as Source>⟧.faults in
-            faults self.new ≡ count_after result (faults self.old) }
+        ensures faults { let state = ⟦<StdSource<R> as Source>⟧.state in
+            (state self.new).faults ≡ count_after result (state self.old).faults }
 
         // What every source ensures.
         ensures within { ReadsAtMost result into.new }
-        ensures bytes { let left = ⟦<StdSource<R> as Source>⟧.left in
-            ReadConsumes (left self.old) (left self.new) result into.new }
-        ensures never_falls { let faults = ⟦<StdSource<R> as Source>⟧.faults in faults self.old ≤ faults self.new }
-        ensures rose { let faults = ⟦<StdSource<R> as Source>⟧.faults in
-            OnErr result (Rose (faults self.old) (faults self.new)) }
+        ensures bytes { let state = ⟦<StdSource<R> as Source>⟧.state in
+            ReadConsumes (state self.old).left (state self.new).left result into.new }
+        ensures never_falls { let state = ⟦<StdSource<R> as Source>⟧.state in
+            (state self.old).faults ≤ (state self.new).faults }
+        ensures rose { let state = ⟦<StdSource<R> as Source>⟧.state in
+            OnErr result (Rose (state self.old).faults (state self.new).faults) }
     {
         match self.inner.read(into) {
             Ok(count) => Ok(count),
@@ -63,30 +62,29 @@ pub struct StdSink<W: Write> {
 impl<W: Write> StdSink<W> {
     /// Takes no memory.
     pub fn new(inner: W) -> StdSink<W>
-        ensures taken { ⟦<StdSink<W> as Sink>⟧.taken result ≡ W.contents inner }
-        ensures faults { ⟦<StdSink<W> as Sink>⟧.faults result ≡ 0 }
+        ensures taken { (⟦<StdSink<W> as Sink>⟧.state result).taken ≡ W.contents inner }
+        ensures faults { (⟦<StdSink<W> as Sink>⟧.state result).faults ≡ 0 }
     {
         StdSink { inner, faults: 0 }
     }
 }
 
 impl<W: Write> Sink for StdSink<W> {
-    ghost taken = { λ sink. W.contents sink.inner };
-
-    ghost faults = { λ sink. sink.faults };
+    ghost state = { λ sink. record { taken = W.contents sink.inner; faults = sink.faults } };
 
     fn write(&mut self, piece: &[u8]) -> Result<usize, Failed>
-        ensures faults { let faults = ⟦<StdSink<W> as Sink>⟧.faults in
-            faults self.new ≡ count_after result (faults self.old) }
+        ensures faults { let state = ⟦<StdSink<W> as Sink>⟧.state in
+            (state self.new).faults ≡ count_after result (state self.old).faults }
 
         // What every sink ensures.
         ensures some { IfOk result (λ count. 0 < count) }
         ensures within { WritesAtMost result piece.now }
-        ensures bytes { let taken = ⟦<StdSink<W> as Sink>⟧.taken in
-            WriteAppends (taken self.old) (taken self.new) result piece.now }
-        ensures never_falls { let faults = ⟦<StdSink<W> as Sink>⟧.faults in faults self.old ≤ faults self.new }
-        ensures rose { let faults = ⟦<StdSink<W> as Sink>⟧.faults in
-            OnErr result (Rose (faults self.old) (faults self.new)) }
+        ensures bytes { let state = ⟦<StdSink<W> as Sink>⟧.state in
+            WriteAppends (state self.old).taken (state self.new).taken result piece.now }
+        ensures never_falls { let state = ⟦<StdSink<W> as Sink>⟧.state in (state self.old).faults ≤
+            (state self.new).faults }
+        ensures rose { let state = ⟦<StdSink<W> as Sink>⟧.state in
+            OnErr result (Rose (state self.old).faults (state self.new).faults) }
     {
         match self.inner.write(piece) {
             Ok(count) if count > 0 => Ok(count),

@@ -18,8 +18,8 @@ impl SureSource {
 
     /// All the bytes are left. This takes no memory.
     pub fn new(bytes: Vec<u8>) -> SureSource
-        ensures left { ⟦<SureSource as Source>⟧.left result ≡ Some bytes.items }
-        ensures faults { ⟦<SureSource as Source>⟧.faults result ≡ 0 }
+        ensures left { (⟦<SureSource as Source>⟧.state result).left ≡ Some bytes.items }
+        ensures faults { (⟦<SureSource as Source>⟧.state result).faults ≡ 0 }
     {
         SureSource { bytes, at: 0 }
     }
@@ -28,15 +28,14 @@ impl SureSource {
 impl Source for SureSource {
     ghost use Rattle.aioc_io.specs.Sure.{bytes_left};
 
-    ghost left = { λ source. Some (bytes_left source) };
-
-    ghost faults = { λ _. 0 };
+    ghost state = { λ source. record { left = Some (bytes_left source); faults = 0 } };
 
     /// Moves as many bytes as are left and fit.
     fn read(&mut self, into: &mut [u8]) -> Result<usize, Failed>
         ensures count { result ≡ Ok (min (length (bytes_left self.old)) (length into.old)) }
         ensures within { ReadsAtMost result into.new }
-        ensures bytes { ReadConsumes (Some (bytes_left self.old)) (Some (bytes_left self.new)) result into.new }
+        ensures bytes { ReadConsumes (Some (bytes_left self.old)) (Some (bytes_left self.new))
+            result into.new }
     {
         let count = copy_front(&self.bytes[self.at..], into);
         self.at += count;
@@ -66,7 +65,7 @@ impl SureSink {
     /// No byte was taken. This takes no memory.
     pub fn new() -> SureSink
         ensures number { number_taken result ≡ 0 }
-        ensures faults { ⟦<SureSink as Sink>⟧.faults result ≡ 0 }
+        ensures faults { (⟦<SureSink as Sink>⟧.state result).faults ≡ 0 }
     {
         SureSink { count: 0 }
     }
@@ -75,14 +74,13 @@ impl SureSink {
 impl Sink for SureSink {
     ghost use Rattle.aioc_io.specs.Sure.{number_taken};
 
-    ghost taken = { λ _. None };
-
-    ghost faults = { λ _. 0 };
+    ghost state = { λ _. record { taken = None; faults = 0 } };
 
     /// Takes the whole piece.
     fn write(&mut self, piece: &[u8]) -> Result<usize, Failed>
         ensures whole { result ≡ Ok (length piece.now) }
-        ensures number { number_taken self.new ≡ min (number_taken self.old + length piece.now) last_count }
+        ensures number { number_taken self.new ≡ min (number_taken self.old + length piece.now)
+            last_count }
     {
         self.count = self.count.saturating_add(piece.len() as u64);
         Ok(piece.len())

@@ -34,7 +34,8 @@ pub data Lexeme : Type 0 where
 abbrev pub unescaped : Bool → List ℕ → List ℕ
 unescaped paired [] = []
 unescaped true (byte ∷ others) = byte ∷ unescaped false others
-unescaped false (byte ∷ others) = if byte == 92 then unescaped true others else byte ∷ unescaped false others
+unescaped false (byte ∷ others) =
+    if byte == 92 then unescaped true others else byte ∷ unescaped false others
 
 -- the value of a text in quotes
 abbrev pub value_of : List ℕ → List ℕ
@@ -42,9 +43,12 @@ value_of bytes = unescaped false (slice_range bytes 1 (length bytes - 1))
 
 -- the lexeme of a token's bytes (those of a symbol stand in the table)
 abbrev pub lexeme : Kind → List ℕ → Lexeme
-lexeme kinds.Name bytes = option_map_or Reserved (word_of bytes) (if nat_le (length bytes) NAME_LIMIT then Name bytes else Long)
+lexeme kinds.Name bytes =
+    option_map_or Reserved (word_of bytes) (if nat_le (length bytes) NAME_LIMIT then Name bytes else
+    Long)
 lexeme kinds.Number bytes = Number bytes
-lexeme kinds.Text bytes = if nat_le (length (value_of bytes)) TEXT_LIMIT then Text (value_of bytes) else Long
+lexeme kinds.Text bytes =
+    if nat_le (length (value_of bytes)) TEXT_LIMIT then Text (value_of bytes) else Long
 lexeme kinds.Symbol bytes = option_map_or Symbol (punctuator_of bytes) Long
 
 -- the lexemes of a text with these tokens
@@ -59,7 +63,8 @@ pub record HasLexemes (text : List ℕ) (found : List Lexeme) : Type 0 where
 
 -- a lexeme that can be written, and is then read again
 abbrev pub HasSpelling : Lexeme → Type 0
-HasSpelling (Name bytes) = IsNameSpelling bytes × (length bytes ≤ NAME_LIMIT) × (word_of bytes ≡ None)
+HasSpelling (Name bytes) =
+    IsNameSpelling bytes × (length bytes ≤ NAME_LIMIT) × (word_of bytes ≡ None)
 HasSpelling Long = ⊥
 HasSpelling (Number digits) = (0 < length digits) × IsTrue (list_all is_ascii_digit digits)
 HasSpelling (Text value) = IsTrue (list_all is_printable value) × (length value ≤ TEXT_LIMIT)

@@ -36,7 +36,8 @@ quoted value = 34 ∷ flat_map escaped value ++ 34 ∷ []
 -- a letter, and then letters, digits and `_`
 abbrev pub IsNameSpelling : List ℕ → Type 0
 IsNameSpelling [] = ⊥
-IsNameSpelling (first ∷ others) = IsTrue (is_ascii_alphabetic first) × IsTrue (list_all is_name_byte others)
+IsNameSpelling (first ∷ others) =
+    IsTrue (is_ascii_alphabetic first) × IsTrue (list_all is_name_byte others)
 
 -- these bytes are one token of this kind
 abbrev pub Spells : Kind → List ℕ → Type 0
@@ -61,7 +62,8 @@ line_length text = prefix_len (λ byte. not (byte == 10)) text
 -- the first bytes of a text, as many as this, are a space, or a comment up to the end of its line
 pub data IsBlank : List ℕ → ℕ → Type 0 where
   space : {byte : ℕ} {others : List ℕ} → IsTrue (is_space byte) → IsBlank (byte ∷ others) 1
-  comment : {text : List ℕ} {count : ℕ} → BeginsComment text → count ≡ line_length text → IsBlank text count
+  comment : {text : List ℕ} {count : ℕ} → BeginsComment text → count ≡ line_length text
+      → IsBlank text count
 
 -- the longest token at the front of a text where no comment begins
 pub record IsLongestToken (text : List ℕ) (kind : Kind) (count : ℕ) : Type 0 where

@@ -32,7 +32,9 @@ word_spelling E = codes "E"
 
 -- all reserved words
 abbrev pub reserved_words : List Word
-reserved_words = Aioc ∷ Skip ∷ If ∷ Else ∷ While ∷ Scope ∷ Prop ∷ Rule ∷ On ∷ Do ∷ True ∷ False ∷ Nil ∷ And ∷ Or ∷ Not ∷ Input ∷ N ∷ E ∷ []
+reserved_words =
+    Aioc ∷ Skip ∷ If ∷ Else ∷ While ∷ Scope ∷ Prop ∷ Rule ∷ On ∷ Do ∷ True ∷ False ∷ Nil ∷ And ∷ Or
+    ∷ Not ∷ Input ∷ N ∷ E ∷ []
 
 -- the reserved word of this spelling
 unfoldable pub word_of : List ℕ → Option Word
@@ -71,8 +73,12 @@ punctuator_spelling Bang = codes "!"
 
 -- all symbols
 abbrev pub punctuators : List Punctuator
-punctuators = LeftBrace ∷ RightBrace ∷ LeftParen ∷ RightParen ∷ LeftBracket ∷ RightBracket ∷ Semicolon ∷ Comma ∷ Colon ∷ Bar ∷ At ∷ Equal ∷ EqualEqual ∷ NotEqual ∷ Less ∷ LessEqual ∷ Greater ∷ GreaterEqual ∷ Plus ∷ PlusPlus ∷ Minus ∷ Arrow ∷ Star ∷ Slash ∷ Percent ∷ Dot ∷ Hash ∷ Bang ∷ []
+punctuators =
+    LeftBrace ∷ RightBrace ∷ LeftParen ∷ RightParen ∷ LeftBracket ∷ RightBracket ∷ Semicolon ∷ Comma
+    ∷ Colon ∷ Bar ∷ At ∷ Equal ∷ EqualEqual ∷ NotEqual ∷ Less ∷ LessEqual ∷ Greater ∷ GreaterEqual
+    ∷ Plus ∷ PlusPlus ∷ Minus ∷ Arrow ∷ Star ∷ Slash ∷ Percent ∷ Dot ∷ Hash ∷ Bang ∷ []
 
 -- the symbol of this spelling
 unfoldable pub punctuator_of : List ℕ → Option Punctuator
-punctuator_of bytes = find (λ punctuator. bytes_eq bytes (punctuator_spelling punctuator)) punctuators
+punctuator_of bytes =
+    find (λ punctuator. bytes_eq bytes (punctuator_spelling punctuator)) punctuators

@@ -1,8 +1,9 @@
 //! The tokens of the texts that the program reads, and what the grammar sees of them.
 //!
-//! `tokens` cuts a text into names, numbers, texts in quotes and symbols, or names the first byte that is in none.
-//! `Lexed` shows a text with its tokens as a list of lexemes, which the readers of the grammar speak of: names that
-//! aren't reserved, reserved words, symbols, digits, and the values of texts. `laws` has what holds of every text.
+//! `tokens` cuts a text into names, numbers, texts in quotes and symbols, or names the first byte
+//! that is in none. `Lexed` shows a text with its tokens as a list of lexemes, which the readers of
+//! the grammar speak of: names that aren't reserved, reserved words, symbols, digits, and the
+//! values of texts. `laws` has what holds of every text.
 #![tactic(auto)]
 
 mod kinds;
@@ -15,6 +16,3 @@ pub use kinds::{Kind, NAME_LIMIT, TEXT_LIMIT, Token, TokenFault};
 pub use scan::tokens;
 pub use view::{Lexed, place};
 pub use words::{Punctuator, Sort, Word, find_punctuator, find_word};
-
-#[cfg(test)]
-mod tests;

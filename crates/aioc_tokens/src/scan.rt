@@ -49,7 +49,8 @@ fn line_length(text: &[u8]) -> usize
 
 /// How many bytes at the front are a space, or a comment up to the end of its line.
 fn blank_length(text: &[u8]) -> Option<usize>
-    ensures { MatchOption result ((count : ℕ) → IsBlank text.now count → ⊥) (λ count. IsBlank text.now count) }
+    ensures { MatchOption result ((count : ℕ) → IsBlank text.now count → ⊥)
+        (λ count. IsBlank text.now count) }
 {
     if begins_comment(text) {
         return Some(line_length(text));
@@ -74,10 +75,12 @@ fn number_length(text: &[u8]) -> usize
     text.iter().take_while(|byte| byte.is_ascii_digit()).count()
 }
 
-/// How many bytes a text in quotes takes, or `None` where no text ends. The first byte is its quote.
+/// How many bytes a text in quotes takes, or `None` where no text ends. The first byte is its
+/// quote.
 fn text_length(text: &[u8]) -> Option<usize>
     requires { slice_index text.now 0 ≡ 34 }
-    ensures { MatchOption result ((count : ℕ) → IsFront text.now Kind.Text count → ⊥) (λ count. IsLongestToken text.now Kind.Text count) }
+    ensures { MatchOption result ((count : ℕ) → IsFront text.now Kind.Text count → ⊥)
+        (λ count. IsLongestToken text.now Kind.Text count) }
 {
     let inside = &text[1..];
     let mut paired = false;
@@ -109,7 +112,8 @@ fn is_symbol(text: &[u8], count: usize) -> bool
 /// How many bytes the longest symbol takes.
 fn symbol_length(text: &[u8]) -> Option<usize>
     requires { ¬ BeginsComment text.now }
-    ensures { MatchOption result ((count : ℕ) → IsFront text.now Kind.Symbol count → ⊥) (λ count. IsLongestToken text.now Kind.Symbol count) }
+    ensures { MatchOption result ((count : ℕ) → IsFront text.now Kind.Symbol count → ⊥)
+        (λ count. IsLongestToken text.now Kind.Symbol count) }
 {
     if is_symbol(text, 2) {
         Some(2)
@@ -123,7 +127,8 @@ fn symbol_length(text: &[u8]) -> Option<usize>
 /// The longest token at the front, its kind and how many bytes it takes.
 fn longest_token(text: &[u8]) -> Option<(Kind, usize)>
     requires { ¬ BeginsComment text.now }
-    ensures { MatchOption result ((kind : Kind) (count : ℕ) → IsFront text.now kind count → ⊥) (λ found. IsLongestToken text.now found.0 found.1) }
+    ensures { MatchOption result ((kind : Kind) (count : ℕ) → IsFront text.now kind count → ⊥)
+        (λ found. IsLongestToken text.now found.0 found.1) }
 {
     let first = *text.first()?;
     if first.is_ascii_alphabetic() {
@@ -142,9 +147,10 @@ fn longest_token(text: &[u8]) -> Option<(Kind, usize)>
 
 /// The tokens of a text, in order.
 ///
-/// The longest token is taken at each place, and a comment before the symbol `/`. Spaces and comments may stand
-/// between any two tokens and are no tokens. `BadByte` comes exactly where some byte is in no token, space or comment,
-/// and names the first such byte, counted from 0; `Memory` where memory runs out.
+/// The longest token is taken at each place, and a comment before the symbol `/`. Spaces and
+/// comments may stand between any two tokens and are no tokens. `BadByte` comes exactly where some
+/// byte is in no token, space or comment, and names the first such byte, counted from 0; `Memory`
+/// where memory runs out.
 pub fn tokens(alloc: Global, bytes: &[u8]) -> Result<Vec<Token>, TokenFault>
     ensures found { IfOk result (λ v. Lexes 0 bytes.now v.items) }
     ensures bad { (at : ℕ) → result ≡ Err (TokenFault.BadByte at) → Breaks 0 bytes.now at }

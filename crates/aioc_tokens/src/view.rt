@@ -84,8 +84,8 @@ fn sort_of(kind: Kind, bytes: &[u8]) -> Sort
     }
 }
 
-/// Where the token at a place of the list begins, or the text's length where there is none: the byte that a fault of
-/// the grammar names.
+/// Where the token at a place of the list begins, or the text's length where there is none: the
+/// byte that a fault of the grammar names.
 pub fn place(bytes: &[u8], tokens: &[Token], at: usize) -> usize
     ensures { result ≡ place_of bytes.now tokens.now at }
 {
@@ -95,8 +95,8 @@ pub fn place(bytes: &[u8], tokens: &[Token], at: usize) -> usize
     }
 }
 
-/// A text and its tokens, as the grammar sees them: a list of lexemes. To look at one takes no longer far from the
-/// front than near it.
+/// A text and its tokens, as the grammar sees them: a list of lexemes. To look at one takes no
+/// longer far from the front than near it.
 #[derive(Drop)]
 pub struct Lexed<'a> {
     bytes: &'a [u8],
@@ -183,7 +183,8 @@ impl<'a> Lexed<'a> {
         bytes_of(self.bytes, &self.tokens[at])
     }
 
-    /// Whether the lexeme at this place is this name, as a word that has a meaning only in its place.
+    /// Whether the lexeme at this place is this name, as a word that has a meaning only in its
+    /// place.
     pub fn named(&self, at: usize, word: &[u8]) -> bool
         ensures { IsTrue result ↔ (drop at self.now ≡ Lexeme.Name word.now ∷ drop (at + 1) self.now) }
     {
@@ -202,7 +203,8 @@ impl<'a> Lexed<'a> {
     /// A copy of the value of the text at this place.
     pub fn text(&self, alloc: Global, at: usize) -> Result<Vec<u8>, AllocError>
         requires { sort_of (drop at self.now) ≡ Sort.Text }
-        ensures value { IfOk result (λ v. drop at self.now ≡ Lexeme.Text v.items ∷ drop (at + 1) self.now) }
+        ensures value { IfOk result (λ v. drop at self.now ≡ Lexeme.Text v.items
+            ∷ drop (at + 1) self.now) }
         ensures valid { IfOk result (λ v. HasSpelling (Lexeme.Text v.items)) }
     {
         copied_value(alloc, bytes_of(self.bytes, &self.tokens[at]))

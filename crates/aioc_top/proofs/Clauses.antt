@@ -1,203 +1,300 @@
--- What the outcome of a call says by each clause.
-use Rattle.std.proofs.Common.{◌≡◌, ◌≢◌, ◌⊎◌, ◌↔◌, ℕ, List, length, Option, Some, None, IfSome, IsSome, refl, sym, ap, ◌∙◌, subst, inl, inr, ⊎_elim}
-use Rattle.std.specs.Io.KnownBytes.{Appends}
+-- What the table of calls says by each clause.
+use Rattle.std.proofs.Common.{◌≡◌, ◌⊎◌, ◌↔◌, ◌≤◌, ℕ, List, [], length, Bool, true, false, true≢false, Option, Some, None, IfSome, IsSome, refl, sym, ap, ◌∙◌, subst, inl, inr, ⊎_elim}
+use Rattle.std.specs.Prelude.{if◌then◌else◌}
+use Rattle.std.proofs.lemmas.Bool.{cases_Bool, cond-true, cond-false}
+use Rattle.std.specs.Option.{option_map_or}
+use Rattle.std.specs.Io.KnownBytes.{Appends, IsAtEnd}
 use Rattle.aioc_io.specs.Faults.{Rose}
-use Rattle.dioc_terms.specs.declared.bundles.Bundle.{Bundle}
-use Rattle.dioc_terms.specs.Messages.{visible}
+use Rattle.aioc_io.specs.Sink.{SinkState}
+use Rattle.aioc_io.specs.Source.{SourceState}
+use Rattle.dioc_terms.specs.declared.entries.Entry.{Entry}
+use Rattle.dioc_terms.specs.Plain.{PlainBundle}
 use Rattle.dioc_syntax.specs.Grammar.{OneBundle, SpelledAreFormed, Spells}
-use Rattle.trace_text.specs.Lines.{text}
-use Rattle.marked_laws.specs.Network.{network_run}
-use Rattle.net_core.specs.declared.moves.Finish.{Finish}
-use Rattle.net_core.specs.declared.moves.Finish.TheVariants as finish
+use Rattle.marked_laws.proofs.Shapes.{none_some, some_same}
+use Rattle.marked_laws.specs.Network.{Network, network_start, network_run, network_ended}
 use Rattle.net_core.specs.Headline.{EveryRun}
+use Rattle.net_core.specs.Laws.{RunsAreSound}
 use Rattle.net_core.specs.Refusals.{IsAccepted}
+use Rattle.command_words.specs.declared.commands.Options.{Options}
+use Rattle.command_words.specs.declared.commands.Command.{Command}
+use Rattle.command_words.specs.declared.commands.Command.TheVariants as command
+use Rattle.aioc_top.specs.Calls.{Call, Judges, Happens, IsRead, ReadsTo, Says, Writes}
+use Rattle.aioc_top.specs.Replies.{Reply, Replies, is_finished, refusal_of, run_reply, step_history}
+use Rattle.aioc_top.specs.Serve.{ComesExactly, Complete, GivesUp, HeadlineHolds, PartPrinted, ReadsAll, RunPrinted, SaysWhy, Silent, StepText, UsageComes, has_printed}
+use Rattle.aioc_top.specs.Verdicts.{Verdict, TooLong, Unspelled, Refused, Replied, Answers, Cause, Comes, status_of, status_of_end}
+use Rattle.aioc_top.specs.Words.{is_built}
+use Rattle.aioc_top.specs.declared.replies.End.{End}
+use Rattle.aioc_top.specs.declared.replies.End.TheVariants as end
 use Rattle.aioc_top.specs.declared.status.Status.{Status}
 use Rattle.aioc_top.specs.declared.status.Status.TheVariants as status
-use Rattle.aioc_top.specs.Outcomes.{Outcome, Seen}
-use Rattle.aioc_top.specs.Serve.{Answers, Cause, ComesExactly, Complete, GivesUp, HeadlineHolds, HeadlineOf, ReadsAll, Says, Silent, StepText, TookText, history_of, last_line_of, printed_text}
-use Rattle.aioc_top.proofs.Causes.{one_cause, both_judged, too_many_bytes}
-use Rattle.aioc_top.proofs.FaultLemmas.{mapped}
-use Rattle.aioc_top.proofs.SameBundles.{ended_same, history_same, network_same, refusal_same}
+use Rattle.aioc_top.proofs.Table.{prints_always}
+use Rattle.aioc_top.proofs.Causes.{not_too_long, one_kind, one_answer}
 
 filled : {A : Type 0} {P : A → Type 0} → ((x : A) → P x) → (o : Option A) → IfSome o P
 filled f None = tt
 filled f (Some x) = f x
 
+pub mapped : {A : Type 0} {P Q : A → Type 0} → ((x : A) → P x → Q x) → (o : Option A) → IfSome o P → IfSome o Q
+mapped f None h = h
+mapped f (Some x) h = f x h
+
 none_is_some : {A : Type 0} (o : Option A) → o ≡ None → IsSome o → ⊥
 none_is_some None e h = cc
 none_is_some (Some x) e h = cc
 
-pub usage : (w : Seen) (s : Status) → Outcome w s → (s ≡ status.Usage) ↔ (w.command ≡ None)
-usage w s o = (λ e. (subst (Outcome w) e o).0, is_usage s o)
-  where
-    is_usage : (s : Status) → Outcome w s → w.command ≡ None → s ≡ status.Usage
-    is_usage status.Usage o e = refl
-    is_usage status.Done o e = absurd (none_is_some w.command e o.0)
-    is_usage status.Limit o e = absurd (none_is_some w.command e o.0)
-    is_usage status.ReadFault o e = absurd (none_is_some w.command e o.0)
-    is_usage status.WriteFault o e = absurd (none_is_some w.command e o.0)
-    is_usage status.TooLong o e = absurd (none_is_some w.command e o.0)
-    is_usage status.Syntax o e = absurd (none_is_some w.command e o.0)
-    is_usage status.Refused o e = absurd (none_is_some w.command e o.0)
-    is_usage status.Memory o e = absurd (none_is_some w.command e o.0)
-    is_usage status.No o e = absurd o
+is_there : {A : Type 0} (o : Option A) → IsSome o → (x : A) × (o ≡ Some x)
+is_there None h = cc
+is_there (Some x) h = (x, refl)
 
-pub read_fault : (w : Seen) (s : Status) → Outcome w s → s ≡ status.ReadFault → Rose w.faults w.faults_after
-read_fault w s o e = (subst (Outcome w) e o).1
+-- the statuses that tell a verdict
+abbrev tells_verdict : Status → Bool
+tells_verdict status.Done = true
+tells_verdict status.Limit = true
+tells_verdict status.No = true
+tells_verdict status.TooLong = true
+tells_verdict status.Syntax = true
+tells_verdict status.Refused = true
+tells_verdict _ = false
 
-pub write_fault : (w : Seen) (s : Status) → Outcome w s → s ≡ status.WriteFault → Rose w.sinks.out_faults w.sinks.out_faults_after
-write_fault w s o e = (subst (Outcome w) e o).2
+abbrev Told : Call → Status → Type 0
+Told call s = (verdict : Verdict) × Judges call verdict × (s ≡ status_of verdict) × Writes verdict call.out call.out_after × Says verdict call.err call.err_after
 
-pub memory : (w : Seen) (s : Status) → Outcome w s → s ≡ status.Memory → IsSome w.command
-memory w s o e = (subst (Outcome w) e o).0
+told : (call : Call) (s : Status) → tells_verdict s ≡ true → Happens call s → Told call s
+told call status.Done is h = h
+told call status.Limit is h = h
+told call status.No is h = h
+told call status.TooLong is h = h
+told call status.Syntax is h = h
+told call status.Refused is h = h
+told call _ is h = absurd (true≢false (sym is))
 
-pub never_no : (w : Seen) (s : Status) → Outcome w s → s ≢ status.No
-never_no w s o e = subst (Outcome w) e o
+-- what a status says of the words
+asked_for : (call : Call) (s : Status) → Happens call s → call.asked ≡ None → (s ≡ status.Usage) ⊎ (s ≡ status.Memory)
+asked_for call status.Usage h none = inl refl
+asked_for call status.Memory h none = inr refl
+asked_for call status.ReadFault h none = absurd (none_is_some call.asked none h.0)
+asked_for call status.WriteFault h none = absurd (none_some (sym none ∙ h.1.asked))
+asked_for call status.Done h none = absurd (none_some (sym none ∙ h.1.asked))
+asked_for call status.Limit h none = absurd (none_some (sym none ∙ h.1.asked))
+asked_for call status.No h none = absurd (none_some (sym none ∙ h.1.asked))
+asked_for call status.TooLong h none = absurd (none_some (sym none ∙ h.1.asked))
+asked_for call status.Syntax h none = absurd (none_some (sym none ∙ h.1.asked))
+asked_for call status.Refused h none = absurd (none_some (sym none ∙ h.1.asked))
 
-pub reads_all : (w : Seen) (s : Status) → Outcome w s → ReadsAll s w.left w.left_after w.faults w.faults_after
-reads_all w status.Usage o = (o.1.left, o.1.faults)
-reads_all w status.Done o = o.1
-reads_all w status.Limit o = o.1
-reads_all w status.Syntax o = o.1
-reads_all w status.Refused o = o.1
-reads_all w status.WriteFault o = o.1
-reads_all w status.ReadFault o = tt
-reads_all w status.TooLong o = tt
-reads_all w status.Memory o = tt
-reads_all w status.No o = absurd o
+pub usage : (call : Call) (s : Status) → Happens call s → UsageComes s call.asked
+usage call s h = record { only = λ e. (subst (Happens call) e h).0; always = asked_for call s h }
 
-pub silent : (w : Seen) (s : Status) → Outcome w s → Silent s w.left w.sinks.taken w.sinks.taken_after w.sinks.out_faults w.sinks.out_faults_after
-silent w status.Done o = tt
-silent w status.Limit o = tt
-silent w status.WriteFault o = o.3
-silent w status.Usage o = (o.2.taken, o.2.faults)
-silent w status.ReadFault o = (o.2.taken, o.2.faults)
-silent w status.TooLong o = (o.2.taken, o.2.faults)
-silent w status.Syntax o = (o.2.taken, o.2.faults)
-silent w status.Refused o = (o.2.taken, o.2.faults)
-silent w status.Memory o = (o.1.taken, o.1.faults)
-silent w status.No o = absurd o
+pub read_fault : (call : Call) (s : Status) → Happens call s → s ≡ status.ReadFault → Rose call.source.faults call.source_after.faults
+read_fault call s h e = (subst (Happens call) e h).1
 
--- why a status came, with words that are a command
-abbrev Verdict : Seen → Status → Type 0
-Verdict w s = GivesUp s ⊎ IfSome w.left (Cause s)
+pub write_fault : (call : Call) (s : Status) → Happens call s → s ≡ status.WriteFault → Rose call.out.faults call.out_after.faults
+write_fault call s h e = (subst (Happens call) e h).2
 
-verdict : (w : Seen) (s : Status) → Outcome w s → IsSome w.command → Verdict w s
-verdict w status.Done o command = inr (mapped (λ bytes h. h.0) w.left o.2)
-verdict w status.Limit o command = inr (mapped (λ bytes h. h.0) w.left o.2)
-verdict w status.TooLong o command = inr o.1
-verdict w status.Syntax o command = inr o.3
-verdict w status.Refused o command = inr (mapped (λ bytes h. (o.3.0, h)) w.left o.3.1)
-verdict w status.Memory o command = inl tt
-verdict w status.ReadFault o command = inl tt
-verdict w status.WriteFault o command = inl tt
-verdict w status.Usage o command = absurd (none_is_some w.command o.0 command)
-verdict w status.No o command = absurd o
+-- the end of the source, where a verdict other than too long was told
+at_end : (verdict : Verdict) (source : SourceState) (s : Status) → s ≡ status_of verdict → ReadsTo verdict source → (s ≡ status.TooLong → ⊥) → IsAtEnd source.left
+at_end TooLong source s is h other = absurd (other is)
+at_end (Unspelled byte) source s is h other = h
+at_end (Refused why) source s is h other = h
+at_end (Replied reply) source s is h other = h
 
--- a status whose cause is in the bytes
-abbrev IsJudged : Status → Type 0
-IsJudged s = (GivesUp s → ⊥) × (s ≢ status.Usage)
+pub reads_all : (call : Call) (s : Status) → Happens call s → ReadsAll s call.source call.source_after
+reads_all call status.Usage h = h.1
+reads_all call status.Done h = at_end h.0 call.source_after status.Done h.2 h.1.to_end (λ e. cc)
+reads_all call status.Limit h = at_end h.0 call.source_after status.Limit h.2 h.1.to_end (λ e. cc)
+reads_all call status.No h = at_end h.0 call.source_after status.No h.2 h.1.to_end (λ e. cc)
+reads_all call status.Syntax h = at_end h.0 call.source_after status.Syntax h.2 h.1.to_end (λ e. cc)
+reads_all call status.Refused h = at_end h.0 call.source_after status.Refused h.2 h.1.to_end (λ e. cc)
+reads_all call status.WriteFault h = h.1.to_end
+reads_all call status.ReadFault h = tt
+reads_all call status.TooLong h = tt
+reads_all call status.Memory h = tt
 
-commanded : (w : Seen) (s : Status) → Outcome w s → s ≢ status.Usage → IsSome w.command
-commanded w status.Usage o other = absurd (other refl)
-commanded w status.Done o other = o.0
-commanded w status.Limit o other = o.0
-commanded w status.ReadFault o other = o.0
-commanded w status.WriteFault o other = o.0
-commanded w status.TooLong o other = o.0
-commanded w status.Syntax o other = o.0
-commanded w status.Refused o other = o.0
-commanded w status.Memory o other = o.0
-commanded w status.No o other = absurd o
+-- nothing was written where nothing was printed
+quiet : (verdict : Verdict) (call : Call) (s : Status) → s ≡ status_of verdict → has_printed s ≡ false → Writes verdict call.out call.out_after → call.out_after ≡ call.out
+quiet TooLong call s is h w = w
+quiet (Unspelled byte) call s is h w = w
+quiet (Refused why) call s is h w = w
+quiet (Replied reply) call s is h w = absurd (prints_always s reply.end is h)
 
-module _ (one : OneBundle) (w : Seen) where
-  pub comes_exactly : (wanted s : Status) → IsJudged wanted → Outcome w s → ComesExactly wanted s w.command w.left
-  comes_exactly wanted s judged o = record { only = only; always = always }
+pub silent : (call : Call) (s : Status) → Happens call s → Silent s call.asked call.source call.out call.out_after
+silent call status.Done h = tt
+silent call status.Limit h = tt
+silent call status.No h = tt
+silent call status.WriteFault h = record {
+  command = h.1.command;
+  asked_for = h.1.asked;
+  bytes = h.1.bytes;
+  read = h.1.read;
+  reply = h.0;
+  comes = h.1.comes;
+  part = h.3;
+}
+silent call status.Usage h = h.2
+silent call status.ReadFault h = h.2
+silent call status.Memory h = h.0
+silent call status.TooLong h = quiet h.0 call status.TooLong h.2 refl h.3
+silent call status.Syntax h = quiet h.0 call status.Syntax h.2 refl h.3
+silent call status.Refused h = quiet h.0 call status.Refused h.2 refl h.3
+
+-- a verdict that was told with a status that prints is a reply
+reply_told : (call : Call) (s : Status) → has_printed s ≡ true → Told call s
+    → (reply : Reply) × Judges call (Replied reply) × (s ≡ status_of_end reply.end) × Appends call.out.taken call.out_after.taken reply.text × (call.err_after ≡ call.err)
+reply_told call s is (TooLong, judges, same, writes, says) = absurd (true≢false (sym is ∙ ap has_printed same))
+reply_told call s is (Unspelled byte, judges, same, writes, says) = absurd (true≢false (sym is ∙ ap has_printed same))
+reply_told call s is (Refused why, judges, same, writes, says) = absurd (true≢false (sym is ∙ ap has_printed same))
+reply_told call s is (Replied reply, judges, same, writes, says) = (reply, judges, same, writes, says)
+
+line_told : (call : Call) (s : Status) → has_printed s ≡ false → tells_verdict s ≡ true → Told call s → SaysWhy s call.asked call.source call.err call.err_after
+line_told call s no is (TooLong, judges, same, writes, says) = subst (λ t. SaysWhy t call.asked call.source call.err call.err_after) (sym same) says
+line_told call s no is (Unspelled byte, judges, same, writes, says) = subst (λ t. SaysWhy t call.asked call.source call.err call.err_after) (sym same) (byte, says)
+line_told call s no is (Refused why, judges, same, writes, says) = subst (λ t. SaysWhy t call.asked call.source call.err call.err_after) (sym same)
+    (judges.command, judges.asked, (why, says, mapped (λ told e. subst (λ bytes. Comes judges.command bytes (Refused why)) (sym e) judges.comes) call.source.left judges.read))
+line_told call s no is (Replied reply, judges, same, writes, says) = absurd (prints_always s reply.end same no)
+
+pub says : (call : Call) (s : Status) → Happens call s → SaysWhy s call.asked call.source call.err call.err_after
+says call status.Usage h = h.3
+says call status.Memory h = h.1
+says call status.ReadFault h = h.3
+says call status.WriteFault h = h.4
+says call status.Done h = (reply_told call status.Done refl h).4
+says call status.Limit h = (reply_told call status.Limit refl h).4
+says call status.No h = (reply_told call status.No refl h).4
+says call status.TooLong h = line_told call status.TooLong refl refl h
+says call status.Syntax h = line_told call status.Syntax refl refl h
+says call status.Refused h = line_told call status.Refused refl refl h
+
+-- why a status came, with words that ask for a command
+because : (call : Call) (s : Status) (found : Command) → call.asked ≡ Some found → Happens call s → GivesUp s ⊎ Told call s
+because call status.Memory found is h = inl tt
+because call status.ReadFault found is h = inl tt
+because call status.WriteFault found is h = inl tt
+because call status.Usage found is h = absurd (none_some (sym h.0 ∙ is))
+because call status.Done found is h = inr h
+because call status.Limit found is h = inr h
+because call status.No found is h = inr h
+because call status.TooLong found is h = inr h
+because call status.Syntax found is h = inr h
+because call status.Refused found is h = inr h
+
+module _ (one : OneBundle) (call : Call) (all_built : (found : Command) → call.asked ≡ Some found → is_built found ≡ true) where
+  pub comes_exactly : (wanted s : Status) → tells_verdict wanted ≡ true → Happens call s → ComesExactly wanted s call.asked call.source
+  comes_exactly wanted s tells h = record { only = only; always = always }
     where
-      only : s ≡ wanted → IsSome w.command × IfSome w.left (Cause wanted)
+      only : s ≡ wanted → (found : Command) × (call.asked ≡ Some found) × IfSome call.source.left (Cause found wanted)
       only e =
-          let its = subst (Outcome w) e o in
-          let command = commanded w wanted its judged.1 in
-          (command, ⊎_elim (λ gives. absurd (judged.0 gives)) (λ cause. cause) (verdict w wanted its command))
+          let its = told call wanted tells (subst (Happens call) e h) in
+          (its.1.command, its.1.asked,
+          mapped (λ left read. subst (Cause its.1.command wanted) (sym read) (its.0, its.1.comes, its.2)) call.source.left its.1.read)
 
-      always : IsSome w.command → IfSome w.left (λ bytes. Cause wanted bytes → (s ≡ wanted) ⊎ GivesUp s)
-      always command = ⊎_elim
-          (λ gives. filled (λ bytes cause. inr gives) w.left)
-          (λ cause. mapped (λ bytes its cause. inl (one_cause one bytes s wanted its cause)) w.left cause)
-          (verdict w s o command)
+      same_status : (found : Command) → call.asked ≡ Some found → (its : Told call s) → IfSome call.source.left (λ bytes. Cause found wanted bytes → s ≡ wanted)
+      same_status found is its =
+          let command : its.1.command ≡ found = some_same (sym its.1.asked ∙ is) in
+          mapped (λ left read cause.
+          its.2 ∙ one_kind one found (all_built found is) left its.0 cause.0
+          (subst (λ bytes. Comes found bytes its.0) (sym read) (subst (λ c. Comes c its.1.bytes its.0) command its.1.comes)) cause.1 ∙ sym cause.2) call.source.left its.1.read
 
-  pub complete : (s : Status) → Outcome w s → Complete s w.command w.left (Rose w.faults w.faults_after) (Rose w.sinks.out_faults w.sinks.out_faults_after)
-  complete status.Done o command reads writes = filled (λ bytes b spells accepted. inl refl) w.left
-  complete status.Limit o command reads writes = filled (λ bytes b spells accepted. inr (inl refl)) w.left
-  complete status.Memory o command reads writes = filled (λ bytes b spells accepted. inr (inr refl)) w.left
-  complete status.ReadFault o command reads writes = absurd (reads o.1)
-  complete status.WriteFault o command reads writes = absurd (writes o.2)
-  complete status.Usage o command reads writes = absurd (none_is_some w.command o.0 command)
-  complete status.TooLong o command reads writes = mapped (λ bytes long b spells accepted. absurd (too_many_bytes one bytes b spells long)) w.left o.1
-  complete status.Syntax o command reads writes = mapped (λ bytes none b spells accepted. absurd (none.1 b spells)) w.left o.3
-  complete status.Refused o command reads writes =
-      mapped (λ bytes h b spells accepted. absurd (both_judged one bytes b h.bundle o.3.0 spells h.spells accepted h.refused)) w.left o.3.1
-  complete status.No o command reads writes = absurd o
+      always : (found : Command) → call.asked ≡ Some found → IfSome call.source.left (λ bytes. Cause found wanted bytes → (s ≡ wanted) ⊎ GivesUp s)
+      always found is = ⊎_elim
+          (λ gives. filled (λ bytes cause. inr gives) call.source.left)
+          (λ its. mapped (λ bytes same cause. inl (same cause)) call.source.left (same_status found is its))
+          (because call s found is h)
 
-  pub says : (s : Status) → Outcome w s → Says s w.left w.sinks.said w.sinks.said_after w.sinks.err_faults w.sinks.err_faults_after
-  says status.Done o = o.3
-  says status.Limit o = o.3
-  says status.Usage o = o.3
-  says status.ReadFault o = o.3
-  says status.WriteFault o = o.4
-  says status.TooLong o = o.3
-  says status.Syntax o = o.4
-  says status.Refused o =
-      (o.3.0, o.3.2, mapped (λ bytes h b spells. refusal_same b h.bundle (one bytes b h.bundle spells h.spells) ∙ h.refused) w.left o.3.1)
-  says status.Memory o = o.2
-  says status.No o = absurd o
+  -- the reply of a bundle that is spelled and not refused
+  replied : (s : Status) (found : Command) → call.asked ≡ Some found → Told call s → IfSome call.source.left (λ bytes. (b : PlainBundle) → Spells bytes b → refusal_of found b ≡ None
+      → (reply : Reply) × Replies found b reply × (s ≡ status_of_end reply.end))
+  replied s found is (verdict, judges, same, rest) =
+      let command : judges.command ≡ found = some_same (sym judges.asked ∙ is) in
+      mapped (λ left read. by_verdict left verdict (subst (λ bytes. Comes found bytes verdict) (sym read) (subst (λ c. Comes c judges.bytes verdict) command judges.comes)) same) call.source.left judges.read
+    where
+      by_verdict : (bytes : List ℕ) (v : Verdict) → Comes found bytes v → s ≡ status_of v → (b : PlainBundle) → Spells bytes b → refusal_of found b ≡ None
+          → (reply : Reply) × Replies found b reply × (s ≡ status_of_end reply.end)
+      by_verdict bytes TooLong comes e b spells accepted = absurd (not_too_long bytes b spells comes)
+      by_verdict bytes (Unspelled byte) comes e b spells accepted = absurd (comes.1 b spells)
+      by_verdict bytes (Refused why) comes e b spells accepted =
+          absurd (none_some (sym accepted ∙ ap (refusal_of found) (one bytes b comes.bundle spells comes.spells) ∙ comes.refused))
+      by_verdict bytes (Replied reply) comes e b spells accepted =
+          (reply, subst (λ c. Replies found c reply) (one bytes comes.bundle b comes.spells spells) comes.replies, e)
 
-  -- all bundles of a text have one text
-  took_text : (how : Finish) → IfSome w.left (λ bytes. (a : Answers bytes how) × Appends w.sinks.taken w.sinks.taken_after (printed_text a.bundle how))
-      → TookText how w.left w.sinks.taken w.sinks.taken_after
-  took_text how h = mapped (λ bytes took b spells.
-      subst (λ H. Appends w.sinks.taken w.sinks.taken_after (text (visible H) (last_line_of how (length H))))
-      (history_same took.0.bundle b (one bytes took.0.bundle b took.0.spells spells)) took.1) w.left h
+  pub complete : (s : Status) → Happens call s → Complete s call.asked call.source call.source_after call.out call.out_after
+  complete s h found is reads writes = by s h
+    where
+      Wanted : Status → Type 0
+      Wanted t = IfSome call.source.left (λ bytes. (b : PlainBundle) → Spells bytes b → refusal_of found b ≡ None
+          → ((reply : Reply) × Replies found b reply × (t ≡ status_of_end reply.end)) ⊎ (t ≡ status.Memory))
 
-  pub step_text : (s : Status) → Outcome w s → StepText s w.left w.sinks.taken w.sinks.taken_after
-  step_text status.Done o = took_text finish.Ended o.2
-  step_text status.Limit o = took_text finish.Limit o.2
-  step_text status.Usage o = tt
-  step_text status.ReadFault o = tt
-  step_text status.WriteFault o = tt
-  step_text status.TooLong o = tt
-  step_text status.Syntax o = tt
-  step_text status.Refused o = tt
-  step_text status.Memory o = tt
-  step_text status.No o = tt
+      answered : (t : Status) → Told call t → Wanted t
+      answered t its = mapped (λ bytes f b spells accepted. inl (f b spells accepted)) call.source.left (replied t found is its)
 
-  module _ (formed : SpelledAreFormed) (every : EveryRun) where
-    headline_of : (bytes : List ℕ) (how : Finish) → Answers bytes how → (b : Bundle) → Spells bytes b → HeadlineOf how b
-    headline_of bytes finish.Ended a b spells =
-        let same = one bytes a.bundle b a.spells spells in
-        let accepted : IsAccepted b = record { formed = formed bytes b spells; no_refusal = sym (refusal_same a.bundle b same) ∙ a.accepted.no_refusal } in
-        let runs : network_run b (history_of b) ≡ Some a.finishes.network =
-        sym (network_same a.bundle b same (history_of b)) ∙ ap (network_run a.bundle) (sym (history_same a.bundle b same)) ∙ a.finishes.runs in
-        (a.finishes.network, every b (history_of b) a.finishes.network accepted runs, sym (ended_same a.bundle b same a.finishes.network) ∙ a.finishes.ended.0 refl)
-    headline_of bytes finish.Limit a b spells =
-        let same = one bytes a.bundle b a.spells spells in
-        let accepted : IsAccepted b = record { formed = formed bytes b spells; no_refusal = sym (refusal_same a.bundle b same) ∙ a.accepted.no_refusal } in
-        let runs : network_run b (history_of b) ≡ Some a.finishes.network =
-        sym (network_same a.bundle b same (history_of b)) ∙ ap (network_run a.bundle) (sym (history_same a.bundle b same)) ∙ a.finishes.runs in (
-          a.finishes.network,
-          every b (history_of b) a.finishes.network accepted runs,
-          sym (ended_same a.bundle b same a.finishes.network) ∙ (a.finishes.limit.0 refl).1,
-          ap length (sym (history_same a.bundle b same)) ∙ (a.finishes.limit.0 refl).0,
-        )
+      by : (t : Status) → Happens call t → Wanted t
+      by status.Memory h = filled (λ bytes b spells accepted. inr refl) call.source.left
+      by status.ReadFault h = absurd (reads h.1)
+      by status.WriteFault h = absurd (writes h.2)
+      by status.Usage h = absurd (none_some (sym h.0 ∙ is))
+      by status.Done h = answered status.Done h
+      by status.Limit h = answered status.Limit h
+      by status.No h = answered status.No h
+      by status.TooLong h = answered status.TooLong h
+      by status.Syntax h = answered status.Syntax h
+      by status.Refused h = answered status.Refused h
 
-    pub headline : (s : Status) → Outcome w s → HeadlineHolds s w.left
-    headline status.Done o = mapped (λ bytes h. headline_of bytes finish.Ended h.0) w.left o.2
-    headline status.Limit o = mapped (λ bytes h. headline_of bytes finish.Limit h.0) w.left o.2
-    headline status.Usage o = tt
-    headline status.ReadFault o = tt
-    headline status.WriteFault o = tt
-    headline status.TooLong o = tt
-    headline status.Syntax o = tt
-    headline status.Refused o = tt
-    headline status.Memory o = tt
-    headline status.No o = tt
+-- ---- the text of a run
+
+-- how a run's reply ends, where the network after it is known
+end_is : (b : PlainBundle) (H : List Entry) (N : Network) → network_run b H ≡ Some N → is_finished b H ≡ network_ended b.cast N
+end_is b H N runs = ap (λ o. option_map_or (network_ended b.cast) o false) runs
+
+not_limit : status.Done ≡ status.Limit → ⊥
+not_limit e = cc
+
+not_done : status.Limit ≡ status.Done → ⊥
+not_done e = cc
+
+ends_done : (t : Bool) → (status_of_end (if t then end.Done else end.Limit) ≡ status.Done) ↔ (t ≡ true)
+ends_done true = (λ e. refl, λ e. refl)
+ends_done false = (λ e. absurd (not_done e), λ e. absurd (true≢false (sym e)))
+
+ends_limit : (t : Bool) {A : Type 0} → (t ≡ true) ⊎ A → (status_of_end (if t then end.Done else end.Limit) ≡ status.Limit) ↔ (A × (t ≡ false))
+ends_limit true h = (λ e. absurd (not_limit e), λ e. absurd (true≢false (e.1)))
+ends_limit false h = (λ e. (⊎_elim (λ is. absurd (true≢false (sym is))) (λ a. a) h, refl), λ e. refl)
+
+module _ (formed : SpelledAreFormed) (every : EveryRun) (sound : RunsAreSound) (options : Options) where
+  pub run_printed : (bytes : List ℕ) (source : SourceState) (out out_after : SinkState) (s : Status) (reply : Reply) → IsRead source bytes
+      → Answers (command.Step options) bytes reply → s ≡ status_of_end reply.end → Appends out.taken out_after.taken reply.text
+      → (run : RunPrinted options s source out out_after) × (run.history ≡ step_history options run.bundle)
+  run_printed bytes source out out_after s reply read h is wrote =
+      let b = h.bundle in
+      let H = step_history options b in
+      let accepted : IsAccepted b = record { formed = formed bytes b h.spells; no_refusal = h.accepted } in
+      let arrives = sound b [] (network_start b) options.seed options.steps accepted refl (omega arith) in
+      let N = arrives.network in
+      let finished : is_finished b H ≡ network_ended b.cast N = end_is b H N arrives.runs in
+      let status_is : s ≡ status_of_end (if network_ended b.cast N then end.Done else end.Limit) =
+      is ∙ ap (λ (r : Reply). status_of_end r.end) h.replies ∙ ap (λ t. status_of_end (if t then end.Done else end.Limit)) finished in
+      (record {
+        bytes = bytes;
+        read = read;
+        bundle = b;
+        spells = h.spells;
+        accepted = accepted;
+        history = H;
+        network = N;
+        printed = subst (λ (r : Reply). Appends out.taken out_after.taken r.text) h.replies wrote;
+        headline = every b H N accepted arrives.runs;
+        within = arrives.within;
+        done = subst (λ t. (t ≡ status.Done) ↔ (network_ended b.cast N ≡ true)) (sym status_is) (ends_done (network_ended b.cast N));
+        limit = subst (λ t. (t ≡ status.Limit) ↔ ((length H ≡ options.steps) × (network_ended b.cast N ≡ false))) (sym status_is)
+        (ends_limit (network_ended b.cast N) arrives.finished);
+      }, refl)
+
+  pub step_text : (call : Call) (s : Status) → Happens call s → call.asked ≡ Some (command.Step options) → has_printed s ≡ true
+      → (run : RunPrinted options s call.source call.out call.out_after) × (run.history ≡ step_history options run.bundle)
+  step_text call s h is prints =
+      let its = reply_told call s prints (told call s (printing s prints) h) in
+      let command : its.1.command ≡ command.Step options = some_same (sym its.1.asked ∙ is) in
+      run_printed its.1.bytes call.source call.out call.out_after s its.0 its.1.read (subst (λ c. Answers c its.1.bytes its.0) command its.1.comes) its.2 its.3
+    where
+      printing : (t : Status) → has_printed t ≡ true → tells_verdict t ≡ true
+      printing status.Done e = refl
+      printing status.Limit e = refl
+      printing status.No e = refl
+      printing _ e = absurd (true≢false (sym e))

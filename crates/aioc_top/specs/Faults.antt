@@ -1,10 +1,19 @@
--- The status and the line of each fault.
-use Rattle.std.specs.Prelude.{ℕ, List}
+-- The status and the line of each fault, and which verdict a fault of a text tells.
+use Rattle.std.specs.Prelude.{◌≡◌, ◌≢◌, ⊥, ℕ, List, Option, Some, None, IsSome}
+use Rattle.aioc_io.specs.Faults.{Rose}
+use Rattle.aioc_io.specs.Source.{SourceState}
+use Rattle.dioc_terms.specs.Plain.{PlainBundle}
+use Rattle.net_core.specs.declared.refusals.Refusal.{Refusal}
+use Rattle.net_core.specs.declared.refusals.Refusal.TheVariants as refused
+use Rattle.command_words.specs.declared.commands.Command.{Command}
+use Rattle.aioc_top.specs.Calls.{IsRead, ReadsTo}
+use Rattle.aioc_top.specs.Messages.{memory_line, read_fault_line, refusal_line, syntax_line, too_long_line, usage_line, write_fault_line}
+use Rattle.aioc_top.specs.Replies.{Reply, refusal_of}
+use Rattle.aioc_top.specs.Verdicts.{Verdict, TooLong, Unspelled, Refused, Replied, Comes}
 use Rattle.aioc_top.specs.declared.faults.Fault.{Fault}
 use Rattle.aioc_top.specs.declared.faults.Fault.TheVariants as fault
 use Rattle.aioc_top.specs.declared.status.Status.{Status}
 use Rattle.aioc_top.specs.declared.status.Status.TheVariants as status
-use Rattle.aioc_top.specs.Messages.{usage_line, read_fault_line, write_fault_line, too_long_line, memory_line}
 
 abbrev pub status_of : Fault → Status
 status_of fault.Usage = status.Usage
@@ -23,3 +32,47 @@ line_of fault.TooLong = too_long_line
 line_of (fault.Syntax line) = line.items
 line_of (fault.Refused line) = line.items
 line_of fault.Memory = memory_line
+
+-- the fault of a text that spells no bundle, with its line; memory may run out
+abbrev pub IsSyntaxFault : ℕ → Fault → Type 0
+IsSyntaxFault byte (fault.Syntax line) = line.items ≡ syntax_line byte
+IsSyntaxFault byte fault.Memory = Unit {0}
+IsSyntaxFault byte _ = ⊥
+
+-- the fault of this refusal, with its line; memory may run out
+abbrev pub IsRefusalFault : Refusal → Fault → Type 0
+IsRefusalFault why (fault.Refused line) = (why ≢ refused.Memory) × (line.items ≡ refusal_line why)
+IsRefusalFault why fault.Memory = Unit {0}
+IsRefusalFault why _ = ⊥
+
+-- the fault of the first refusal of a bundle, with its line; memory may run out
+abbrev pub IsRefusedSo : Command → PlainBundle → Fault → Type 0
+IsRefusedSo asked b (fault.Refused line) = (why : Refusal) × (refusal_of asked b ≡ Some why) × (line.items ≡ refusal_line why)
+IsRefusedSo asked b fault.Memory = Unit {0}
+IsRefusedSo asked b _ = ⊥
+
+-- the fault of some verdict on bytes, with its line; memory may run out
+abbrev pub IsJudgedSo : Command → List ℕ → Fault → Type 0
+IsJudgedSo asked bytes (fault.Syntax line) = (byte : ℕ) × Comes asked bytes (Unspelled byte) × (line.items ≡ syntax_line byte)
+IsJudgedSo asked bytes (fault.Refused line) = (why : Refusal) × Comes asked bytes (Refused why) × (line.items ≡ refusal_line why)
+IsJudgedSo asked bytes fault.Memory = Unit {0}
+IsJudgedSo asked bytes _ = ⊥
+
+-- the verdict of the bytes that were read from a source
+pub record ReadSo (asked : Command) (source source_after : SourceState) (verdict : Verdict) : Type 0 where
+  pub bytes : List ℕ
+  pub read : IsRead source bytes
+  pub to_end : ReadsTo verdict source_after
+  pub comes : Comes asked bytes verdict
+
+-- why a command has no reply to what a source has
+abbrev pub Stops : Command → SourceState → SourceState → Fault → Type 0
+Stops asked source source_after fault.ReadFault = Rose source.faults source_after.faults
+Stops asked source source_after fault.TooLong = ReadSo asked source source_after TooLong
+Stops asked source source_after (fault.Syntax line) = (byte : ℕ) × ReadSo asked source source_after (Unspelled byte)
+    × (line.items ≡ syntax_line byte)
+Stops asked source source_after (fault.Refused line) = (why : Refusal) × ReadSo asked source source_after (Refused why)
+    × (line.items ≡ refusal_line why)
+Stops asked source source_after fault.Memory = Unit {0}
+Stops asked source source_after fault.Usage = ⊥
+Stops asked source source_after fault.WriteFault = ⊥

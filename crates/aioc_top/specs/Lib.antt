@@ -1,9 +1,9 @@
-pub mod Answers
+pub mod Calls
 pub mod Faults
 pub mod Messages
-pub mod Outcomes
-pub mod Printing
-pub mod Reading
+pub mod Replies
 pub mod Serve
+pub mod Steps
 pub mod Status
+pub mod Verdicts
 pub mod Words

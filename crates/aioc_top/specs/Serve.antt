@@ -1,79 +1,58 @@
--- What `serve` prints, and when each status comes.
-use Rattle.std.specs.Prelude.{◌≡◌, ◌↔◌, ◌⊎◌, ◌<◌, ◌≤◌, ℕ, List, length, true, false, Option, Some, None, IfSome, IsSome}
+-- What the clauses of the top call say: each is a part of the table of calls, in words of its own.
+use Rattle.std.specs.Prelude.{◌≡◌, ◌⊎◌, ◌↔◌, ◌≤◌, ℕ, List, length, Bool, true, false, Option, Some, None, IfSome}
 use Rattle.std.specs.Io.KnownBytes.{Appends, IsAtEnd}
-use Rattle.dioc_terms.specs.declared.entries.Entry.{Entry}
-use Rattle.dioc_terms.specs.declared.bundles.Last.{Last}
-use Rattle.dioc_terms.specs.declared.bundles.Last.TheVariants as last
-use Rattle.dioc_terms.specs.declared.bundles.Bundle.{Bundle}
-use Rattle.dioc_terms.specs.Messages.{visible}
 use Rattle.aioc_io.specs.Faults.{Rose}
-use Rattle.aioc_io.specs.Sink.{TakesPart}
-use Rattle.dioc_syntax.specs.Grammar.{Spells, SpellsNone}
-use Rattle.trace_text.specs.Lines.{text}
-use Rattle.marked_laws.specs.Network.{Network, network_run, network_ended}
+use Rattle.aioc_io.specs.Sink.{SinkState, TakesPart}
+use Rattle.aioc_io.specs.Source.{SourceState}
+use Rattle.dioc_terms.specs.declared.entries.Entry.{Entry}
+use Rattle.dioc_terms.specs.Plain.{PlainBundle}
+use Rattle.dioc_syntax.specs.Grammar.{Spells}
+use Rattle.marked_laws.specs.Network.{Network, network_ended}
 use Rattle.net_core.specs.declared.refusals.Refusal.{Refusal}
-use Rattle.net_core.specs.declared.moves.Finish.{Finish}
-use Rattle.net_core.specs.declared.moves.Finish.TheVariants as finish
 use Rattle.net_core.specs.Headline.{Headline}
-use Rattle.net_core.specs.Refusals.{IsAccepted, refusal}
-use Rattle.net_core.specs.Schedule.{sched}
+use Rattle.net_core.specs.Refusals.{IsAccepted}
+use Rattle.command_words.specs.declared.commands.Options.{Options}
+use Rattle.command_words.specs.declared.commands.Command.{Command}
+use Rattle.command_words.specs.declared.commands.Command.TheVariants as command
+use Rattle.aioc_top.specs.Calls.{IsRead, SaysLine}
+use Rattle.aioc_top.specs.Messages.{usage_line, read_fault_line, write_fault_line, too_long_line, memory_line, syntax_line, refusal_line}
+use Rattle.aioc_top.specs.Replies.{Reply, Replies, refusal_of, run_reply, step_history}
+use Rattle.aioc_top.specs.Verdicts.{Replied, Comes, Cause, Answers, Refuses, status_of_end}
 use Rattle.aioc_top.specs.declared.status.Status.{Status}
 use Rattle.aioc_top.specs.declared.status.Status.TheVariants as status
-use Rattle.aioc_top.specs.declared.words.Command.{Command}
-use Rattle.aioc_top.specs.Messages.{memory_line, read_fault_line, refusal_line, syntax_line, too_long_line, usage_line, write_fault_line}
 
--- the most bytes of an input, and the most entries of a run
-abbrev pub byte_limit : ℕ
-byte_limit = 4194304
+-- the command wrote all of its text
+abbrev pub has_printed : Status → Bool
+has_printed status.Done = true
+has_printed status.Limit = true
+has_printed status.No = true
+has_printed _ = false
 
--- (kept shut, since the schedule would be computed as far as this number in each goal)
-unfoldable pub entry_limit : ℕ
-entry_limit = 20000
-
--- the history of `step`: the run that the schedule without a seed takes
-abbrev pub history_of : Bundle → List Entry
-history_of b = sched b None entry_limit
-
-abbrev pub last_line_of : Finish → ℕ → Last
-last_line_of finish.Ended n = last.Ended n
-last_line_of finish.Limit n = last.Stopped n
-
--- the text of a run of the bundle that finished so: the visible part of its history, and the number of all its entries
-abbrev pub printed_text : Bundle → Finish → List ℕ
-printed_text b how = text (visible (history_of b)) (last_line_of how (length (history_of b)))
-
--- the run of the bundle finishes so
-pub record RunFinishes (b : Bundle) (how : Finish) : Type 0 where
-  pub network : Network
-  pub runs : network_run b (history_of b) ≡ Some network
-  pub ended : (how ≡ finish.Ended) ↔ (network_ended b network ≡ true)
-  pub limit : (how ≡ finish.Limit) ↔ ((length (history_of b) ≡ entry_limit) × (network_ended b network ≡ false))
-
--- the bytes spell an accepted bundle, whose run finishes so
-pub record Answers (bytes : List ℕ) (how : Finish) : Type 0 where
-  pub bundle : Bundle
+-- The text of a run was printed: that of some history of an accepted bundle which the bytes spell, and these are the source's where
+-- it tells them. The headline holds of this very history. It is no longer than the options allow; the status tells how it ended.
+pub record RunPrinted (options : Options) (result : Status) (source : SourceState) (out out_after : SinkState) : Type 0 where
+  pub bytes : List ℕ
+  pub read : IsRead source bytes
+  pub bundle : PlainBundle
   pub spells : Spells bytes bundle
   pub accepted : IsAccepted bundle
-  pub finishes : RunFinishes bundle how
+  pub history : List Entry
+  pub network : Network
+  pub printed : Appends out.taken out_after.taken (run_reply options bundle history).text
+  pub headline : Headline bundle history network
+  pub within : length history ≤ options.steps
+  pub done : (result ≡ status.Done) ↔ (network_ended bundle.cast network ≡ true)
+  pub limit : (result ≡ status.Limit) ↔ ((length history ≡ options.steps) × (network_ended bundle.cast network ≡ false))
 
--- the bytes spell a bundle that is refused so
-pub record Refuses (bytes : List ℕ) (why : Refusal) : Type 0 where
-  pub bundle : Bundle
-  pub spells : Spells bytes bundle
-  pub refused : refusal bundle ≡ Some why
+-- with `step` the printed history is the one that the schedule takes
+abbrev pub StepText : Option Command → Status → SourceState → SinkState → SinkState → Type 0
+StepText asked result source out out_after = (options : Options) → asked ≡ Some (command.Step options) → has_printed result ≡ true
+    → (run : RunPrinted options result source out out_after) × (run.history ≡ step_history options run.bundle)
 
--- what of the input makes a status come
-abbrev pub Cause : Status → List ℕ → Type 0
-Cause status.Done bytes = Answers bytes finish.Ended
-Cause status.Limit bytes = Answers bytes finish.Limit
-Cause status.TooLong bytes = byte_limit < length bytes
-Cause status.Syntax bytes = (length bytes ≤ byte_limit) × SpellsNone bytes
-Cause status.Refused bytes = (why : Refusal) × Refuses bytes why
-Cause _ bytes = ⊥
-
-abbrev pub status_of_finish : Finish → Status
-status_of_finish finish.Ended = status.Done
-status_of_finish finish.Limit = status.Limit
+-- the headline, of the very history behind the text
+abbrev pub HeadlineHolds : Option Command → Status → SourceState → SinkState → SinkState → Type 0
+HeadlineHolds asked result source out out_after = (options : Options) → asked ≡ Some (command.Step options) → has_printed result ≡ true
+    → RunPrinted options result source out out_after
 
 -- memory ran out, or a device failed: nothing in the bytes makes it come
 abbrev pub GivesUp : Status → Type 0
@@ -82,73 +61,64 @@ GivesUp status.ReadFault = Unit {0}
 GivesUp status.WriteFault = Unit {0}
 GivesUp _ = ⊥
 
--- With words that are a command a status comes exactly where its cause is in the bytes of the source, where the source tells them;
--- only want of memory and a fault of a device stand before it.
-pub record ComesExactly (wanted result : Status) (command : Option Command) (left : Option (List ℕ)) : Type 0 where
-  pub only : result ≡ wanted → IsSome command × IfSome left (Cause wanted)
-  pub always : IsSome command → IfSome left (λ bytes. Cause wanted bytes → (result ≡ wanted) ⊎ GivesUp result)
+-- A status comes exactly where its cause is in the bytes of the source, where the source tells them; only want of memory and a fault
+-- of a device stand before it.
+pub record ComesExactly (wanted result : Status) (asked : Option Command) (source : SourceState) : Type 0 where
+  pub only : result ≡ wanted → (found : Command) × (asked ≡ Some found) × IfSome source.left (Cause found wanted)
+  pub always : (found : Command) → asked ≡ Some found
+      → IfSome source.left (λ bytes. Cause found wanted bytes → (result ≡ wanted) ⊎ GivesUp result)
 
--- nothing was read with words that are no command; what a text was read for comes after its end
-abbrev pub ReadsAll : Status → Option (List ℕ) → Option (List ℕ) → ℕ → ℕ → Type 0
-ReadsAll status.Usage left left_after faults faults_after = (left_after ≡ left) × (faults_after ≡ faults)
-ReadsAll status.Done left left_after faults faults_after = IsAtEnd left_after
-ReadsAll status.Limit left left_after faults faults_after = IsAtEnd left_after
-ReadsAll status.Syntax left left_after faults faults_after = IsAtEnd left_after
-ReadsAll status.Refused left left_after faults faults_after = IsAtEnd left_after
-ReadsAll status.WriteFault left left_after faults faults_after = IsAtEnd left_after
-ReadsAll _ left left_after faults faults_after = Unit {0}
+-- words that ask for no command get no other answer, but for want of memory; and nothing else gets it
+pub record UsageComes (result : Status) (asked : Option Command) : Type 0 where
+  pub only : result ≡ status.Usage → asked ≡ None
+  pub always : asked ≡ None → (result ≡ status.Usage) ⊎ (result ≡ status.Memory)
 
--- each bundle that the bytes spell has this text when its run has finished so, and `out` took it all
-abbrev pub TookText : Finish → Option (List ℕ) → Option (List ℕ) → Option (List ℕ) → Type 0
-TookText how left taken taken_after = IfSome left (λ bytes. (b : Bundle) → Spells bytes b → Appends taken taken_after (printed_text b how))
+-- a bundle that is spelled and not refused gets an answer of its command, or want of memory, where no device failed
+abbrev pub Complete : Status → Option Command → SourceState → SourceState → SinkState → SinkState → Type 0
+Complete result asked source source_after out out_after = (found : Command) → asked ≡ Some found
+    → (Rose source.faults source_after.faults → ⊥) → (Rose out.faults out_after.faults → ⊥)
+    → IfSome source.left (λ bytes. (b : PlainBundle) → Spells bytes b → refusal_of found b ≡ None
+        → ((reply : Reply) × Replies found b reply × (result ≡ status_of_end reply.end)) ⊎ (result ≡ status.Memory))
 
--- the text of `step`
-abbrev pub StepText : Status → Option (List ℕ) → Option (List ℕ) → Option (List ℕ) → Type 0
-StepText status.Done left taken taken_after = TookText finish.Ended left taken taken_after
-StepText status.Limit left taken taken_after = TookText finish.Limit left taken taken_after
-StepText _ left taken taken_after = Unit {0}
+-- words that ask for no command read nothing; what a text was read for comes after its end
+abbrev pub ReadsAll : Status → SourceState → SourceState → Type 0
+ReadsAll status.Usage source source_after = source_after ≡ source
+ReadsAll status.Done source source_after = IsAtEnd source_after.left
+ReadsAll status.Limit source source_after = IsAtEnd source_after.left
+ReadsAll status.No source source_after = IsAtEnd source_after.left
+ReadsAll status.Syntax source source_after = IsAtEnd source_after.left
+ReadsAll status.Refused source source_after = IsAtEnd source_after.left
+ReadsAll status.WriteFault source source_after = IsAtEnd source_after.left
+ReadsAll _ source source_after = Unit {0}
 
--- The headline holds of the history behind the text of each bundle that the bytes spell, and it finished so.
-abbrev pub HeadlineOf : Finish → Bundle → Type 0
-HeadlineOf finish.Ended b = (N : Network) × Headline b (history_of b) N × (network_ended b N ≡ true)
-HeadlineOf finish.Limit b = (N : Network) × Headline b (history_of b) N × (network_ended b N ≡ false) × (length (history_of b) ≡ entry_limit)
+-- a part of a text that the command may write for the bytes
+pub record PartPrinted (asked : Option Command) (source : SourceState) (out out_after : SinkState) : Type 0 where
+  pub command : Command
+  pub asked_for : asked ≡ Some command
+  pub bytes : List ℕ
+  pub read : IsRead source bytes
+  pub reply : Reply
+  pub comes : Answers command bytes reply
+  pub part : TakesPart out.taken out_after.taken reply.text
 
-abbrev pub HeadlineHolds : Status → Option (List ℕ) → Type 0
-HeadlineHolds status.Done left = IfSome left (λ bytes. (b : Bundle) → Spells bytes b → HeadlineOf finish.Ended b)
-HeadlineHolds status.Limit left = IfSome left (λ bytes. (b : Bundle) → Spells bytes b → HeadlineOf finish.Limit b)
-HeadlineHolds _ left = Unit {0}
+-- `out` isn't called before a refusal; with a fault of `out` it took a part of a text that it might have taken whole
+abbrev pub Silent : Status → Option Command → SourceState → SinkState → SinkState → Type 0
+Silent status.Done asked source out out_after = Unit {0}
+Silent status.Limit asked source out out_after = Unit {0}
+Silent status.No asked source out out_after = Unit {0}
+Silent status.WriteFault asked source out out_after = PartPrinted asked source out out_after
+Silent _ asked source out out_after = out_after ≡ out
 
--- `out` was not called before a refusal; with a fault of `out` it took a part of the text of a bundle that the bytes spell
-abbrev pub Silent : Status → Option (List ℕ) → Option (List ℕ) → Option (List ℕ) → ℕ → ℕ → Type 0
-Silent status.Done left taken taken_after count next = Unit {0}
-Silent status.Limit left taken taken_after count next = Unit {0}
-Silent status.WriteFault left taken taken_after count next =
-    IfSome left (λ bytes. (how : Finish) × (a : Answers bytes how) × TakesPart taken taken_after (printed_text a.bundle how))
-Silent _ left taken taken_after count next = (taken_after ≡ taken) × (next ≡ count)
-
--- a sink took the bytes, or its count of faults rose and it took a part of them
-abbrev pub Told : Option (List ℕ) → Option (List ℕ) → ℕ → ℕ → List ℕ → Type 0
-Told before after count next bytes = Appends before after bytes ⊎ (Rose count next × TakesPart before after bytes)
-
--- what `err` took, by what it had taken and its counts of faults: nothing where `out` took the whole text, and else the line of the status
-abbrev pub Says : Status → Option (List ℕ) → Option (List ℕ) → Option (List ℕ) → ℕ → ℕ → Type 0
-Says status.Done left said said_after count next = said_after ≡ said
-Says status.Limit left said said_after count next = said_after ≡ said
-Says status.Usage left said said_after count next = Told said said_after count next usage_line
-Says status.ReadFault left said said_after count next = Told said said_after count next read_fault_line
-Says status.WriteFault left said said_after count next = Told said said_after count next write_fault_line
-Says status.TooLong left said said_after count next = Told said said_after count next too_long_line
-Says status.Syntax left said said_after count next = (byte : ℕ) × Told said said_after count next (syntax_line byte)
-Says status.Refused left said said_after count next = (why : Refusal) × Told said said_after count next (refusal_line why)
-    × IfSome left (λ bytes. (b : Bundle) → Spells bytes b → refusal b ≡ Some why)
-Says status.Memory left said said_after count next = Told said said_after count next memory_line
-Says status.No left said said_after count next = ⊥
-
--- the answer of an accepted bundle
-abbrev pub IsAnswered : Status → Type 0
-IsAnswered result = (result ≡ status.Done) ⊎ (result ≡ status.Limit) ⊎ (result ≡ status.Memory)
-
--- with a command and devices whose counts of faults don't rise an accepted bundle is answered
-abbrev pub Complete : Status → Option Command → Option (List ℕ) → Type 0 → Type 0 → Type 0
-Complete result command left read_fault write_fault = IsSome command → (read_fault → ⊥) → (write_fault → ⊥)
-    → IfSome left (λ bytes. (b : Bundle) → Spells bytes b → IsAccepted b → IsAnswered result)
+-- `err` isn't called where `out` took the whole text, and else it took the line of the status, or a part of it where it failed
+abbrev pub SaysWhy : Status → Option Command → SourceState → SinkState → SinkState → Type 0
+SaysWhy status.Done asked source err err_after = err_after ≡ err
+SaysWhy status.Limit asked source err err_after = err_after ≡ err
+SaysWhy status.No asked source err err_after = err_after ≡ err
+SaysWhy status.Usage asked source err err_after = SaysLine err err_after usage_line
+SaysWhy status.ReadFault asked source err err_after = SaysLine err err_after read_fault_line
+SaysWhy status.WriteFault asked source err err_after = SaysLine err err_after write_fault_line
+SaysWhy status.TooLong asked source err err_after = SaysLine err err_after too_long_line
+SaysWhy status.Syntax asked source err err_after = (byte : ℕ) × SaysLine err err_after (syntax_line byte)
+SaysWhy status.Refused asked source err err_after = (found : Command) × (asked ≡ Some found) × ((why : Refusal)
+    × SaysLine err err_after (refusal_line why) × IfSome source.left (λ bytes. Refuses found bytes why))
+SaysWhy status.Memory asked source err err_after = SaysLine err err_after memory_line

@@ -1,20 +1,19 @@
--- Which words are a command.
-use Rattle.std.specs.Prelude.{ℕ, List, [], ◌∷◌, map, length, Vec, Bool, true, ◌&&◌, ◌==◌, Option, Some, None, if◌then◌else◌, codes}
-use Rattle.std.specs.Str.{bytes_eq}
+-- Which commands are built, and which of them words ask for.
+use Rattle.std.specs.Prelude.{ℕ, List, map, Vec, Bool, true, false, ◌&&◌, not, is_none, Option, Some, None, option_and_then, if◌then◌else◌}
 use Rattle.std.specs.declared.alloc.Global.{Global}
-use Rattle.aioc_top.specs.declared.words.Command.{Command}
-use Rattle.aioc_top.specs.declared.words.Command.TheVariants.{Step}
+use Rattle.command_words.specs.Commands.{command_of}
+use Rattle.command_words.specs.declared.commands.Command.{Command}
+use Rattle.command_words.specs.declared.commands.Command.TheVariants as command
 
 -- the bytes of the words
 abbrev pub spelled : List (Vec ℕ Global) → List (List ℕ)
 spelled words = map (λ word. word.items) words
 
--- no option at all, or the word `--` that ends them, alone
-abbrev pub no_options : List (List ℕ) → Bool
-no_options [] = true
-no_options (end ∷ others) = bytes_eq end (codes "--") && length others == 0
+-- the commands that are built: `step`, without a seed and without JSON lines
+abbrev pub is_built : Command → Bool
+is_built (command.Step options) = is_none options.seed && not options.json
+is_built _ = false
 
--- the first word is the command, and no option stands behind it
-abbrev pub command_of : List (List ℕ) → Option Command
-command_of [] = None
-command_of (name ∷ options) = if bytes_eq name (codes "step") && no_options options then Some Step else None
+-- the command that the words ask for, where it is built
+abbrev pub asked : List (List ℕ) → Option Command
+asked words = option_and_then (λ found. if is_built found then Some found else None) (command_of words)

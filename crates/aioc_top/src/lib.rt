@@ -1,14 +1,16 @@
 //! The program behind `main`: from the words of the command line and the bytes of a source to the trace in a sink.
 #![tactic(auto)]
 
-mod answers;
+mod commands;
 mod faults;
+mod judging;
 mod reading;
+mod replies;
 mod service;
 mod status;
 mod words;
 
-pub use service::serve;
+pub use service::serve_alone;
 pub use status::Status;
 
 #[cfg(test)]

@@ -1,44 +1,32 @@
-//! From the words and the source to the answer of a command.
+//! From a source to the reply of a command.
 
-ghost use Rattle.std.specs.Prelude.{◌≡◌, Some, IfSome, IfOk, IfErr, IsSome, OnOk};
-ghost use Rattle.std.specs.Io.KnownBytes.{IsAtEnd};
-ghost use Rattle.aioc_top.specs.Answers.{IsAnswer};
-ghost use Rattle.aioc_top.specs.Reading.{StopsReading};
-ghost use Rattle.aioc_top.specs.Words.{command_of, spelled};
+ghost use Rattle.std.specs.Prelude.{◌≡◌, true, IfErr, IfOk};
+ghost use Rattle.aioc_top.specs.Faults.{ReadSo, Stops};
+ghost use Rattle.aioc_top.specs.Replies.{reply_of};
+ghost use Rattle.aioc_top.specs.Verdicts.{Replied};
+ghost use Rattle.aioc_top.specs.Words.{is_built};
 
-use crate::answers::{Answer, step};
 use crate::faults::Fault;
-use crate::words::{Command, read_command};
+use crate::judging::judge;
+use crate::replies::Written;
 use aioc_io::{ReadAllFault, Source, read_all};
+use command_words::Command;
+use dioc_terms::MOST_BYTES;
 use std::alloc::Global;
 
-// The most bytes of an input.
-const BYTE_LIMIT: usize = 4_194_304;
-
-/// The answer of the command that the words spell, for all the bytes of the source.
-pub fn answer_words<S: Source>(
+/// What the command replies to all the bytes of the source, or why it doesn't.
+pub fn answer<S: Source>(
     alloc: Global,
-    words: &[Vec<u8>],
+    command: &Command,
     source: &mut S,
-) -> Result<Answer, Fault>
-    ensures command { OnOk result (IsSome (command_of (spelled words.now))) }
-    ensures end { OnOk result (IsAtEnd (S.left source.new)) }
-    ensures answer { IfOk result (λ answer. IfSome (S.left source.old) (λ bytes. IsAnswer bytes answer)) }
-    ensures fault { IfErr result (StopsReading (command_of (spelled words.now)) (S.left source.old) (S.left source.new) (S.faults source.old) (S.faults source.new)) }
+) -> Result<Written, Fault>
+    requires built { is_built command.now ≡ true }
+    ensures reply { IfOk result (λ written.
+        ReadSo command.now (S.state source.old) (S.state source.new) (Replied (reply_of written))) }
+    ensures fault { IfErr result (Stops command.now (S.state source.old) (S.state source.new)) }
 {
-    match read_command(words) {
-        Some(Command::Step) => step_source(alloc, source),
-        None => Err(Fault::Usage),
-    }
-}
-
-fn step_source<S: Source>(alloc: Global, source: &mut S) -> Result<Answer, Fault>
-    ensures end { OnOk result (IsAtEnd (S.left source.new)) }
-    ensures answer { IfOk result (λ answer. IfSome (S.left source.old) (λ bytes. IsAnswer bytes answer)) }
-    ensures fault { IfErr result (StopsReading (Some Command.Step) (S.left source.old) (S.left source.new) (S.faults source.old) (S.faults source.new)) }
-{
-    match read_all(alloc, source, BYTE_LIMIT) {
-        Ok(bytes) => step(alloc, &bytes),
+    match read_all(alloc, source, MOST_BYTES) {
+        Ok(bytes) => judge(alloc, command, &bytes),
         Err(ReadAllFault::Fault) => Err(Fault::ReadFault),
         Err(ReadAllFault::TooLong) => Err(Fault::TooLong),
         Err(ReadAllFault::Memory) => Err(Fault::Memory),

@@ -1,59 +1,72 @@
 //! The top call.
 
-ghost use Rattle.std.specs.Prelude.{◌≡◌, ◌≢◌, ◌↔◌, IsSome, None};
+ghost use Rattle.std.specs.Prelude.{◌≡◌, Some, true};
 ghost use Rattle.aioc_io.specs.Faults.{Rose};
 ghost use Rattle.dioc_syntax.specs.Grammar.{OneBundle, SpelledAreFormed};
 ghost use Rattle.net_core.specs.Headline.{EveryRun};
+ghost use Rattle.net_core.specs.Laws.{RunsAreSound};
+ghost use Rattle.aioc_top.specs.Calls.{Happens, PrintsReply, SaysLine};
 ghost use Rattle.aioc_top.specs.Faults.{line_of, status_of};
-ghost use Rattle.aioc_top.specs.Outcomes.{Outcome};
-ghost use Rattle.aioc_top.specs.Printing.{PrintsAnswer};
-ghost use Rattle.aioc_top.specs.Serve.{ComesExactly, Complete, HeadlineHolds, ReadsAll, Says, Silent, StepText, Told, status_of_finish};
-ghost use Rattle.aioc_top.specs.Words.{command_of, spelled};
+ghost use Rattle.aioc_top.specs.Replies.{reply_of};
+ghost use Rattle.aioc_top.specs.Serve.{ComesExactly, Complete, HeadlineHolds, ReadsAll, SaysWhy, Silent, StepText, UsageComes};
+ghost use Rattle.aioc_top.specs.Words.{asked, is_built, spelled};
 
-use crate::answers::Answer;
 use crate::faults::Fault;
-use crate::reading::answer_words;
+use crate::reading::answer;
+use crate::replies::Written;
 use crate::status::Status;
+use crate::words::ask;
 use aioc_io::{Failed, Sink, Source, write_all};
+use command_words::Command;
 use dioc_syntax::{one_bundle, spelled_are_formed};
-use net_core::{Finish, every_run};
+use dioc_terms::Memory;
+use net_core::{every_run, runs_are_sound};
 use std::alloc::Global;
 
-/// Does what the words after the program's name say: reads a bundle from the source, and writes the trace of its run
-/// to `out`. Where it can't, it writes one line to `err`, and nothing to `out`; only a fault of `out` leaves a part of the text
-/// there. Its status tells how it went; what a status says of bytes holds where the source and the sinks tell theirs.
-pub fn serve<S: Source, O: Sink, E: Sink>(
+/// Does what the words after the program's name say: reads a bundle from the source, and writes the text of the command to `out`.
+/// Where it can't, it writes one line to `err`, and nothing to `out`; only a fault of `out` leaves a part of the text there. It waits
+/// for nobody.
+///
+/// Its status tells how it went. What a clause says of the source's bytes holds where the source tells them, and what it says of
+/// bytes that were taken holds where the sink tells them; that what was printed is the text of some accepted bundle holds anyway.
+pub fn serve_alone<S: Source, O: Sink, E: Sink>(
     alloc: Global,
     words: &[Vec<u8>],
     source: &mut S,
     out: &mut O,
     err: &mut E,
 ) -> Status
-    // What is printed: the text of the bundle's run by the schedule, and no other.
-    ensures step_text { StepText result (S.left source.old) (O.taken out.old) (O.taken out.new) }
+    // What is printed: with `step` the text of the run that the schedule takes, and no other.
+    ensures step_text { StepText (asked (spelled words.now)) result (S.state source.old)
+        (O.state out.old) (O.state out.new) }
 
     // The headline of the history behind that text: the choreography itself plays it, with the same changes at the same
     // places; no two pending messages can be confused; nothing gets stuck. And so it is of every run of an accepted bundle.
-    ensures headline { HeadlineHolds result (S.left source.old) }
+    ensures headline { HeadlineHolds (asked (spelled words.now)) result (S.state source.old)
+        (O.state out.old) (O.state out.new) }
     ensures every_run { EveryRun }
 
     // When each status comes.
-    ensures done { ComesExactly Status.Done result (command_of (spelled words.now)) (S.left source.old) }
-    ensures limit { ComesExactly Status.Limit result (command_of (spelled words.now)) (S.left source.old) }
-    ensures too_long { ComesExactly Status.TooLong result (command_of (spelled words.now)) (S.left source.old) }
-    ensures syntax { ComesExactly Status.Syntax result (command_of (spelled words.now)) (S.left source.old) }
-    ensures refused { ComesExactly Status.Refused result (command_of (spelled words.now)) (S.left source.old) }
-    ensures usage { (result ≡ Status.Usage) ↔ (command_of (spelled words.now) ≡ None) }
-    ensures read_fault { result ≡ Status.ReadFault → Rose (S.faults source.old) (S.faults source.new) }
-    ensures write_fault { result ≡ Status.WriteFault → Rose (O.faults out.old) (O.faults out.new) }
-    ensures memory { result ≡ Status.Memory → IsSome (command_of (spelled words.now)) }
-    ensures never_no { result ≢ Status.No }
-    ensures complete { Complete result (command_of (spelled words.now)) (S.left source.old) (Rose (S.faults source.old) (S.faults source.new)) (Rose (O.faults out.old) (O.faults out.new)) }
+    ensures usage { UsageComes result (asked (spelled words.now)) }
+    ensures done { ComesExactly Status.Done result (asked (spelled words.now)) (S.state source.old) }
+    ensures limit { ComesExactly Status.Limit result (asked (spelled words.now)) (S.state source.old) }
+    ensures no { ComesExactly Status.No result (asked (spelled words.now)) (S.state source.old) }
+    ensures too_long { ComesExactly Status.TooLong result (asked (spelled words.now)) (S.state source.old) }
+    ensures syntax { ComesExactly Status.Syntax result (asked (spelled words.now)) (S.state source.old) }
+    ensures refused { ComesExactly Status.Refused result (asked (spelled words.now)) (S.state source.old) }
+    ensures read_fault { result ≡ Status.ReadFault
+        → Rose (S.state source.old).faults (S.state source.new).faults }
+    ensures write_fault { result ≡ Status.WriteFault
+        → Rose (O.state out.old).faults (O.state out.new).faults }
+    ensures complete { Complete result (asked (spelled words.now)) (S.state source.old)
+        (S.state source.new) (O.state out.old) (O.state out.new) }
 
     // What is done with the source and the sinks.
-    ensures reads_all { ReadsAll result (S.left source.old) (S.left source.new) (S.faults source.old) (S.faults source.new) }
-    ensures silent { Silent result (S.left source.old) (O.taken out.old) (O.taken out.new) (O.faults out.old) (O.faults out.new) }
-    ensures says { Says result (S.left source.old) (E.taken err.old) (E.taken err.new) (E.faults err.old) (E.faults err.new) }
+    ensures reads_all { ReadsAll result (S.state source.old) (S.state source.new) }
+    ensures silent { Silent result (asked (spelled words.now)) (S.state source.old)
+        (O.state out.old) (O.state out.new) }
+    ensures says { SaysWhy result (asked (spelled words.now)) (S.state source.old)
+        (E.state err.old) (E.state err.new) }
 {
     know_laws();
     do_words(alloc, words, source, out, err)
@@ -64,13 +77,15 @@ fn know_laws()
     ensures one { OneBundle }
     ensures formed { SpelledAreFormed }
     ensures every_run { EveryRun }
+    ensures sound { RunsAreSound }
 {
     one_bundle();
     spelled_are_formed();
     every_run();
+    runs_are_sound();
 }
 
-// The answer to the words, written to the sinks.
+// Does what the words ask for, or says that they ask for nothing.
 fn do_words<S: Source, O: Sink, E: Sink>(
     alloc: Global,
     words: &[Vec<u8>],
@@ -78,37 +93,63 @@ fn do_words<S: Source, O: Sink, E: Sink>(
     out: &mut O,
     err: &mut E,
 ) -> Status
-    ensures { Outcome (record { command = command_of (spelled words.now); left = S.left source.old; left_after = S.left source.new; faults = S.faults source.old; faults_after = S.faults source.new; sinks = record { taken = O.taken out.old; taken_after = O.taken out.new; out_faults = O.faults out.old; out_faults_after = O.faults out.new; said = E.taken err.old; said_after = E.taken err.new; err_faults = E.faults err.old; err_faults_after = E.faults err.new } }) result }
+    ensures { Happens (record {
+        asked = asked (spelled words.now);
+        source = S.state source.old;
+        source_after = S.state source.new;
+        out = O.state out.old;
+        out_after = O.state out.new;
+        err = E.state err.old;
+        err_after = E.state err.new;
+    }) result }
 {
-    match answer_words(alloc, words, source) {
-        Ok(answer) => print(&answer, out, err),
+    match ask(alloc, words) {
+        Ok(Some(command)) => do_command(alloc, &command, source, out, err),
+        Ok(None) => report(&Fault::Usage, err),
+        Err(Memory) => report(&Fault::Memory, err),
+    }
+}
+
+// Does a command, or says why not.
+fn do_command<S: Source, O: Sink, E: Sink>(
+    alloc: Global,
+    command: &Command,
+    source: &mut S,
+    out: &mut O,
+    err: &mut E,
+) -> Status
+    requires built { is_built command.now ≡ true }
+    ensures { Happens (record {
+        asked = Some command.now;
+        source = S.state source.old;
+        source_after = S.state source.new;
+        out = O.state out.old;
+        out_after = O.state out.new;
+        err = E.state err.old;
+        err_after = E.state err.new;
+    }) result }
+{
+    match answer(alloc, command, source) {
+        Ok(written) => print(&written, out, err),
         Err(fault) => report(&fault, err),
     }
 }
 
-// Writes the text of an answer.
-fn print<O: Sink, E: Sink>(answer: &Answer, out: &mut O, err: &mut E) -> Status
-    ensures { PrintsAnswer answer.now (record { taken = O.taken out.old; taken_after = O.taken out.new; out_faults = O.faults out.old; out_faults_after = O.faults out.new; said = E.taken err.old; said_after = E.taken err.new; err_faults = E.faults err.old; err_faults_after = E.faults err.new }) result }
+// Writes the text of a command.
+fn print<O: Sink, E: Sink>(written: &Written, out: &mut O, err: &mut E) -> Status
+    ensures { PrintsReply (reply_of written.now) (O.state out.old) (O.state out.new)
+        (E.state err.old) (E.state err.new) result }
 {
-    match write_all(out, &answer.text) {
-        Ok(()) => finished(answer.finish),
+    match write_all(out, &written.text) {
+        Ok(()) => written.end.status(),
         Err(Failed) => report(&Fault::WriteFault, err),
-    }
-}
-
-fn finished(finish: Finish) -> Status
-    ensures { result ≡ status_of_finish finish }
-{
-    match finish {
-        Finish::Ended => Status::Done,
-        Finish::Limit => Status::Limit,
     }
 }
 
 // Tells a person why a command did not do its work. A fault of `err` changes nothing: the rest of the line is dropped.
 fn report<E: Sink>(fault: &Fault, err: &mut E) -> Status
     ensures status { result ≡ status_of fault.now }
-    ensures line { Told (E.taken err.old) (E.taken err.new) (E.faults err.old) (E.faults err.new) (line_of fault.now) }
+    ensures line { SaysLine (E.state err.old) (E.state err.new) (line_of fault.now) }
 {
     match write_all(err, fault.line()) {
         Ok(()) => fault.status(),

@@ -1,39 +1,39 @@
-//! The words of the command line.
+//! The words of the command line, and which commands are built.
 
-ghost use Rattle.std.specs.Prelude.{◌≡◌};
-ghost use Rattle.std.specs.Str.{bytes_eq};
-ghost use Rattle.aioc_top.specs.Words.{command_of, no_options, spelled};
+ghost use Rattle.std.specs.Prelude.{◌≡◌, IfOk};
+ghost use Rattle.aioc_top.specs.Words.{asked, is_built, spelled};
 
-/// What the words ask for.
-#[derive(Clone, Copy, Debug, PartialEq, Eq)]
-pub enum Command {
-    /// Runs a bundle on one thread and prints the trace.
-    Step,
+use command_words::{Command, read_words};
+use dioc_terms::Memory;
+use std::alloc::Global;
+
+/// The command that the words after the program's name ask for; none where they spell no command, or one that isn't built.
+pub fn ask(alloc: Global, words: &[Vec<u8>]) -> Result<Option<Command>, Memory>
+    ensures { IfOk result (λ found. found ≡ asked (spelled words.now)) }
+{
+    match read_words(alloc, words)? {
+        Some(command) => Ok(built(command)),
+        None => Ok(None),
+    }
 }
 
-/// The command that the words after the program's name spell. A last word `--` only ends the options.
-pub fn read_command(words: &[Vec<u8>]) -> Option<Command>
-    ensures { result ≡ command_of (spelled words.now) }
+// The command, where it is built.
+fn built(command: Command) -> Option<Command>
+    ensures { result ≡ (if is_built command then Some command else None) }
 {
-    let (name, options) = words.split_first()?;
-    if is(name, b"step") && are_no_options(options) {
-        Some(Command::Step)
+    if is_built(&command) {
+        Some(command)
     } else {
         None
     }
 }
 
-fn are_no_options(words: &[Vec<u8>]) -> bool
-    ensures { result ≡ no_options (spelled words.now) }
+/// Whether the command is built.
+fn is_built(command: &Command) -> bool
+    ensures { result ≡ is_built command.now }
 {
-    match words.split_first() {
-        Some((end, others)) => is(end, b"--") && others.is_empty(),
-        None => true,
+    match command {
+        Command::Step(options) => options.seed.is_none() && !options.json,
+        _ => false,
     }
-}
-
-fn is(word: &[u8], text: &[u8]) -> bool
-    ensures { result ≡ bytes_eq word.now text.now }
-{
-    word == text
 }

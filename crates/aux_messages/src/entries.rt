@@ -5,7 +5,8 @@ ghost use Rattle.dioc_terms.specs.Messages.{is_aux};
 
 use dioc_terms::Entry;
 
-/// Whether the entry puts or takes a message with an auxiliary tag. All other entries are visible. It takes no memory.
+/// Whether the entry puts or takes a message with an auxiliary tag. All other entries are visible.
+/// It takes no memory.
 pub fn is_aux(entry: &Entry) -> bool
     ensures { result ≡ is_aux entry.now }
 {

@@ -1,4 +1,5 @@
--- Who begins a term, and who is in each group that ends it: the same questions as those to the lists, by recursion over the term.
+-- Who begins a term, and who is in each group that ends it: the same questions as those to the
+-- lists, by recursion over the term.
 use Rattle.std.specs.Prelude.{Bool, true, false, ◌&&◌, ◌||◌, if◌then◌else◌}
 use Rattle.dioc_terms.specs.declared.names.Role.{Role}
 use Rattle.dioc_terms.specs.Equality.{role_eq}
@@ -25,6 +26,7 @@ attends_ends q (Input i x r) = role_eq q r
 attends_ends q (Seq I J) = if empty J then attends_ends q I else attends_ends q J
 attends_ends q (Par I J) = attends_ends q I && attends_ends q J
 attends_ends q (If i r g I J) =
-    (if empty I then is_in q (If i r g I J) else attends_ends q I) && (if empty J then is_in q (If i r g I J) else attends_ends q J)
+    (if empty I then is_in q (If i r g I J) else attends_ends q I)
+    && (if empty J then is_in q (If i r g I J) else attends_ends q J)
 attends_ends q (While i r g I) = is_in q (While i r g I)
 attends_ends q (Scope i r I extra props level) = is_in q (Scope i r I extra props level)

@@ -8,5 +8,6 @@ use Rattle.connectedness.specs.declared.checks.CheckFault.TheVariants.{Unlinked,
 
 -- an unlinked sequence is the first gap; want of memory says nothing
 abbrev pub IsFaultOf : List Role → Term → CheckFault → Type 0
-IsFaultOf cast I (Unlinked first second role) = first_gap cast I ≡ Some (record { first = first; second = second; role = role })
+IsFaultOf cast I (Unlinked first second role) =
+    first_gap cast I ≡ Some (record { first = first; second = second; role = role })
 IsFaultOf cast I Memory = Unit {0}

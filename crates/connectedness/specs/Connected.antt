@@ -1,4 +1,5 @@
--- A sequence is connected where whoever begins its second part took part in each ending of its first.
+-- A sequence is connected where whoever begins its second part took part in each ending of its
+-- first.
 use Rattle.std.specs.Prelude.{List, [], ◌∷◌, ◌++◌, Bool, true, ◌&&◌, not, if◌then◌else◌, Option, Some, None, find}
 use Rattle.std.specs.List.{list_all}
 use Rattle.dioc_terms.specs.declared.names.Role.{Role}
@@ -18,7 +19,8 @@ starters (If i r g I J) = r ∷ []
 starters (While i r g I) = r ∷ []
 starters (Scope i r I extra props level) = r ∷ []
 
--- The groups of roles that end a term, one for each ending. An empty branch of a choice counts as one group, all roles of the choice.
+-- The groups of roles that end a term, one for each ending. An empty branch of a choice counts as
+-- one group, all roles of the choice.
 abbrev pub groups : Term → List (List Role)
 groups Skip = []
 groups (Com i o a e b x) = (a ∷ b ∷ []) ∷ []
@@ -27,7 +29,8 @@ groups (Input i x r) = (r ∷ []) ∷ []
 groups (Seq I J) = if empty J then groups I else groups J
 groups (Par I J) = groups I ++ groups J
 groups (If i r g I J) =
-    (if empty I then mentions (If i r g I J) ∷ [] else groups I) ++ (if empty J then mentions (If i r g I J) ∷ [] else groups J)
+    (if empty I then mentions (If i r g I J) ∷ [] else groups I)
+    ++ (if empty J then mentions (If i r g I J) ∷ [] else groups J)
 groups (While i r g I) = mentions (While i r g I) ∷ []
 groups (Scope i r I extra props level) = mentions (Scope i r I extra props level) ∷ []
 
@@ -74,9 +77,12 @@ pub record Gap : Type 0 where
   pub second : Index
   pub role : Role
 
--- the gap of one sequence: the first role of the cast that begins the second part and is missing from a group of the first
+-- the gap of one sequence: the first role of the cast that begins the second part and is missing
+-- from a group of the first
 abbrev pub gap_at : List Role → Term → Term → Option Gap
-gap_at cast I J = gap (first_index I) (first_index J) (find (λ q. member q (starters J) && not (in_each_group I q)) cast)
+gap_at cast I J =
+    gap (first_index I) (first_index J)
+    (find (λ q. member q (starters J) && not (in_each_group I q)) cast)
   where
     gap : Option Index → Option Index → Option Role → Option Gap
     gap (Some i) (Some j) (Some q) = Some (record { first = i; second = j; role = q })

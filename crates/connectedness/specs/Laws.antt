@@ -10,9 +10,12 @@ use Rattle.connectedness.specs.ByCases.{begins, attends_ends}
 pub record RolesAtEnds : Type 0 where
   pub starter : (q : Role) (I : Term) → member q (starters I) ≡ begins q I
   pub in_groups : (q : Role) (I : Term) → in_each_group I q ≡ attends_ends q I
-  -- so a sequence is linked where each role that begins the second part is in each group of the first
-  pub links : (I J : Term) → linked I J ≡ true → (q : Role) → begins q J ≡ true → attends_ends q I ≡ true
-  pub linked : (I J : Term) → ((q : Role) → begins q J ≡ true → attends_ends q I ≡ true) → linked I J ≡ true
+  -- so a sequence is linked where each role that begins the second part is in each group of the
+  -- first
+  pub links : (I J : Term) → linked I J ≡ true → (q : Role) → begins q J ≡ true → attends_ends q I
+      ≡ true
+  pub linked : (I J : Term) → ((q : Role) → begins q J ≡ true → attends_ends q I ≡ true)
+      → linked I J ≡ true
 
 abbrev pub HasRoles : List Role → Term → Type 0
 HasRoles cast I = (q : Role) → is_in q I ≡ true → member q cast ≡ true
@@ -20,7 +23,8 @@ HasRoles cast I = (q : Role) → is_in q I ≡ true → member q cast ≡ true
 -- a term is connected exactly where it has no gap, for a cast with all its roles
 pub record GapsAreFound : Type 0 where
   pub none : (cast : List Role) (I : Term) → connected I ≡ true → first_gap cast I ≡ None
-  pub found : (cast : List Role) (I : Term) → HasRoles cast I → first_gap cast I ≡ None → connected I ≡ true
+  pub found : (cast : List Role) (I : Term) → HasRoles cast I → first_gap cast I ≡ None
+      → connected I ≡ true
 
 -- a stamped body has the same starters and groups, and is connected where the body is
 pub record StampedConnected : Type 0 where

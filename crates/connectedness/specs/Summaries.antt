@@ -1,4 +1,5 @@
--- What the check keeps of a part of a choreography: its first index, how each role of the cast takes part in it, and its first gap.
+-- What the check keeps of a part of a choreography: its first index, how each role of the cast
+-- takes part in it, and its first gap.
 use Rattle.std.specs.Prelude.{◌≡◌, List, map, Bool, ◌&&◌, ◌||◌, not, if◌then◌else◌, Option, Some, None, slice_get}
 use Rattle.dioc_terms.specs.declared.names.Role.{Role}
 use Rattle.dioc_terms.specs.Terms.{Term, is_in}
@@ -12,9 +13,11 @@ use Rattle.connectedness.specs.declared.summaries.Summary.{Summary}
 abbrev pub presence_in : Term → Role → Presence
 presence_in I q = record { starts = begins q I; attends = attends_ends q I; named = is_in q I }
 
--- in a message, by whether the role sends or receives it; a step of one role counts as a message to itself
+-- in a message, by whether the role sends or receives it; a step of one role counts as a message to
+-- itself
 abbrev pub in_act : Bool → Bool → Presence
-in_act sends receives = record { starts = sends; attends = sends || receives; named = sends || receives }
+in_act sends receives =
+    record { starts = sends; attends = sends || receives; named = sends || receives }
 
 -- in two parts one after the other, from that in each, where the first or the second may be empty
 abbrev pub in_sequence : Bool → Bool → Presence → Presence → Presence
@@ -26,7 +29,13 @@ in_sequence no_first no_second x y = record {
 
 -- in two parts side by side
 abbrev pub in_parallel : Presence → Presence → Presence
-in_parallel x y = record { starts = x.starts || y.starts; attends = x.attends && y.attends; named = x.named || y.named }
+in_parallel x y =
+    record {
+      starts = x.starts || y.starts;
+      attends = x.attends && y.attends;
+      named = x.named
+          || y.named;
+    }
 
 -- in a choice, from that in its two branches side by side, where one of them may be empty
 abbrev pub in_choice : Bool → Bool → Presence → Presence
@@ -36,7 +45,8 @@ in_choice one_empty leads both = record {
   named = leads || both.named;
 }
 
--- in a loop or a scope, from that in its body, where the scope may name the role further; all its roles are one group
+-- in a loop or a scope, from that in its body, where the scope may name the role further; all its
+-- roles are one group
 abbrev pub in_block : Bool → Bool → Presence → Presence
 in_block leads named_further body = record {
   starts = leads;
@@ -47,7 +57,9 @@ in_block leads named_further body = record {
 -- a gap, kept with the number of its role in the cast
 abbrev pub IsGapOf : List Role → Option FoundGap → Option Gap → Type 0
 IsGapOf cast None None = Unit {0}
-IsGapOf cast (Some found) (Some gap) = (found.first ≡ gap.first) × (found.second ≡ gap.second) × (slice_get cast found.role ≡ Some gap.role)
+IsGapOf cast (Some found) (Some gap) =
+    (found.first ≡ gap.first) × (found.second ≡ gap.second)
+    × (slice_get cast found.role ≡ Some gap.role)
 IsGapOf cast None (Some gap) = ⊥
 IsGapOf cast (Some found) None = ⊥
 

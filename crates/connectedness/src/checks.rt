@@ -15,7 +15,8 @@ use thiserror::Error;
 /// Why a choreography is refused.
 #[derive(Debug, Drop, Error)]
 pub enum CheckFault {
-    /// A sequence whose second part is begun by a role that isn't in each group of roles that ends the first part.
+    /// A sequence whose second part is begun by a role that isn't in each group of roles that ends
+    /// the first part.
     #[error("a sequence is not linked")]
     Unlinked {
         /// The index of the first construct of the first part.
@@ -40,12 +41,13 @@ impl From<Memory> for CheckFault {
     }
 }
 
-/// Whether each sequence of a choreography is linked: whoever begins its second part is in each group of roles that ends
-/// its first part. The cast has the roles of the choreography.
+/// Whether each sequence of a choreography is linked: whoever begins its second part is in each
+/// group of roles that ends its first part. The cast has the roles of the choreography.
 ///
-/// The error is `Unlinked` with the first sequence that isn't linked, and `Memory` where memory runs out. An outer sequence
-/// comes before those inside it, and a left part before a right one; of several roles the first of the cast is named.
-/// The time grows with the size of the choreography times the number of roles, since each part is looked at once.
+/// The error is `Unlinked` with the first sequence that isn't linked, and `Memory` where memory
+/// runs out. An outer sequence comes before those inside it, and a left part before a right one; of
+/// several roles the first of the cast is named. The time grows with the size of the choreography
+/// times the number of roles, since each part is looked at once.
 pub fn check(alloc: Global, choreo: &Choreo, cast: &[Role]) -> Result<(), CheckFault>
     requires { HasRoles cast.now (term choreo.now) }
     ensures connected { OnOk result (connected (term choreo.now) ≡ true) }

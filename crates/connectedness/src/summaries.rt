@@ -161,7 +161,8 @@ fn act(
 
 /// How each role takes part in a message, or in a step of one role.
 fn act_roles(alloc: Global, cast: &[Role], from: &Role, to: &Role) -> Result<Vec<Presence>, Memory>
-    ensures { IfOk result (λ roles. roles.items ≡ map (λ q. in_act (role_eq q from.now) (role_eq q to.now)) cast.now) }
+    ensures { IfOk result
+        (λ roles. roles.items ≡ map (λ q. in_act (role_eq q from.now) (role_eq q to.now)) cast.now) }
 {
     let roles = cast
         .iter()
@@ -199,7 +200,8 @@ fn sequence(alloc: Global, first: &Summary, second: &Summary) -> Result<Summary,
 /// The gap of the sequence of two parts.
 fn gap_between(first: &Summary, second: &Summary) -> Option<FoundGap>
     ensures { (cast : List Role) (I J : Term) →
-        IsSummary cast I first.now → IsSummary cast J second.now → IsGapOf cast result (gap_at cast I J) }
+        IsSummary cast I first.now → IsSummary cast J second.now
+        → IsGapOf cast result (gap_at cast I J) }
 {
     roles_at_ends();
     let before = first.first?;
@@ -212,9 +214,11 @@ fn gap_between(first: &Summary, second: &Summary) -> Option<FoundGap>
     })
 }
 
-/// The number in the cast of the first role that begins the second part and isn't in each group that ends the first.
+/// The number in the cast of the first role that begins the second part and isn't in each group
+/// that ends the first.
 fn first_missing(first: &Summary, second: &Summary) -> Option<usize>
-    ensures { result ≡ position (λ pair. pair.1.starts && not pair.0.attends) (zip first.now.roles.items second.now.roles.items) }
+    ensures { result ≡ position (λ pair. pair.1.starts && not pair.0.attends)
+        (zip first.now.roles.items second.now.roles.items) }
 {
     first
         .roles
@@ -307,7 +311,8 @@ fn choice(
     no: &Summary,
 ) -> Result<Summary, Memory>
     ensures { IfOk result (λ summary. (g : Expression) (I J : Term) →
-        IsSummary cast.now I yes.now → IsSummary cast.now J no.now → IsSummary cast.now (If index leader.now g I J) summary) }
+        IsSummary cast.now I yes.now → IsSummary cast.now J no.now
+        → IsSummary cast.now (If index leader.now g I J) summary) }
 {
     let both = parallel(alloc, yes, no)?;
     let one_empty = yes.is_empty() || no.is_empty();
@@ -328,7 +333,8 @@ fn choice_roles(
     both: &Summary,
 ) -> Result<Vec<Presence>, Memory>
     ensures { IfOk result (λ roles. roles.items ≡
-        map (λ pair. in_choice one_empty (role_eq pair.0 leader.now) pair.1) (zip cast.now both.now.roles.items)) }
+        map (λ pair. in_choice one_empty (role_eq pair.0 leader.now) pair.1)
+        (zip cast.now both.now.roles.items)) }
 {
     let roles = cast
         .iter()
@@ -338,8 +344,8 @@ fn choice_roles(
     Ok(roles)
 }
 
-/// How a role takes part in a choice. An empty branch counts as one group, all roles of the choice; an empty part has no
-/// group, so in `both` it asks nothing.
+/// How a role takes part in a choice. An empty branch counts as one group, all roles of the choice;
+/// an empty part has no group, so in `both` it asks nothing.
 fn in_choice(one_empty: bool, leads: bool, both: Presence) -> Presence
     ensures { result ≡ in_choice one_empty leads both }
 {
@@ -361,9 +367,11 @@ fn block(
     extra: &[Role],
 ) -> Result<Summary, Memory>
     ensures looped { IfOk result (λ summary. (g : Expression) (I : Term) →
-        extra.now ≡ [] → IsSummary cast.now I body.now → IsSummary cast.now (While index leader.now g I) summary) }
+        extra.now ≡ [] → IsSummary cast.now I body.now
+        → IsSummary cast.now (While index leader.now g I) summary) }
     ensures scope { IfOk result (λ summary. (I : Term) (props : List (List ℕ × Value)) (level : ℕ) →
-        IsSummary cast.now I body.now → IsSummary cast.now (Scope index leader.now I extra.now props level) summary) }
+        IsSummary cast.now I body.now
+        → IsSummary cast.now (Scope index leader.now I extra.now props level) summary) }
 {
     let roles = block_roles(alloc, cast, leader, body, extra)?;
     Ok(Summary {
@@ -382,7 +390,8 @@ fn block_roles(
     extra: &[Role],
 ) -> Result<Vec<Presence>, Memory>
     ensures { IfOk result (λ roles. roles.items ≡
-        map (λ pair. in_block (role_eq pair.0 leader.now) (member pair.0 extra.now) pair.1) (zip cast.now body.now.roles.items)) }
+        map (λ pair. in_block (role_eq pair.0 leader.now) (member pair.0 extra.now) pair.1)
+        (zip cast.now body.now.roles.items)) }
 {
     let roles = cast
         .iter()

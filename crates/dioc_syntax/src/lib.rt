@@ -4,8 +4,6 @@
 #![tactic(auto)]
 
 mod bundle;
-#[cfg(test)]
-mod bundle_tests;
 mod choreographies;
 mod extras;
 mod found;
@@ -13,13 +11,9 @@ mod guards;
 mod heads;
 mod laws;
 mod names;
-#[cfg(test)]
-mod reader_tests;
 mod readers;
 mod steps;
 mod writer;
-#[cfg(test)]
-mod writer_tests;
 
 pub use bundle::read_bundle;
 pub use choreographies::{CHOREO_DEPTH_LIMIT, read_choreo};

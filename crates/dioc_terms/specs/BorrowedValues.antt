@@ -1,4 +1,5 @@
--- A value whose text lies elsewhere, as the value that it shows; and a number or a text that may be missing.
+-- A value whose text lies elsewhere, as the value that it shows; and a number or a text that may be
+-- missing.
 use Rattle.std.specs.Prelude.{ℕ, List, Option, Some, None, ℤ, Bool, not}
 use Rattle.dioc_terms.specs.declared.values.Value.{Value}
 use Rattle.dioc_terms.specs.declared.values.Value.TheVariants as value

@@ -78,15 +78,18 @@ is_formed_binding pair = is_identifier pair.0 && is_constant pair.1
 -- each name is one of the grammar, each expression one of a step
 abbrev pub has_formed_parts : Term → Bool
 has_formed_parts Skip = true
-has_formed_parts (Com i o a e b x) = is_identifier o && is_formed_role a && is_formed_step e && is_formed_role b && is_identifier x
+has_formed_parts (Com i o a e b x) =
+    is_identifier o && is_formed_role a && is_formed_step e && is_formed_role b && is_identifier x
 has_formed_parts (Set i x r e) = is_identifier x && is_formed_role r && is_formed_step e
 has_formed_parts (Input i x r) = is_identifier x && is_formed_role r
 has_formed_parts (Seq I J) = has_formed_parts I && has_formed_parts J
 has_formed_parts (Par I J) = has_formed_parts I && has_formed_parts J
-has_formed_parts (If i r g I J) = is_formed_role r && is_formed_step g && has_formed_parts I && has_formed_parts J
+has_formed_parts (If i r g I J) =
+    is_formed_role r && is_formed_step g && has_formed_parts I && has_formed_parts J
 has_formed_parts (While i r g I) = is_formed_role r && is_formed_step g && has_formed_parts I
 has_formed_parts (Scope i r I extra props level) =
-    is_formed_role r && has_formed_parts I && list_all is_formed_role extra && list_all is_formed_binding props
+    is_formed_role r && has_formed_parts I && list_all is_formed_role extra
+    && list_all is_formed_binding props
 
 -- no scope names further roles
 abbrev pub names_no_roles : Term → Bool
@@ -134,7 +137,8 @@ abbrev pub is_formed_timed : Timed → Bool
 is_formed_timed timed = nat_le timed.after largest && is_formed_change timed.change
 
 abbrev pub is_formed_inputs : Role × List Value → Bool
-is_formed_inputs given = is_formed_role given.0 && nat_lt 0 (length given.1) && list_all is_constant given.1
+is_formed_inputs given =
+    is_formed_role given.0 && nat_lt 0 (length given.1) && list_all is_constant given.1
 
 -- whether a note is one of a message with this tag
 abbrev pub note_fits : Tag → Note → Bool
@@ -169,8 +173,10 @@ is_formed_choice (chosen.Rule name n) = is_identifier name && nat_le n greatest_
 abbrev pub is_formed_entry : Entry → Bool
 is_formed_entry (entry.Put k n) = is_formed_key k && note_fits k.tag n
 is_formed_entry (entry.Take k x) = is_formed_key k && variable_fits k.tag x
-is_formed_entry (entry.Set i r x v) = is_formed_index i && is_formed_role r && is_identifier x && is_constant v
-is_formed_entry (entry.Input i r x v) = is_formed_index i && is_formed_role r && is_identifier x && is_constant v
+is_formed_entry (entry.Set i r x v) =
+    is_formed_index i && is_formed_role r && is_identifier x && is_constant v
+is_formed_entry (entry.Input i r x v) =
+    is_formed_index i && is_formed_role r && is_identifier x && is_constant v
 is_formed_entry (entry.Pick i r b) = is_formed_index i && is_formed_role r
 is_formed_entry (entry.Scope i r c) = is_formed_index i && is_formed_role r && is_formed_choice c
 is_formed_entry (entry.Add name) = is_identifier name
@@ -188,7 +194,8 @@ has_no_priority rule = int_eq rule.priority (pos 0) && names_no_roles rule.body
 -- version 1 knows neither named roles nor priorities
 abbrev pub IsOfVersion : ℕ → PlainBundle → Type 0
 IsOfVersion version b =
-    ((version ≡ 1) × (names_no_roles b.choreo ≡ true) × (list_all has_no_priority b.rules ≡ true)) ⊎ (version ≡ 2)
+    ((version ≡ 1) × (names_no_roles b.choreo ≡ true) × (list_all has_no_priority b.rules ≡ true))
+    ⊎ (version ≡ 2)
 
 -- a bundle that a text of some length can spell
 pub record IsFormed (b : PlainBundle) : Type 0 where

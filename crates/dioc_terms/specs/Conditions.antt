@@ -1,4 +1,5 @@
--- Expressions that join no texts, and so are evaluated without memory. The condition of a rule is one.
+-- Expressions that join no texts, and so are evaluated without memory. The condition of a rule is
+-- one.
 use Rattle.std.specs.Prelude.{◌≡◌, Bool, true, ◌&&◌, not}
 use Rattle.dioc_terms.specs.Bundles.{joins, is_condition}
 use Rattle.dioc_terms.specs.Expressions.{Expression, Not, Neg, Bin}

@@ -47,7 +47,8 @@ tag_eq Out Out = true
 tag_eq _ _ = false
 
 abbrev pub key_eq : Key → Key → Bool
-key_eq a b = role_eq a.from b.from && role_eq a.to b.to && index_eq a.index b.index && tag_eq a.tag b.tag
+key_eq a b =
+    role_eq a.from b.from && role_eq a.to b.to && index_eq a.index b.index && tag_eq a.tag b.tag
 
 -- values of different kinds are unequal, and Nil equals Nil
 abbrev pub value_eq : Value → Value → Bool
@@ -78,8 +79,10 @@ variable_eq _ _ = false
 abbrev pub entry_eq : Entry → Entry → Bool
 entry_eq (entry.Put k a) (entry.Put l b) = key_eq k l && note_eq a b
 entry_eq (entry.Take k x) (entry.Take l y) = key_eq k l && variable_eq x y
-entry_eq (entry.Set i p x v) (entry.Set j q y w) = index_eq i j && role_eq p q && name_eq x y && value_eq v w
-entry_eq (entry.Input i p x v) (entry.Input j q y w) = index_eq i j && role_eq p q && name_eq x y && value_eq v w
+entry_eq (entry.Set i p x v) (entry.Set j q y w) =
+    index_eq i j && role_eq p q && name_eq x y && value_eq v w
+entry_eq (entry.Input i p x v) (entry.Input j q y w) =
+    index_eq i j && role_eq p q && name_eq x y && value_eq v w
 entry_eq (entry.Pick i p a) (entry.Pick j q b) = index_eq i j && role_eq p q && truth_eq a b
 entry_eq (entry.Scope i p a) (entry.Scope j q b) = index_eq i j && role_eq p q && chosen_eq a b
 entry_eq (entry.Add a) (entry.Add b) = name_eq a b

@@ -22,7 +22,8 @@ is_aux _ = false
 abbrev pub visible : List Entry → List Entry
 visible entries = filter (λ e. not (is_aux e)) entries
 
--- the role of an entry: the sender of a put, the receiver of a take, else the acting role; a change has none
+-- the role of an entry: the sender of a put, the receiver of a take, else the acting role; a change
+-- has none
 abbrev pub doer : Entry → Option Role
 doer (entry.Put k n) = Some k.from
 doer (entry.Take k x) = Some k.to

@@ -17,7 +17,8 @@ is_word byte = is_letter byte || is_digit byte || byte == 95
 -- a letter, and then at most 63 letters, digits or `_`
 abbrev pub is_name : List ℕ → Bool
 is_name [] = false
-is_name (byte ∷ rest) = is_letter byte && list_all is_word rest && nat_le (length rest) (most_name_bytes - 1)
+is_name (byte ∷ rest) =
+    is_letter byte && list_all is_word rest && nat_le (length rest) (most_name_bytes - 1)
 
 abbrev pub IsName : List ℕ → Type 0
 IsName bytes = IsTrue (is_name bytes)
@@ -36,8 +37,10 @@ IsText bytes = IsTrue (is_text bytes)
 -- the words of the grammar that are no names there
 unfoldable pub reserved_words : List (List ℕ)
 reserved_words =
-    codes "aioc" ∷ codes "skip" ∷ codes "if" ∷ codes "else" ∷ codes "while" ∷ codes "scope" ∷ codes "prop" ∷ codes "rule" ∷ codes "on" ∷
-    codes "do" ∷ codes "true" ∷ codes "false" ∷ codes "nil" ∷ codes "and" ∷ codes "or" ∷ codes "not" ∷ codes "input" ∷ codes "N" ∷ codes "E" ∷ []
+    codes "aioc" ∷ codes "skip" ∷ codes "if" ∷ codes "else" ∷ codes "while" ∷ codes "scope"
+    ∷ codes "prop" ∷ codes "rule" ∷ codes "on" ∷
+    codes "do" ∷ codes "true" ∷ codes "false" ∷ codes "nil" ∷ codes "and" ∷ codes "or" ∷ codes "not"
+    ∷ codes "input" ∷ codes "N" ∷ codes "E" ∷ []
 
 unfoldable pub is_reserved : List ℕ → Bool
 is_reserved word = list_any (bytes_eq word) reserved_words

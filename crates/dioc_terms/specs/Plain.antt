@@ -1,5 +1,5 @@
--- Bundles and rules without where their terms lie in memory. Definitions and laws speak of these: two readings of one text are
--- equal as plain bundles, wherever their boxes lie.
+-- Bundles and rules without where their terms lie in memory. Definitions and laws speak of these:
+-- two readings of one text are equal as plain bundles, wherever their boxes lie.
 use Rattle.std.specs.Prelude.{ℕ, ℤ, List, map}
 use Rattle.dioc_terms.specs.declared.names.Role.{Role}
 use Rattle.dioc_terms.specs.declared.values.Value.{Value}
@@ -50,7 +50,8 @@ plain b = record {
   trace = b.trace;
 }
 
--- What every step of a run reads of its bundle. So neither the version nor the trace to be judged can matter to a run.
+-- What every step of a run reads of its bundle. So neither the version nor the trace to be judged
+-- can matter to a run.
 pub record Setting : Type 0 where
   pub cast : List Role
   pub rules : List PlainRule

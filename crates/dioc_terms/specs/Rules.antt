@@ -43,12 +43,21 @@ module _ (rules : List PlainRule) where
   -- a drop of an absent name changes nothing; an environment change sets a key
   abbrev pub apply : Book → Change → Book
   apply book (change.Add m) = record { order = added m book.order; environment = book.environment }
-  apply book (change.Drop name) = record { order = filter (λ m. not (is_named name m)) book.order; environment = book.environment }
+  apply book (change.Drop name) =
+      record {
+        order = filter (λ m. not (is_named name m)) book.order;
+        environment = book.environment;
+      }
   apply book (change.Env key v) =
-      record { order = book.order; environment = λ other. if name_eq other key then v else book.environment other }
+      record {
+        order = book.order;
+        environment = λ other. if name_eq other key then v else
+            book.environment other;
+      }
 
-  -- A rule fits a scope where its condition holds over the scope's properties, the environment and the leader's store, where the
-  -- roles of its body are among the scope's roles, and where the scope's level is below 16.
+  -- A rule fits a scope where its condition holds over the scope's properties, the environment and
+  -- the leader's store, where the roles of its body are among the scope's roles, and where the
+  -- scope's level is below 16.
   abbrev pub fits : Book → ScopeHead → Store → ℕ → Bool
   fits book head s m = rule_fits (slice_get rules m)
     where
@@ -83,6 +92,8 @@ module _ (rules : List PlainRule) where
   opening_order zero = []
   opening_order (suc n) = added n (opening_order n)
 
--- the book of a run's start: the opening rules, and the environment of the bundle, where the last pair of a key counts
+-- the book of a run's start: the opening rules, and the environment of the bundle, where the last
+-- pair of a key counts
 abbrev pub opening_book : List PlainRule → ℕ → List (List ℕ × Value) → Book
-opening_book rules opening env = record { order = opening_order rules opening; environment = bound env }
+opening_book rules opening env =
+    record { order = opening_order rules opening; environment = bound env }

@@ -18,7 +18,11 @@ abbrev pub variable : Store → List ℕ → Value
 variable s name = unwrap_or (s.variables name) Nil
 
 abbrev pub set_variable : List ℕ → Value → Store → Store
-set_variable name v s = record { variables = λ other. if name_eq other name then Some v else s.variables other; inputs = s.inputs }
+set_variable name v s =
+    record {
+      variables = λ other. if name_eq other name then Some v else s.variables other;
+      inputs = s.inputs;
+    }
 
 -- the next input, Nil where none is left
 abbrev pub next_input : Store → Value

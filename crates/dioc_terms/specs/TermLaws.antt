@@ -13,11 +13,14 @@ pub record CastsAreRoles : Type 0 where
   pub same : (q : Role) (I : Term) → member q (cast_of I) ≡ is_in q I
   pub distinct : (I : Term) → distinct_roles (cast_of I) ≡ true
 
--- a stamped body mentions the same roles in the same order, has as many constructs, and the same messages of a role to itself
+-- a stamped body mentions the same roles in the same order, has as many constructs, and the same
+-- messages of a role to itself
 pub record StampedBodies : Type 0 where
   pub mentioned : (I : Term) (n level : ℕ) → mentions (stamped I n level) ≡ mentions I
   pub named : (q : Role) (I : Term) (n level : ℕ) → is_in q (stamped I n level) ≡ is_in q I
   pub emptiness : (I : Term) (n level : ℕ) → empty (stamped I n level) ≡ empty I
   pub size : (I : Term) (n level : ℕ) → constructs (stamped I n level) ≡ constructs I
-  pub to_self : (I : Term) (n level : ℕ) → self_messages (stamped I n level) ≡ map (at_epoch n) (self_messages I)
-  pub none_to_self : (I : Term) (n level : ℕ) → self_messages I ≡ [] → self_messages (stamped I n level) ≡ []
+  pub to_self : (I : Term) (n level : ℕ) → self_messages (stamped I n level)
+      ≡ map (at_epoch n) (self_messages I)
+  pub none_to_self : (I : Term) (n level : ℕ) → self_messages I ≡ []
+      → self_messages (stamped I n level) ≡ []

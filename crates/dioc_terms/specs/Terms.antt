@@ -1,4 +1,5 @@
--- Terms of the language: choreographies without where they lie in memory, their roles, and the marks that a text gives them.
+-- Terms of the language: choreographies without where they lie in memory, their roles, and the
+-- marks that a text gives them.
 use Rattle.std.specs.Prelude.{ℕ, suc, ◌+◌, max, List, [], ◌∷◌, ◌++◌, Bool, true, false, ◌&&◌, ◌||◌, not, filter, if◌then◌else◌}
 use Rattle.dioc_terms.specs.declared.names.Role.{Role}
 use Rattle.dioc_terms.specs.declared.names.Index.{Index}
@@ -104,7 +105,8 @@ stamped (Seq I J) n level = Seq (stamped I n level) (stamped J n level)
 stamped (Par I J) n level = Par (stamped I n level) (stamped J n level)
 stamped (If i r g I J) n level = If (at_epoch n i) r g (stamped I n level) (stamped J n level)
 stamped (While i r g I) n level = While (at_epoch n i) r g (stamped I n level)
-stamped (Scope i r I extra props _) n level = Scope (at_epoch n i) r (stamped I n level) extra props level
+stamped (Scope i r I extra props _) n level =
+    Scope (at_epoch n i) r (stamped I n level) extra props level
 
 -- the interactions of a role with itself, in the order of the text
 abbrev pub self_messages : Term → List Index
@@ -131,7 +133,8 @@ constructs (Scope i r I extra props level) = suc (constructs I)
 abbrev pub index_at : ℕ → Index
 index_at n = record { epoch = 0; place = n }
 
--- the marks of a text where n indexed constructs begin before the term: epoch 0, places in order, levels 0
+-- the marks of a text where n indexed constructs begin before the term: epoch 0, places in order,
+-- levels 0
 abbrev pub indexed_from : ℕ → Term → Term
 indexed_from n Skip = Skip
 indexed_from n (Com i o a e b x) = Com (index_at n) o a e b x
@@ -139,9 +142,11 @@ indexed_from n (Set i x r e) = Set (index_at n) x r e
 indexed_from n (Input i x r) = Input (index_at n) x r
 indexed_from n (Seq I J) = Seq (indexed_from n I) (indexed_from (n + constructs I) J)
 indexed_from n (Par I J) = Par (indexed_from n I) (indexed_from (n + constructs I) J)
-indexed_from n (If i r g I J) = If (index_at n) r g (indexed_from (suc n) I) (indexed_from (suc n + constructs I) J)
+indexed_from n (If i r g I J) =
+    If (index_at n) r g (indexed_from (suc n) I) (indexed_from (suc n + constructs I) J)
 indexed_from n (While i r g I) = While (index_at n) r g (indexed_from (suc n) I)
-indexed_from n (Scope i r I extra props level) = Scope (index_at n) r (indexed_from (suc n) I) extra props 0
+indexed_from n (Scope i r I extra props level) =
+    Scope (index_at n) r (indexed_from (suc n) I) extra props 0
 
 abbrev pub indexed : Term → Term
 indexed I = indexed_from 0 I
@@ -164,7 +169,15 @@ depth (While i r g I) = suc (depth I)
 depth (Scope i r I extra props level) = suc (depth I)
 depth _ = 1
 
--- what the leader of a scope shows the book: the scope without its body, its roles in the order of the cast
-abbrev pub head_of : List Role → Index → Role → Term → List Role → List (List ℕ × Value) → ℕ → ScopeHead
+-- what the leader of a scope shows the book: the scope without its body, its roles in the order of
+-- the cast
+abbrev pub head_of : List Role → Index → Role → Term → List Role → List (List ℕ × Value) → ℕ
+    → ScopeHead
 head_of cast i r I extra props level =
-    record { index = i; leader = r; roles = roles_in cast (Scope i r I extra props level); props = props; level = level }
+    record {
+      index = i;
+      leader = r;
+      roles = roles_in cast (Scope i r I extra props level);
+      props = props;
+      level = level;
+    }

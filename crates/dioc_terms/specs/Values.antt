@@ -13,7 +13,9 @@ use Rattle.dioc_terms.specs.Stores.{Store, variable}
 
 -- the whole number where it fits in 64 bits, else Nil
 abbrev pub fitting : ℤ → Value
-fitting z = if int_le (negsuc 9223372036854775807) z && int_le z (pos 9223372036854775807) then Int z else Nil
+fitting z =
+    if int_le (negsuc 9223372036854775807) z && int_le z (pos 9223372036854775807) then Int z else
+    Nil
 
 -- the quotient truncated toward zero, Nil for a zero divisor or where it doesn't fit
 abbrev pub quotient : ℤ → ℤ → Value
@@ -79,10 +81,13 @@ value_in variables properties environment (Const v) = v
 value_in variables properties environment (Var x) = variables x
 value_in variables properties environment (Prop x) = properties x
 value_in variables properties environment (Env x) = environment x
-value_in variables properties environment (Not e) = denied (value_in variables properties environment e)
-value_in variables properties environment (Neg e) = negated (value_in variables properties environment e)
+value_in variables properties environment (Not e) =
+    denied (value_in variables properties environment e)
+value_in variables properties environment (Neg e) =
+    negated (value_in variables properties environment e)
 value_in variables properties environment (Bin op a b) =
-    operate op (value_in variables properties environment a) (value_in variables properties environment b)
+    operate op (value_in variables properties environment a)
+    (value_in variables properties environment b)
 
 -- the value of a step's expression in a role's store: a property and an environment key are Nil
 abbrev pub eval : Expression → Store → Value
@@ -103,4 +108,5 @@ bound pairs name = last_of Nil pairs
 
 -- whether a rule's condition holds
 abbrev pub holds : Expression → Store → (List ℕ → Value) → (List ℕ → Value) → Bool
-holds condition s properties environment = is_true (value_in (variable s) properties environment condition)
+holds condition s properties environment =
+    is_true (value_in (variable s) properties environment condition)

@@ -1,4 +1,5 @@
-//! Values whose text lies elsewhere, and what the operators give for them. Nothing here takes memory.
+//! Values whose text lies elsewhere, and what the operators give for them. Nothing here takes
+//! memory.
 
 ghost use Rattle.std.specs.Prelude.{◌≡◌, ◌+ℤ◌, ◌-ℤ◌, ◌*ℤ◌, false, IfOk};
 ghost use Rattle.dioc_terms.specs.declared.values.Value.TheVariants.{Bool as bool_value, Int as int_value, Text as text_value};
@@ -130,7 +131,8 @@ pub(crate) fn operate(
     right: BorrowedValue<'_>,
 ) -> BorrowedValue<'static>
     requires { joins oper ≡ false }
-    ensures { borrowed_value result ≡ operate oper (borrowed_value left.entry) (borrowed_value right.entry) }
+    ensures { borrowed_value result ≡ operate oper (borrowed_value left.entry)
+        (borrowed_value right.entry) }
 {
     match (left, right) {
         (BorrowedValue::Int(left), BorrowedValue::Int(right)) => of_numbers(oper, left, right),

@@ -57,7 +57,8 @@ pub struct Trace {
     pub last: Option<Last>,
 }
 
-/// A whole input. `rules` are those of the `rules` sections, `opening` of them, and then the script's adds.
+/// A whole input. `rules` are those of the `rules` sections, `opening` of them, and then the
+/// script's adds.
 #[derive(Debug, Drop)]
 pub struct Bundle {
     /// 1 or 2. Version 1 knows neither named roles of a scope nor priorities.

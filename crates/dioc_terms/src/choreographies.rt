@@ -58,8 +58,8 @@ pub enum Choreo {
         guard: Expr,
         body: Box<Choreo>,
     },
-    /// A part that a rule may replace when `leader` begins it. Its roles are the leader, the roles of
-    /// its body and those that `extra` names.
+    /// A part that a rule may replace when `leader` begins it. Its roles are the leader, the roles
+    /// of its body and those that `extra` names.
     Scope {
         index: Index,
         leader: Role,
@@ -155,7 +155,8 @@ fn copy_of_com(
     to: &Role,
     var: &Name,
 ) -> Result<Choreo, Memory>
-    ensures { IfOk result (λ copy. term copy ≡ Com index op.now from.now (expression expr.now) to.now var.now) }
+    ensures { IfOk result (λ copy. term copy ≡ Com index op.now from.now (expression expr.now)
+        to.now var.now) }
 {
     Ok(Choreo::Com {
         index,
@@ -202,7 +203,8 @@ fn copy_of_if(
     yes: Box<Choreo>,
     no: Box<Choreo>,
 ) -> Result<Choreo, Memory>
-    ensures { IfOk result (λ copy. term copy ≡ If index leader.now (expression guard.now) (term yes.value) (term no.value)) }
+    ensures { IfOk result (λ copy. term copy ≡ If index leader.now (expression guard.now)
+        (term yes.value) (term no.value)) }
 {
     Ok(Choreo::If {
         index,
@@ -220,7 +222,8 @@ fn copy_of_while(
     guard: &Expr,
     body: Box<Choreo>,
 ) -> Result<Choreo, Memory>
-    ensures { IfOk result (λ copy. term copy ≡ While index leader.now (expression guard.now) (term body.value)) }
+    ensures { IfOk result (λ copy. term copy ≡ While index leader.now (expression guard.now)
+        (term body.value)) }
 {
     Ok(Choreo::While {
         index,
@@ -239,7 +242,8 @@ fn copy_of_scope(
     props: &Bindings,
     level: u32,
 ) -> Result<Choreo, Memory>
-    ensures { IfOk result (λ copy. term copy ≡ Scope index leader.now (term body.value) extra.now props.now level) }
+    ensures { IfOk result (λ copy. term copy ≡ Scope index leader.now (term body.value) extra.now
+        props.now level) }
 {
     Ok(Choreo::Scope {
         index,

@@ -16,7 +16,8 @@ use crate::stores::Store;
 use crate::values::Value;
 use std::alloc::Global;
 
-/// The value of a step's expression in the store of the acting role. A property and an environment key are Nil.
+/// The value of a step's expression in the store of the acting role. A property and an environment
+/// key are Nil.
 pub fn eval(alloc: Global, expr: &Expr, store: &Store) -> Result<Value, Memory>
     ensures { IfOk result (λ value. value ≡ eval (expression expr.now) (store_of store.now)) }
 {
@@ -61,11 +62,13 @@ fn join(alloc: Global, left: &Value, right: &Value) -> Result<Value, Memory>
     }
 }
 
-/// Whether a rule's condition holds, over the store of a scope's leader, the properties of the scope and the environment.
-/// In both lists the last pair of a name counts. It takes no memory: no text is joined.
+/// Whether a rule's condition holds, over the store of a scope's leader, the properties of the
+/// scope and the environment. In both lists the last pair of a name counts. It takes no memory: no
+/// text is joined.
 pub fn test(cond: &Expr, store: &Store, props: &[(Name, Value)], env: &[(Name, Value)]) -> bool
     requires { has_no_join (expression cond.now) ≡ true }
-    ensures { result ≡ holds (expression cond.now) (store_of store.now) (bound props.now) (bound env.now) }
+    ensures { result ≡ holds (expression cond.now) (store_of store.now) (bound props.now)
+        (bound env.now) }
 {
     condition_value(cond, store, props, env).is_true()
 }
@@ -77,7 +80,8 @@ fn condition_value<'a>(
     env: &'a [(Name, Value)],
 ) -> BorrowedValue<'a>
     requires { has_no_join (expression cond.now) ≡ true }
-    ensures { borrowed_value result ≡ value_in (variable (store_of store.now)) (bound props.now) (bound env.now) (expression cond.now) }
+    ensures { borrowed_value result ≡ value_in (variable (store_of store.now)) (bound props.now)
+        (bound env.now) (expression cond.now) }
 {
     match cond {
         Expr::Const(value) => value.seen(),
@@ -107,7 +111,8 @@ fn last_of<'a>(pairs: &'a [(Name, Value)], name: &Name) -> BorrowedValue<'a>
     last
 }
 
-/// A law: the condition of a rule joins no texts, so that `test` can be asked about it. It does nothing.
+/// A law: the condition of a rule joins no texts, so that `test` can be asked about it. It does
+/// nothing.
 pub fn conditions_join_nothing()
     ensures { ConditionsJoinNothing }
 {}

@@ -20,7 +20,8 @@ impl Proc {
         to: &Role,
         expr: &Expr,
     ) -> Result<Proc, Memory>
-        ensures { IfOk result (λ proc. process proc ≡ Send index op.now to.now (expression expr.now)) }
+        ensures { IfOk result (λ proc. process proc ≡ Send index op.now to.now
+            (expression expr.now)) }
     {
         Ok(Proc::Send {
             index,
@@ -78,7 +79,8 @@ impl Proc {
         yes: Box<Proc>,
         no: Box<Proc>,
     ) -> Result<Proc, Memory>
-        ensures { IfOk result (λ proc. process proc ≡ IfLead index (expression guard.now) others (process yes.value) (process no.value)) }
+        ensures { IfOk result (λ proc. process proc ≡ IfLead index (expression guard.now) others
+            (process yes.value) (process no.value)) }
     {
         Ok(Proc::IfLead {
             index,
@@ -97,7 +99,8 @@ impl Proc {
         yes: Box<Proc>,
         no: Box<Proc>,
     ) -> Result<Proc, Memory>
-        ensures { IfOk result (λ proc. process proc ≡ IfFollow index leader.now (process yes.value) (process no.value)) }
+        ensures { IfOk result (λ proc. process proc ≡ IfFollow index leader.now (process yes.value)
+            (process no.value)) }
     {
         Ok(Proc::IfFollow {
             index,
@@ -115,7 +118,8 @@ impl Proc {
         others: Roles,
         body: Box<Proc>,
     ) -> Result<Proc, Memory>
-        ensures { IfOk result (λ proc. process proc ≡ WhileLead index (expression guard.now) others (process body.value)) }
+        ensures { IfOk result (λ proc. process proc ≡ WhileLead index (expression guard.now) others
+            (process body.value)) }
     {
         Ok(Proc::WhileLead {
             index,
@@ -132,7 +136,8 @@ impl Proc {
         leader: &Role,
         body: Box<Proc>,
     ) -> Result<Proc, Memory>
-        ensures { IfOk result (λ proc. process proc ≡ WhileFollow index leader.now (process body.value)) }
+        ensures { IfOk result (λ proc. process proc ≡ WhileFollow index leader.now
+            (process body.value)) }
     {
         Ok(Proc::WhileFollow {
             index,
@@ -148,7 +153,8 @@ impl Proc {
         leader: &Role,
         body: Box<Proc>,
     ) -> Result<Proc, Memory>
-        ensures { IfOk result (λ proc. process proc ≡ ScopeFollow index leader.now (process body.value)) }
+        ensures { IfOk result (λ proc. process proc ≡ ScopeFollow index leader.now
+            (process body.value)) }
     {
         Ok(Proc::ScopeFollow {
             index,

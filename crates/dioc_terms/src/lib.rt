@@ -1,4 +1,5 @@
-//! What every other crate speaks of: names, values, terms, processes, messages, entries and bundles.
+//! What every other crate speaks of: names, values, terms, processes, messages, entries and
+//! bundles.
 #![tactic(auto)]
 
 mod borrowed;

@@ -30,7 +30,8 @@ fn in_order(alloc: Global, seen: IndexSet<Role>) -> Result<Roles, Memory>
 
 /// Adds the roles that the choreography names.
 fn add_mentions(alloc: Global, seen: &mut IndexSet<Role>, choreo: &Choreo) -> Result<(), Memory>
-    ensures { OnOk result (seen.new.keys ≡ insert_all role_eq seen.old.keys (mentions (term choreo.now))) }
+    ensures { OnOk result (seen.new.keys ≡ insert_all role_eq seen.old.keys
+        (mentions (term choreo.now))) }
 {
     match choreo {
         Choreo::Skip => Ok(()),

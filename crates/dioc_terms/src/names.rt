@@ -30,8 +30,8 @@ impl Model for Name {
 impl Name {
     /// Reads a name.
     ///
-    /// The error is `NotAName` exactly where the bytes aren't a letter followed by at most 63 letters, digits or `_`, and
-    /// `Memory` where memory runs out.
+    /// The error is `NotAName` exactly where the bytes aren't a letter followed by at most 63
+    /// letters, digits or `_`, and `Memory` where memory runs out.
     pub fn read(alloc: Global, bytes: &[u8]) -> Result<Name, NameFault>
         ensures ok { IfOk result (λ name. name ≡ bytes.now) }
         ensures not_a_name { IsErrOf result NameFault.NotAName ↔ (is_name bytes.now ≡ false) }
@@ -117,8 +117,8 @@ impl Model for Text {
 impl Text {
     /// Reads a text.
     ///
-    /// The error is `NotText` exactly where there are more than 1,024 bytes or one is outside 0x20 to 0x7E, and `Memory` where
-    /// memory runs out.
+    /// The error is `NotText` exactly where there are more than 1,024 bytes or one is outside 0x20
+    /// to 0x7E, and `Memory` where memory runs out.
     pub fn read(alloc: Global, bytes: &[u8]) -> Result<Text, TextFault>
         ensures ok { IfOk result (λ text. text ≡ bytes.now) }
         ensures not_text { IsErrOf result TextFault.NotText ↔ (is_text bytes.now ≡ false) }
@@ -229,8 +229,8 @@ impl Eq for Role {
     ghost laws = { equivalence_from_Decides role_eq role_eq-decides };
 }
 
-/// The index of a construct: the number of the update that it stands in, 0 in the program's own text,
-/// and its place in that text, the number of indexed constructs that begin before it.
+/// The index of a construct: the number of the update that it stands in, 0 in the program's own
+/// text, and its place in that text, the number of indexed constructs that begin before it.
 #[derive(Clone, Copy, Debug, PartialEq, Eq, Hash)]
 pub struct Index {
     /// The number of the update, 0 in the program's own text.

@@ -452,7 +452,8 @@ fn copy_of_scope_lead(
     others: &Roles,
     body: Box<Proc>,
 ) -> Result<Proc, Memory>
-    ensures { IfOk result (λ copy. process copy ≡ ScopeLead head.now others.now (process body.value)) }
+    ensures { IfOk result (λ copy. process copy ≡ ScopeLead head.now others.now
+        (process body.value)) }
 {
     Ok(Proc::ScopeLead {
         head: head.copy(alloc)?,

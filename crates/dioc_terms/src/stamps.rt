@@ -7,7 +7,8 @@ use crate::choreographies::Choreo;
 use crate::faults::Memory;
 use std::alloc::Global;
 
-/// A copy of a rule's body as the update of this number: each index is of that epoch, and each scope at that level.
+/// A copy of a rule's body as the update of this number: each index is of that epoch, and each
+/// scope at that level.
 pub fn stamped(alloc: Global, choreo: &Choreo, epoch: u32, level: u32) -> Result<Choreo, Memory>
     ensures { IfOk result (λ copy. term copy ≡ stamped (term choreo.now) epoch level) }
 {

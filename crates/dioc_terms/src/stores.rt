@@ -50,7 +50,8 @@ impl Store {
         }
     }
 
-    /// Makes room for so many new variables. After want of memory there is no less room than before.
+    /// Makes room for so many new variables. After want of memory there is no less room than
+    /// before.
     pub fn reserve(&mut self, count: usize) -> Result<(), Memory>
         ensures ok { OnOk result (count ≤ room self.new) }
         ensures enough { count ≤ room self.old → IsOk result }
@@ -61,8 +62,8 @@ impl Store {
         Ok(())
     }
 
-    /// Sets a variable. It takes no memory: either the variable is set already, and then the room stays as it is, or there is
-    /// room for one.
+    /// Sets a variable. It takes no memory: either the variable is set already, and then the room
+    /// stays as it is, or there is room for one.
     pub fn set(&mut self, name: Name, value: Value)
         requires { (store_of self.old).variables name ≡ None → 0 < room self.old }
         ensures set { store_of self.new ≡ set_variable name value (store_of self.old) }

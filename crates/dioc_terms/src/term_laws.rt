@@ -12,8 +12,8 @@ pub fn casts_are_roles()
     ensures { CastsAreRoles }
 {}
 
-/// A law: the body of a rule, stamped as an update, keeps its roles, the number of its constructs, and whether a role sends to
-/// itself in it. It does nothing.
+/// A law: the body of a rule, stamped as an update, keeps its roles, the number of its constructs,
+/// and whether a role sends to itself in it. It does nothing.
 pub fn stamped_bodies()
     ensures { StampedBodies }
 {}

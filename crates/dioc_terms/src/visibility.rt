@@ -16,7 +16,8 @@ impl Tag {
 }
 
 impl Entry {
-    /// Whether the entry puts or takes a message with an auxiliary tag. All other entries are visible. It takes no memory.
+    /// Whether the entry puts or takes a message with an auxiliary tag. All other entries are
+    /// visible. It takes no memory.
     pub fn is_aux(&self) -> bool
         ensures { result ≡ is_aux self.now }
     {

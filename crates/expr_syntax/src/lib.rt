@@ -7,8 +7,6 @@ pub mod laws;
 mod leaves;
 mod levels;
 mod readers;
-#[cfg(test)]
-mod tests;
 mod writers;
 
 pub use constants::{GREATEST, GREATEST_NEGATED, constant_at, number_at};

@@ -10,13 +10,17 @@ use Rattle.global_steps.specs.Settled.{SettledFrom}
 
 pub record PlaysGoOn : Type 0 where
   -- a play of more entries goes on from the state after those before
-  pub appended : (b : Setting) (S : State) (es fs : List Entry) → play_from b S (es ++ fs) ≡ option_and_then (λ next. play_from b next fs) (play_from b S es)
+  pub appended : (b : Setting) (S : State) (es fs : List Entry) → play_from b S (es ++ fs)
+      ≡ option_and_then (λ next. play_from b next fs) (play_from b S es)
   -- each entry counts
-  pub counted : (b : Setting) (S T : State) (es : List Entry) → play_from b S es ≡ Some T → T.entries ≡ S.entries + length es
+  pub counted : (b : Setting) (S T : State) (es : List Entry) → play_from b S es ≡ Some T
+      → T.entries ≡ S.entries + length es
   -- an ended choreography plays no entry of a role
-  pub over : (b : Setting) (S : State) (r : Role) (e : Entry) → ended S.running ≡ true → follow_role b S r e ≡ None
+  pub over : (b : Setting) (S : State) (r : Role) (e : Entry) → ended S.running ≡ true
+      → follow_role b S r e ≡ None
 
--- the entry number k is the first that isn't played: those before it are, without the auxiliary ones, where the first has number n
+-- the entry number k is the first that isn't played: those before it are, without the auxiliary
+-- ones, where the first has number n
 pub record StraysFirst (b : Setting) (S : State) (n : ℕ) (es : List Entry) (k : ℕ) : Type 0 where
   pub before : List Entry
   pub entry : Entry
@@ -30,11 +34,15 @@ pub record StraysFirst (b : Setting) (S : State) (n : ℕ) (es : List Entry) (k 
 
 pub record StraysAreFound : Type 0 where
   -- none strays exactly where the visible entries are played
-  pub none : (b : Setting) (S : State) (n : ℕ) (es : List Entry) → is_none (stray_from b S n es) ≡ is_some (play_from b S (visible es))
-  pub first : (b : Setting) (S : State) (n : ℕ) (es : List Entry) (k : ℕ) → stray_from b S n es ≡ Some k → StraysFirst b S n es k
+  pub none : (b : Setting) (S : State) (n : ℕ) (es : List Entry) → is_none (stray_from b S n es)
+      ≡ is_some (play_from b S (visible es))
+  pub first : (b : Setting) (S : State) (n : ℕ) (es : List Entry) (k : ℕ) → stray_from b S n es
+      ≡ Some k → StraysFirst b S n es k
 
 pub record SettledGoesOn : Type 0 where
   -- the first entries of a settled trace are settled
-  pub shorter : (b : Setting) (S : State) (es fs : List Entry) → SettledFrom b S (es ++ fs) → SettledFrom b S es
+  pub shorter : (b : Setting) (S : State) (es fs : List Entry) → SettledFrom b S (es ++ fs)
+      → SettledFrom b S es
   -- more entries that are settled after them make a settled trace
-  pub longer : (b : Setting) (S T : State) (es fs : List Entry) → play_from b S es ≡ Some T → SettledFrom b S es → SettledFrom b T fs → SettledFrom b S (es ++ fs)
+  pub longer : (b : Setting) (S T : State) (es fs : List Entry) → play_from b S es ≡ Some T
+      → SettledFrom b S es → SettledFrom b T fs → SettledFrom b S (es ++ fs)

@@ -1,4 +1,5 @@
--- The running term: what is left of the choreography in the middle of a run. It has three more forms than a term.
+-- The running term: what is left of the choreography in the middle of a run. It has three more
+-- forms than a term.
 use Rattle.std.specs.Prelude.{ℕ, List, Bool, true, false, ◌&&◌, ◌||◌}
 use Rattle.dioc_terms.specs.declared.names.Role.{Role}
 use Rattle.dioc_terms.specs.declared.names.Index.{Index}
@@ -22,7 +23,8 @@ pub data Running : Type 0 where
   Fly : Index → List ℕ → Role → Role → List ℕ → Value → Running
   -- a chosen scope: whether a role is of it, and what its body has become
   Bar : (Role → Bool) → Running → Running
-  -- a running turn of a loop: the loop's index, leader, guard and body, and what the body of this turn has become
+  -- a running turn of a loop: the loop's index, leader, guard and body, and what the body of this
+  -- turn has become
   Again : Index → Role → Expression → Term → Running → Running
 
 -- a term that has not begun to run

@@ -26,7 +26,8 @@ abbrev pub are_distinct : List Index → Bool
 are_distinct [] = true
 are_distinct (i ∷ is) = not (is_among i is) && are_distinct is
 
--- none of these has been seen before it, neither among the earlier ones nor among those seen at the start
+-- none of these has been seen before it, neither among the earlier ones nor among those seen at the
+-- start
 abbrev pub are_new : List Index → List Index → Bool
 are_new seen [] = true
 are_new seen (i ∷ is) = not (is_among i seen) && are_new (seen ++ i ∷ []) is

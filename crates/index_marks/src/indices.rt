@@ -17,11 +17,13 @@ pub fn distinct(alloc: Global, choreo: &Choreo) -> Result<bool, Memory>
     add_all(&mut seen, choreo)
 }
 
-/// Whether the choreography's indices are new to the set, and differ from each other. Where they are and do, they are added.
+/// Whether the choreography's indices are new to the set, and differ from each other. Where they
+/// are and do, they are added.
 #[tactic(auto, using(crate::proofs::NewIndices::new_append))]
 fn add_all(seen: &mut IndexSet<Index>, choreo: &Choreo) -> Result<bool, Memory>
     ensures new { IfOk result (λ new. new ≡ are_new seen.old.keys (indices (term choreo.now))) }
-    ensures added { IfOk result (λ new. new ≡ true → seen.new.keys ≡ seen.old.keys ++ indices (term choreo.now)) }
+    ensures added { IfOk result (λ new. new ≡ true → seen.new.keys ≡ seen.old.keys
+        ++ indices (term choreo.now)) }
 {
     match choreo {
         Choreo::Skip => Ok(true),

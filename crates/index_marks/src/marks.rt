@@ -5,8 +5,9 @@ ghost use Rattle.dioc_terms.specs.Terms.{term, constructs, index_at, indexed, in
 
 use dioc_terms::{Choreo, Index};
 
-/// Gives each construct the index that it has in the text of a program: epoch 0, and the place, which is the number of
-/// constructs that begin before it in the text. Each scope gets level 0. It takes no memory.
+/// Gives each construct the index that it has in the text of a program: epoch 0, and the place,
+/// which is the number of constructs that begin before it in the text. Each scope gets level 0. It
+/// takes no memory.
 pub fn mark(choreo: &mut Choreo)
     requires { nodes (term choreo.old) ≤ 4294967295 }
     ensures { term choreo.new ≡ indexed (term choreo.old) }
@@ -14,7 +15,8 @@ pub fn mark(choreo: &mut Choreo)
     mark_from(choreo, 0);
 }
 
-/// Marks the part of a text before which so many constructs begin, and answers how many begin before what follows it.
+/// Marks the part of a text before which so many constructs begin, and answers how many begin
+/// before what follows it.
 fn mark_from(choreo: &mut Choreo, before: u32) -> u32
     requires { before + nodes (term choreo.old) ≤ 4294967295 }
     ensures marks { term choreo.new ≡ indexed_from before (term choreo.old) }

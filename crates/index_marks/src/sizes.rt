@@ -5,7 +5,8 @@ ghost use Rattle.dioc_terms.specs.Terms.{term, depth, nodes};
 
 use dioc_terms::Choreo;
 
-/// How many nodes the choreography has, each `Skip`, `Seq` and `Par` counted; the greatest `usize` where it has more.
+/// How many nodes the choreography has, each `Skip`, `Seq` and `Par` counted; the greatest `usize`
+/// where it has more.
 pub fn nodes(choreo: &Choreo) -> usize
     ensures { result ≡ min (nodes (term choreo.now)) (2 ^ 64 - 1) }
 {
@@ -24,8 +25,8 @@ fn both(left: usize, right: usize) -> usize
     left.saturating_add(right).saturating_add(1)
 }
 
-/// How deep the choreography's tree is: a leaf is 1 deep, and any other node one deeper than its deepest part. The greatest
-/// `usize` where it is deeper.
+/// How deep the choreography's tree is: a leaf is 1 deep, and any other node one deeper than its
+/// deepest part. The greatest `usize` where it is deeper.
 pub fn depth(choreo: &Choreo) -> usize
     ensures { result ≡ min (depth (term choreo.now)) (2 ^ 64 - 1) }
 {

@@ -89,7 +89,8 @@ fn sale(alloc: Global) -> Result<Choreo, Fail> {
     seq(alloc, start, turns)
 }
 
-/// Each index of the term, in the order of its text, with the level where it is a scope's and else 0.
+/// Each index of the term, in the order of its text, with the level where it is a scope's and else
+/// 0.
 fn seen(choreo: &Choreo, out: &mut Vec<(Index, u32)>) -> Result<(), Memory> {
     match choreo {
         Choreo::Skip => (),

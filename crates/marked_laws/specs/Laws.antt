@@ -1,4 +1,5 @@
--- What holds of every run of the network of a sound bundle, under every interleaving and every live change.
+-- What holds of every run of the network of a sound bundle, under every interleaving and every live
+-- change.
 use Rattle.std.specs.Prelude.{◌≡◌, List, [], ◌∷◌, map, Bool, true, false, ◌&&◌, not, Option, Some, None, IsSome, All}
 use Rattle.std.specs.List.{list_all, list_any, filter_map}
 use Rattle.dioc_terms.specs.declared.names.Role.{Role}
@@ -12,7 +13,7 @@ use Rattle.dioc_terms.specs.Messages.{visible}
 use Rattle.dioc_terms.specs.Plain.{PlainRule, PlainBundle, setting}
 use Rattle.dioc_terms.specs.Terms.{Term, mentions, self_messages}
 use Rattle.connectedness.specs.Connected.{connected}
-use Rattle.dpoc_process.specs.Steps.{ended, offers, is_offered}
+use Rattle.process_steps.specs.Steps.{ended, offers, is_offered}
 use Rattle.global_steps.specs.Running as running
 use Rattle.global_steps.specs.Follow.{State, play}
 use Rattle.global_steps.specs.Settled.{IsSettled}
@@ -44,14 +45,19 @@ pub record Explains (b : PlainBundle) (trace : List Entry) (N : Network) : Type 
   pub entries : state.entries ≡ N.visible
   pub ended : network_ended b.cast N ≡ true → running.ended state.running ≡ true
 
--- Simulation: the visible part of every run of the network is played by the choreography itself, with equal stores, book, updates
--- and changes; where the network has ended the choreography has.
+-- Simulation: the visible part of every run of the network is played by the choreography itself,
+-- with equal stores, book, updates and changes; where the network has ended the choreography has.
 abbrev pub Simulation : Type 0
-Simulation = (b : PlainBundle) (H : List Entry) (N : Network) → IsSound b → network_run b H ≡ Some N → Explains b (visible H) N
+Simulation =
+    (b : PlainBundle) (H : List Entry) (N : Network) → IsSound b → network_run b H ≡ Some N
+    → Explains b (visible H) N
 
--- Settled: in that play nobody passes the end of a scope or of a turn before all its roles have arrived there.
+-- Settled: in that play nobody passes the end of a scope or of a turn before all its roles have
+-- arrived there.
 abbrev pub Settlement : Type 0
-Settlement = (b : PlainBundle) (H : List Entry) (N : Network) → IsSound b → network_run b H ≡ Some N → IsSettled b (visible H)
+Settlement =
+    (b : PlainBundle) (H : List Entry) (N : Network) → IsSound b → network_run b H ≡ Some N
+    → IsSettled b (visible H)
 
 abbrev pub key_among : Key → List Key → Bool
 key_among k keys = list_any (key_eq k) keys
@@ -68,12 +74,16 @@ taken_keys acts = filter_map key_of acts
     key_of (act.Take k) = Some k
     key_of _ = None
 
--- Unique keys: no two pending messages have one key, and no two ready receives of one role have one key.
+-- Unique keys: no two pending messages have one key, and no two ready receives of one role have one
+-- key.
 abbrev pub UniqueKeys : Type 0
-UniqueKeys = (b : PlainBundle) (H : List Entry) (N : Network) → IsSound b → network_run b H ≡ Some N →
-    (distinct_keys (map (λ message. message.0) N.pending) ≡ true) × ((q : Role) → distinct_keys (taken_keys (offers q (N.processes q))) ≡ true)
+UniqueKeys =
+    (b : PlainBundle) (H : List Entry) (N : Network) → IsSound b → network_run b H ≡ Some N →
+    (distinct_keys (map (λ message. message.0) N.pending) ≡ true)
+    × ((q : Role) → distinct_keys (taken_keys (offers q (N.processes q))) ≡ true)
 
--- a role of the cast offers an act that the network can do: it isn't a change, and it isn't a take without its message
+-- a role of the cast offers an act that the network can do: it isn't a change, and it isn't a take
+-- without its message
 pub record HasStep (b : PlainBundle) (N : Network) : Type 0 where
   pub role : Role
   pub act : Act
@@ -83,9 +93,12 @@ pub record HasStep (b : PlainBundle) (N : Network) : Type 0 where
 
 -- Progress: a network that has not ended has a step of a role.
 abbrev pub Progress : Type 0
-Progress = (b : PlainBundle) (H : List Entry) (N : Network) → IsSound b → network_run b H ≡ Some N → network_ended b.cast N ≡ false → HasStep b N
+Progress =
+    (b : PlainBundle) (H : List Entry) (N : Network) → IsSound b → network_run b H ≡ Some N
+    → network_ended b.cast N ≡ false → HasStep b N
 
 -- Nothing left over: where every process has ended, no message is pending.
 abbrev pub NothingLeft : Type 0
-NothingLeft = (b : PlainBundle) (H : List Entry) (N : Network) → IsSound b → network_run b H ≡ Some N →
+NothingLeft =
+    (b : PlainBundle) (H : List Entry) (N : Network) → IsSound b → network_run b H ≡ Some N →
     list_all (λ q. ended (N.processes q)) b.cast ≡ true → N.pending ≡ []

@@ -17,7 +17,7 @@ use Rattle.dioc_terms.specs.Rules.{Book, apply, opening_book}
 use Rattle.dioc_terms.specs.Stores.{Store}
 use Rattle.dioc_terms.specs.Terms.{stamped}
 use Rattle.projection.specs.Projection.{projected}
-use Rattle.dpoc_process.specs.Steps.{Deed, Puts, Takes, Given, Alone, Got, FromBook, Decision, Keeps, Replaces, entry_of, store_after, step, ended}
+use Rattle.process_steps.specs.Steps.{Deed, Puts, Takes, Given, Alone, Got, FromBook, Decision, Keeps, Replaces, entry_of, store_after, step, ended}
 use Rattle.global_steps.specs.Follow.{BookChoice, KeepsBody, TakesRule, book_choice, opening_store, change_entry, updates_after, updated}
 
 pub record Network : Type 0 where
@@ -41,20 +41,23 @@ abbrev pub without : Key → List (Key × Load) → List (Key × Load)
 without k [] = []
 without k (message ∷ rest) = if key_eq k message.0 then rest else message ∷ without k rest
 
--- what the leader does with the book's answer: a rule's body is stamped as the next update, one level higher, and projected
+-- what the leader does with the book's answer: a rule's body is stamped as the next update, one
+-- level higher, and projected
 abbrev pub decision : List Role → ℕ → ScopeHead → BookChoice → Decision
 decision cast updates head KeepsBody = Keeps
 decision cast updates head (TakesRule name body) =
     Replaces name (suc updates) (projected cast (stamped body (suc updates) (suc head.level)))
 
--- what comes to a role's act: the pending message of a take's key, the book for a scope, by the role's own store
+-- what comes to a role's act: the pending message of a take's key, the book for a scope, by the
+-- role's own store
 abbrev pub given_at : Setting → Network → Role → Act → Given
 given_at b N r (act.Take k) = message_of (pending_at k N.pending)
   where
     message_of : Option Load → Given
     message_of None = Alone
     message_of (Some l) = Got l
-given_at b N r (act.Scope i) = FromBook (λ head. decision b.cast N.updates head (book_choice b.rules N.book head (N.stores r)))
+given_at b N r (act.Scope i) =
+    FromBook (λ head. decision b.cast N.updates head (book_choice b.rules N.book head (N.stores r)))
 given_at b N r _ = Alone
 
 -- a put goes last, a take removes the first message of its key

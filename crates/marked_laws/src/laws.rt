@@ -1,5 +1,6 @@
-//! What holds of every run of the network of a sound bundle, under every interleaving and every live change. Each function is a law:
-//! it does nothing, and whoever calls it knows what its contract says.
+//! What holds of every run of the network of a sound bundle, under every interleaving and every
+//! live change. Each function is a law: it does nothing, and whoever calls it knows what its
+//! contract says.
 
 ghost use Rattle.connectedness.specs.Laws.{RolesAtEnds, StampedConnected};
 ghost use Rattle.dioc_terms.specs.TermLaws.{MentionsAreRoles, CastsAreRoles, StampedBodies};
@@ -23,23 +24,24 @@ fn known()
     connectedness::stamped_connected();
 }
 
-/// A law: what is visible of a run is played by the choreography itself, with equal stores, book, updates and changes, and the
-/// choreography has ended where the network has. It does nothing.
+/// A law: what is visible of a run is played by the choreography itself, with equal stores, book,
+/// updates and changes, and the choreography has ended where the network has. It does nothing.
 pub fn simulation()
     ensures { Simulation }
 {
     known();
 }
 
-/// A law: in that play nobody passes the end of a scope or of a loop's turn before all its roles have arrived there. It does
-/// nothing.
+/// A law: in that play nobody passes the end of a scope or of a loop's turn before all its roles
+/// have arrived there. It does nothing.
 pub fn settlement()
     ensures { Settlement }
 {
     known();
 }
 
-/// A law: no two pending messages have one key, and no two ready receives of one role have one key. It does nothing.
+/// A law: no two pending messages have one key, and no two ready receives of one role have one key.
+/// It does nothing.
 pub fn unique_keys()
     ensures { UniqueKeys }
 {
@@ -67,13 +69,14 @@ pub fn nothing_left()
     known();
 }
 
-/// A law: a run of two histories, one after the other, is a run of the second after one of the first, and a prefix of a run is a run.
-/// It does nothing.
+/// A law: a run of two histories, one after the other, is a run of the second after one of the
+/// first, and a prefix of a run is a run. It does nothing.
 pub fn runs_extend()
     ensures { Extensions }
 {}
 
-/// A law: what a bundle's choreography plays and what its network runs doesn't depend on its version. It does nothing.
+/// A law: what a bundle's choreography plays and what its network runs doesn't depend on its
+/// version. It does nothing.
 pub fn runs_read_no_version()
     ensures { RunsReadNoVersion }
 {}

@@ -20,7 +20,7 @@ use Rattle.dioc_terms.specs.Processes.{Val}
 use Rattle.dioc_terms.specs.Stores.{set_variable}
 use Rattle.dioc_terms.specs.Terms.{Com, cast_of}
 use Rattle.projection.specs.Projection.{projected}
-use Rattle.dpoc_process.specs.Steps.{key, ended, offers}
+use Rattle.process_steps.specs.Steps.{key, ended, offers}
 use Rattle.net_core.specs.declared.moves.Move.{Move}
 use Rattle.net_core.specs.declared.moves.Move.TheVariants as move
 use Rattle.net_core.specs.Schedule.{moves, role_moves, change_due}

@@ -14,12 +14,12 @@ use Rattle.dioc_terms.specs.Messages.{act_of}
 use Rattle.dioc_terms.specs.Attempts.{Attempt, Stuck, Does}
 use Rattle.dioc_terms.specs.Plain.{PlainBundle, Setting, setting}
 use Rattle.dioc_terms.specs.Processes.{Process, Load}
-use Rattle.dpoc_process.specs.Laws.{given_fits, is_done, load_fits, OffersAreSteps}
-use Rattle.dpoc_process.specs.Steps.{Deed, Puts, Takes, Sets, Inputs, Picks, Chooses, Given, Alone, Got, Decision, entry_of, offers, is_offered, step}
+use Rattle.process_steps.specs.Laws.{given_fits, is_done, load_fits, OffersAreSteps}
+use Rattle.process_steps.specs.Steps.{Deed, Puts, Takes, Sets, Inputs, Picks, Chooses, Given, Alone, Got, Decision, entry_of, offers, is_offered, step}
 use Rattle.global_steps.specs.Follow.{book_choice}
 use Rattle.marked_laws.specs.Laws.{IsSound, HasStep}
 use Rattle.marked_laws.specs.Network.{Network, NextNetwork, decision, given_at, pending_at, act_step, network_start, network_run, network_ended}
-use Rattle.dpoc_process.proofs.Lemmas.{steps-show_their_acts}
+use Rattle.process_steps.proofs.Lemmas.{steps-show_their_acts}
 use Rattle.marked_laws.proofs.Choices.{cast_unique, sound_answers}
 use Rattle.marked_laws.proofs.Equality.{role_same, act_same, act_itself}
 use Rattle.marked_laws.proofs.Found.{found}

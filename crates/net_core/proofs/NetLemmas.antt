@@ -10,7 +10,7 @@ use Rattle.dioc_terms.specs.declared.entries.Entry.{Entry}
 use Rattle.dioc_terms.specs.Equality.{member, role_eq, key_eq}
 use Rattle.dioc_terms.specs.EqualityLemmas.{role_eq-decides, key_eq-decides}
 use Rattle.dioc_terms.specs.Plain.{PlainBundle, setting}
-use Rattle.dpoc_process.specs.Steps.{offers, is_offered}
+use Rattle.process_steps.specs.Steps.{offers, is_offered}
 use Rattle.marked_laws.specs.Network.{Network, act_step, network_run, network_start, network_ended}
 use Rattle.net_core.specs.declared.moves.StepFault.TheVariants.{NoAct}
 use Rattle.net_core.specs.declared.network.Phase.{Phase}

@@ -14,7 +14,7 @@ use Rattle.dioc_terms.specs.Messages.{is_aux, doer, visible}
 use Rattle.dioc_terms.specs.Attempts.{Attempt, Stuck, Does}
 use Rattle.dioc_terms.specs.Plain.{PlainRule, PlainBundle, Setting, setting}
 use Rattle.dioc_terms.specs.Processes.{Process}
-use Rattle.dpoc_process.specs.Steps.{Deed, Puts, Takes, Sets, Inputs, Picks, Chooses, entry_of, step}
+use Rattle.process_steps.specs.Steps.{Deed, Puts, Takes, Sets, Inputs, Picks, Chooses, entry_of, step}
 use Rattle.global_steps.specs.Follow.{change_entry}
 use Rattle.marked_laws.specs.Network.{Network, NextNetwork, act_step, change_step, given_at, network_start, network_ended, visible_after}
 use Rattle.marked_laws.proofs.Networks.{after_deed, deed_outcome, after_change, entry_outcome, script_outcome}

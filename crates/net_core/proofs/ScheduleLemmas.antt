@@ -9,7 +9,7 @@ use Rattle.dioc_terms.specs.declared.entries.Entry.{Entry}
 use Rattle.dioc_terms.specs.Equality.{entry_eq}
 use Rattle.dioc_terms.specs.Messages.{doer, act_of}
 use Rattle.dioc_terms.specs.Plain.{PlainBundle, Setting, setting}
-use Rattle.dpoc_process.specs.Laws.{OffersAreSteps}
+use Rattle.process_steps.specs.Laws.{OffersAreSteps}
 use Rattle.marked_laws.specs.Laws.{IsSound, Progress, Simulation}
 use Rattle.marked_laws.specs.Network.{Network, NextNetwork, act_step, change_step, network_after, network_step, run_from, network_run, network_ended}
 use Rattle.marked_laws.proofs.Equality.{entry_itself}

@@ -5,7 +5,7 @@ use Rattle.dioc_terms.specs.declared.names.Role.{Role}
 use Rattle.dioc_terms.specs.declared.entries.Entry.{Entry}
 use Rattle.dioc_terms.specs.Messages.{visible}
 use Rattle.dioc_terms.specs.Plain.{PlainBundle}
-use Rattle.dpoc_process.specs.Steps.{ended, offers}
+use Rattle.process_steps.specs.Steps.{ended, offers}
 use Rattle.global_steps.specs.Settled.{IsSettled}
 use Rattle.marked_laws.specs.Laws.{Explains, HasStep, distinct_keys, taken_keys}
 use Rattle.marked_laws.specs.Network.{Network, network_run, network_ended}

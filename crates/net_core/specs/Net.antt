@@ -14,7 +14,7 @@ use Rattle.dioc_terms.specs.Expressions.{Const}
 use Rattle.dioc_terms.specs.Plain.{PlainBundle, setting}
 use Rattle.dioc_terms.specs.Supported.{IsSupported}
 use Rattle.dioc_terms.specs.Terms.{Com}
-use Rattle.dpoc_process.specs.Steps.{offers, is_offered}
+use Rattle.process_steps.specs.Steps.{offers, is_offered}
 use Rattle.marked_laws.specs.Network.{Network, NextNetwork, act_step, network_run, network_start, network_ended}
 use Rattle.net_core.specs.declared.moves.Move.{Move}
 use Rattle.net_core.specs.declared.moves.Move.TheVariants as move

@@ -8,7 +8,7 @@ use Rattle.dioc_terms.specs.declared.entries.Entry.{Entry}
 use Rattle.dioc_terms.specs.declared.bundles.Timed.{Timed}
 use Rattle.dioc_terms.specs.Messages.{visible, doer}
 use Rattle.dioc_terms.specs.Plain.{PlainBundle, Setting, setting}
-use Rattle.dpoc_process.specs.Steps.{offers}
+use Rattle.process_steps.specs.Steps.{offers}
 use Rattle.marked_laws.specs.Network.{Network, NextNetwork, act_step, change_step, network_run, network_ended, pending_at}
 use Rattle.net_core.specs.declared.moves.Move.{Move}
 use Rattle.net_core.specs.declared.moves.Move.TheVariants as move

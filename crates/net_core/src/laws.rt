@@ -38,7 +38,7 @@ pub fn moves_are_steps()
     known();
     accepted_is_sound();
     marked_laws::progress();
-    dpoc_process::offers_are_steps();
+    process_steps::offers_are_steps();
 }
 
 /// A law: what a schedule, with a seed or without, makes of a run of an accepted bundle is again a run, that the choreography
@@ -50,7 +50,7 @@ pub fn runs_are_sound()
     accepted_is_sound();
     marked_laws::progress();
     marked_laws::simulation();
-    dpoc_process::offers_are_steps();
+    process_steps::offers_are_steps();
 }
 
 /// A law, the headline: every run of the network of an accepted bundle, under every interleaving and every live change, is played

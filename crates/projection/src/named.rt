@@ -72,7 +72,8 @@ fn is_other(whole: &Choreo, leader: &Role, role: &Role) -> bool
 
 /// Adds the role where it is kept.
 fn keep(alloc: Global, roles: &mut Vec<Role>, role: &Role, is_kept: bool) -> Result<(), Memory>
-    ensures { OnOk result (roles.new.items ≡ roles.old.items ++ (if is_kept then role.now ∷ [] else [])) }
+    ensures { OnOk result (roles.new.items ≡ roles.old.items
+        ++ (if is_kept then role.now ∷ [] else [])) }
 {
     if is_kept {
         roles.push(role.copy(alloc)?)?;

@@ -12,12 +12,14 @@ use crate::named::{names, others, roles_in};
 use dioc_terms::{Bindings, Choreo, Index, Memory, Proc, Role, ScopeHead, new_box};
 use std::alloc::Global;
 
-/// The process of a role: the constructs of the choreography in which it takes part, and nothing in place of the others.
+/// The process of a role: the constructs of the choreography in which it takes part, and nothing in
+/// place of the others.
 ///
-/// Sequences and parallels are kept as they are. A sender sends, and a receiver takes. The leader of a choice, a loop or a
-/// scope has the other roles of the construct, in the order of the cast, whom it tells one by one; each of these waits to be
-/// told. A role that a scope names and its body doesn't has nothing to do inside, but follows the scope like the others.
-/// The roles of the choreography are in the cast.
+/// Sequences and parallels are kept as they are. A sender sends, and a receiver takes. The leader
+/// of a choice, a loop or a scope has the other roles of the construct, in the order of the cast,
+/// whom it tells one by one; each of these waits to be told. A role that a scope names and its body
+/// doesn't has nothing to do inside, but follows the scope like the others. The roles of the
+/// choreography are in the cast.
 pub fn project(alloc: Global, choreo: &Choreo, role: &Role, cast: &[Role]) -> Result<Proc, Memory>
     requires { (q : Role) → is_in q (term choreo.now) ≡ true → member q cast.now ≡ true }
     ensures { IfOk result (λ proc. process proc ≡ projected cast.now (term choreo.now) role.now) }
@@ -56,7 +58,8 @@ fn boxed_part(
     role: &Role,
     cast: &[Role],
 ) -> Result<Box<Proc>, Memory>
-    ensures { IfOk result (λ made. process made.value ≡ projected cast.now (term choreo.now) role.now) }
+    ensures { IfOk result (λ made. process made.value ≡ projected cast.now (term choreo.now)
+        role.now) }
 {
     new_box(alloc, part(alloc, choreo, role, cast)?)
 }
@@ -146,7 +149,13 @@ fn head(
     cast: &[Role],
 ) -> Result<ScopeHead, Memory>
     ensures { IfOk result (λ head. head ≡
-        record { index = index; leader = leader.now; roles = roles_in cast.now (term scope.now); props = props.now; level = level }) }
+        record {
+          index = index;
+          leader = leader.now;
+          roles = roles_in cast.now (term scope.now);
+          props = props.now;
+          level = level;
+        }) }
 {
     Ok(ScopeHead {
         index,
@@ -199,11 +208,13 @@ fn follow(alloc: Global, whole: &Choreo, role: &Role, cast: &[Role]) -> Result<P
     }
 }
 
-/// What a role does inside a scope that it follows: nothing where the body doesn't name it, whatever the body's form.
+/// What a role does inside a scope that it follows: nothing where the body doesn't name it,
+/// whatever the body's form.
 #[cycle(project)]
 fn inside(alloc: Global, body: &Choreo, role: &Role, cast: &[Role]) -> Result<Box<Proc>, Memory>
     ensures { IfOk result (λ made.
-        process made.value ≡ (if is_in role.now (term body.now) then projected cast.now (term body.now) role.now else Skip)) }
+        process made.value ≡ (if is_in role.now (term body.now) then projected cast.now
+        (term body.now) role.now else Skip)) }
 {
     if names(body, role) {
         return boxed_part(alloc, body, role, cast);

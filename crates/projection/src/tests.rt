@@ -1,4 +1,5 @@
-//! The processes of small choreographies, worked out by hand, as lines in which expressions and values are left out.
+//! The processes of small choreographies, worked out by hand, as lines in which expressions and
+//! values are left out.
 
 use crate::*;
 use dioc_terms::{

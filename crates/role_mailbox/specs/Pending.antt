@@ -1,4 +1,5 @@
--- What the mail shows: its messages, what is pending for a key, and how many messages more it has room for.
+-- What the mail shows: its messages, what is pending for a key, and how many messages more it has
+-- room for.
 use Rattle.std.specs.Prelude.{◌≡◌, ℕ, List, map, Option, if◌then◌else◌}
 use Rattle.std.specs.List.{IsDistinct}
 use Rattle.std.specs.Map.{keys_of, lookup}
@@ -22,7 +23,8 @@ room mail = spare mail.pending
 
 -- afterwards this is pending for the key, and for each other key what was pending before
 pub record ChangesOnly (old new : Mail) (key : Key) (payload : Option Load) : Type 0 where
-  pub at : (other : Key) → payload_at other new ≡ (if key_eq other key then payload else payload_at other old)
+  pub at : (other : Key) → payload_at other new
+      ≡ (if key_eq other key then payload else payload_at other old)
 
 -- no two messages have one key
 abbrev pub HoldsKeysOnce : Mail → Type 0

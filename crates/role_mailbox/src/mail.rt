@@ -39,7 +39,8 @@ impl Mail {
         Ok(())
     }
 
-    /// Adds a message. It takes no memory: there is room for one, and no message of that key is pending.
+    /// Adds a message. It takes no memory: there is room for one, and no message of that key is
+    /// pending.
     #[tactic(auto, using(crate::proofs::MailLemmas::put_shown, crate::proofs::MailLemmas::distinct_shown, crate::proofs::MailLemmas::put_counts))]
     pub fn put(&mut self, key: Key, payload: Payload)
         requires room { 0 < room self.old }
@@ -53,12 +54,14 @@ impl Mail {
         drop(self.pending.insert(key, payload).unwrap());
     }
 
-    /// Takes the message of exactly that key, `None` exactly where none is pending. It takes no memory.
+    /// Takes the message of exactly that key, `None` exactly where none is pending. It takes no
+    /// memory.
     #[tactic(auto, using(crate::proofs::MailLemmas::taken_shown, crate::proofs::MailLemmas::distinct_shown, crate::proofs::MailLemmas::payload_in_map))]
     pub fn take(&mut self, key: &Key) -> Option<Payload>
         ensures payload { option_map load result ≡ payload_at key.now self.old }
         ensures taken { ChangesOnly self.old self.new key.now None }
-        ensures count { length (messages self.new) + (if is_some result then 1 else 0) ≡ length (messages self.old) }
+        ensures count { length (messages self.new) + (if is_some result then 1 else 0)
+            ≡ length (messages self.old) }
         ensures same { IfNone result (messages self.new ≡ messages self.old) }
         ensures keeps_room { room self.old ≤ room self.new }
         ensures distinct { HoldsKeysOnce self.new }

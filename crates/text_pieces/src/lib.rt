@@ -1,7 +1,8 @@
-//! The pieces of which written texts are made: bytes, decimal digits, truth values and texts in quotes.
+//! The pieces of which written texts are made: bytes, decimal digits, truth values and texts in
+//! quotes.
 //!
-//! Each call appends its piece to the bytes that stand there. Where memory runs out, a part of the piece may stand behind the
-//! old bytes; who writes a whole text cuts it off again.
+//! Each call appends its piece to the bytes that stand there. Where memory runs out, a part of the
+//! piece may stand behind the old bytes; who writes a whole text cuts it off again.
 #![tactic(auto)]
 
 mod pieces;

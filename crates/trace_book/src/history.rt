@@ -10,7 +10,8 @@ use dioc_terms::{Entry, Memory, Role};
 use std::alloc::Global;
 use std::marker::Model;
 
-/// The entries so far, in their order. Contracts see their list, and how many more there is room for.
+/// The entries so far, in their order. Contracts see their list, and how many more there is room
+/// for.
 #[derive(Debug, Drop)]
 pub struct History {
     entries: Vec<Entry>,
@@ -24,7 +25,11 @@ impl Model for History {
 
     ghost Value = { Written };
 
-    ghost view = { λ history. record { entries = history.entries.items; room = vec_capacity history.entries - vec_len history.entries } };
+    ghost view = { λ history. record {
+      entries = history.entries.items;
+      room = vec_capacity history.entries -
+          vec_len history.entries;
+    } };
 
     ghost invariant = { λ history. history.visible_count ≡ length (visible history.entries.items) };
 }
@@ -42,7 +47,8 @@ impl History {
 
     /// Makes room for so many entries more. After a refusal the history is as it was.
     ///
-    /// Room grows in steps that double it, so to reserve one place before each entry is no slower than to reserve all at once.
+    /// Room grows in steps that double it, so to reserve one place before each entry is no slower
+    /// than to reserve all at once.
     pub fn reserve(&mut self, count: usize) -> Result<(), Memory>
         ensures ok { OnOk result (count ≤ self.new.room) }
         ensures enough { count ≤ self.old.room → IsOk result }
@@ -81,7 +87,8 @@ impl History {
         self.entries.len() as u64
     }
 
-    /// The entry of that number, the first of which has the number 0. `None` exactly where there are no more than `number`.
+    /// The entry of that number, the first of which has the number 0. `None` exactly where there
+    /// are no more than `number`.
     pub fn get(&self, number: u64) -> Option<&Entry>
         ensures entry { option_copied result ≡ slice_get self.now.entries number }
         ensures none { IsNone result ↔ (length self.now.entries ≤ number) }
@@ -89,8 +96,8 @@ impl History {
         self.entries.as_slice().get(number as usize)
     }
 
-    /// How many entries are visible: all but those that put or take an auxiliary message. The number is kept, and not counted
-    /// here.
+    /// How many entries are visible: all but those that put or take an auxiliary message. The
+    /// number is kept, and not counted here.
     pub fn visible_len(&self) -> u64
         ensures { result ≡ length (visible self.now.entries) }
     {
@@ -111,9 +118,11 @@ impl History {
         Ok(history)
     }
 
-    /// A history of exactly the entries of the role, in their order: it put, took or did what the entry shows.
+    /// A history of exactly the entries of the role, in their order: it put, took or did what the
+    /// entry shows.
     pub fn of_role(&self, role: &Role) -> Result<History, Memory>
-        ensures { IfOk result (λ history. history.entries ≡ filter (is_of role.now) self.now.entries) }
+        ensures { IfOk result (λ history. history.entries ≡ filter (is_of role.now)
+            self.now.entries) }
     {
         let mut history = History::new(*self.entries.allocator());
         let entries = self.entries.as_slice();

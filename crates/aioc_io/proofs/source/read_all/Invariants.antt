@@ -6,8 +6,8 @@ use Rattle.aioc_io.proofs.source.read_all.Given as goal
 
 abbrev pub invariant-loop-bytes : goal.invariant-loop-bytes
 invariant-loop-bytes g l =
-    (vec_len l.bytes ≤ l.limit) × Consumes (g.S.Source.left l.initial.source) (g.S.Source.left l.source) l.bytes.items
-    × (g.S.Source.faults l.initial.source ≤ g.S.Source.faults l.source) × (length l.piece ≡ PIECE)
+    (vec_len l.bytes ≤ l.limit) × Consumes ((g.S.Source.state l.initial.source).left) ((g.S.Source.state l.source).left) l.bytes.items
+    × ((g.S.Source.state l.initial.source).faults ≤ (g.S.Source.state l.source).faults) × (length l.piece ≡ PIECE)
 
 abbrev pub decreases-loop-bytes : goal.decreases-loop-bytes
 decreases-loop-bytes g l = l.limit - vec_len l.bytes

@@ -1,0 +1,28 @@
+//! `read_choreo VERSION: TEXT`: the longest choreography at the front of a text.
+
+use crate::cases::Case;
+use crate::problems::Problem;
+use crate::wholes::{Front, front_choreo, write_count, write_place};
+use dioc_syntax::write_choreo;
+use std::alloc::Global;
+
+/// Appends `reads N: ` with the choreography as it is written; `none at byte N`; or `bad byte N`.
+pub fn answer(alloc: Global, case: &Case, out: &mut Vec<u8>) -> Result<(), Problem> {
+    match front_choreo(alloc, &case.text, version_of(case)?)? {
+        Front::Found { value, count, .. } => {
+            write_count(count, out)?;
+            write_choreo(&value, out)?;
+        }
+        Front::Nothing(byte) => write_place("none at byte", byte, out)?,
+        Front::BadByte(byte) => write_place("bad byte", byte, out)?,
+    }
+    Ok(())
+}
+
+fn version_of(case: &Case) -> Result<u32, Problem> {
+    match case.option()? {
+        b"1" => Ok(1),
+        b"2" => Ok(2),
+        _ => Err(Problem::Bad("the version is 1 or 2")),
+    }
+}

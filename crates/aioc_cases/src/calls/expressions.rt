@@ -1,0 +1,28 @@
+//! `read_expr step: TEXT` and `read_expr condition: TEXT`: the longest expression at the front of a text.
+
+use crate::cases::Case;
+use crate::problems::Problem;
+use crate::wholes::{Front, front_expr, write_count, write_place};
+use expr_syntax::{ExprKind, write_expr};
+use std::alloc::Global;
+
+/// Appends `reads N: ` with the expression as it is written; `none at byte N`; or `bad byte N`.
+pub fn answer(alloc: Global, case: &Case, out: &mut Vec<u8>) -> Result<(), Problem> {
+    match front_expr(alloc, &case.text, kind_of(case)?)? {
+        Front::Found { value, count, .. } => {
+            write_count(count, out)?;
+            write_expr(&value, out)?;
+        }
+        Front::Nothing(byte) => write_place("none at byte", byte, out)?,
+        Front::BadByte(byte) => write_place("bad byte", byte, out)?,
+    }
+    Ok(())
+}
+
+fn kind_of(case: &Case) -> Result<ExprKind, Problem> {
+    match case.option()? {
+        b"step" => Ok(ExprKind::Step),
+        b"condition" => Ok(ExprKind::Condition),
+        _ => Err(Problem::Bad("the kind is step or condition")),
+    }
+}

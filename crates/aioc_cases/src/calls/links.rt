@@ -1,0 +1,38 @@
+//! `check: TEXT`: whether a choreography is connected.
+
+use crate::cases::Case;
+use crate::problems::Problem;
+use crate::wholes::whole_choreo;
+use connectedness::{CheckFault, check};
+use dioc_terms::{Index, Memory, Role, casts_are_roles, roles};
+use std::alloc::Global;
+use text_pieces::write_bytes;
+use trace_text::write_index;
+
+/// Appends `connected`; or `unlinked I then J: R`, where the sequence of the constructs I and J isn't linked by role R.
+pub fn answer(alloc: Global, case: &Case, out: &mut Vec<u8>) -> Result<(), Problem> {
+    let choreo = whole_choreo(alloc, case)?;
+    casts_are_roles();
+    let cast = roles(alloc, &choreo)?;
+    match check(alloc, &choreo, cast.as_slice()) {
+        Ok(()) => write_bytes(b"connected", out)?,
+        Err(
+            CheckFault::Unlinked {
+                first,
+                second,
+                role,
+            },
+        ) => write_gap(first, second, &role, out)?,
+        Err(CheckFault::Memory) => return Err(Problem::Memory),
+    }
+    Ok(())
+}
+
+fn write_gap(first: Index, second: Index, role: &Role, out: &mut Vec<u8>) -> Result<(), Memory> {
+    write_bytes(b"unlinked ", out)?;
+    write_index(first, out)?;
+    write_bytes(b" then ", out)?;
+    write_index(second, out)?;
+    write_bytes(b": ", out)?;
+    write_bytes(role.0.bytes(), out)
+}

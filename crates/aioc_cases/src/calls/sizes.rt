@@ -1,0 +1,22 @@
+//! `nodes: TEXT` and `depth: TEXT`: the size of a choreography.
+
+use crate::cases::Case;
+use crate::problems::Problem;
+use crate::wholes::whole_choreo;
+use index_marks::{depth, nodes};
+use std::alloc::Global;
+use text_pieces::write_number;
+
+/// Appends the number of nodes.
+pub fn answer_nodes(alloc: Global, case: &Case, out: &mut Vec<u8>) -> Result<(), Problem> {
+    let choreo = whole_choreo(alloc, case)?;
+    write_number(nodes(&choreo) as u64, out)?;
+    Ok(())
+}
+
+/// Appends the depth.
+pub fn answer_depth(alloc: Global, case: &Case, out: &mut Vec<u8>) -> Result<(), Problem> {
+    let choreo = whole_choreo(alloc, case)?;
+    write_number(depth(&choreo) as u64, out)?;
+    Ok(())
+}

@@ -1,0 +1,33 @@
+//! `name: BYTES` and `text: BYTES`: whether bytes are a name, or the value of a text.
+
+use crate::cases::Case;
+use crate::problems::Problem;
+use dioc_terms::{Memory, Name, NameFault, Text, TextFault};
+use std::alloc::Global;
+use text_pieces::write_bytes;
+
+/// Appends `a name` or `none`.
+pub fn answer_name(alloc: Global, case: &Case, out: &mut Vec<u8>) -> Result<(), Problem> {
+    match Name::read(alloc, &case.text) {
+        Ok(name) => write_read(b"a name", name.bytes() == case.text.as_slice(), out)?,
+        Err(NameFault::NotAName) => write_bytes(b"none", out)?,
+        Err(NameFault::Memory) => return Err(Problem::Memory),
+    }
+    Ok(())
+}
+
+/// Appends `a text` or `none`.
+pub fn answer_text(alloc: Global, case: &Case, out: &mut Vec<u8>) -> Result<(), Problem> {
+    match Text::read(alloc, &case.text) {
+        Ok(text) => write_read(b"a text", text.bytes() == case.text.as_slice(), out)?,
+        Err(TextFault::NotText) => write_bytes(b"none", out)?,
+        Err(TextFault::Memory) => return Err(Problem::Memory),
+    }
+    Ok(())
+}
+
+// What was read, and whether it has the bytes that it was read from.
+fn write_read(what: &[u8], is_same: bool, out: &mut Vec<u8>) -> Result<(), Memory> {
+    write_bytes(what, out)?;
+    write_bytes(if is_same { b"" } else { b" of other bytes" }, out)
+}

@@ -1,0 +1,106 @@
+//! The bytes that a written text of the table stands for.
+//!
+//! A byte stands for itself, but for the backtick. Between two backticks stand either bytes in hexadecimal digits, as `0A`
+//! or `C3A9`, or a number, a `*` and bytes that are repeated so often, as `512*(`.
+
+use crate::problems::Problem;
+use std::alloc::Global;
+
+/// The most bytes of one text.
+pub const TEXT_LIMIT: usize = 8_388_608;
+
+/// The bytes that a written text stands for.
+pub fn expand(alloc: Global, written: &[u8]) -> Result<Vec<u8>, Problem> {
+    let mut out = Vec::new(alloc);
+    expand_into(written, &mut out)?;
+    Ok(out)
+}
+
+/// Appends the bytes that a written text stands for.
+pub fn expand_into(written: &[u8], out: &mut Vec<u8>) -> Result<(), Problem> {
+    let mut is_piece = false;
+    for part in written.split(|byte| *byte == b'`') {
+        if is_piece {
+            expand_piece(part, out)?;
+        } else {
+            append(part, out)?;
+        }
+        is_piece = !is_piece;
+    }
+    if is_piece {
+        Ok(())
+    } else {
+        Err(Problem::Bad("a backtick has no partner"))
+    }
+}
+
+// What stands between two backticks.
+fn expand_piece(piece: &[u8], out: &mut Vec<u8>) -> Result<(), Problem> {
+    match piece.iter().position(|byte| *byte == b'*') {
+        Some(star) => {
+            let count = read_number(&piece[..star])?;
+            append_times(&piece[star + 1..], count, out)
+        }
+        None => append_hexadecimal(piece, out),
+    }
+}
+
+fn append_times(bytes: &[u8], count: usize, out: &mut Vec<u8>) -> Result<(), Problem> {
+    if bytes.is_empty() {
+        return Ok(());
+    }
+    for _ in 0..count {
+        append(bytes, out)?;
+    }
+    Ok(())
+}
+
+fn append_hexadecimal(digits: &[u8], out: &mut Vec<u8>) -> Result<(), Problem> {
+    let mut high = None;
+    for digit in digits {
+        let value = hexadecimal(*digit)?;
+        high = match high {
+            None => Some(value),
+            Some(high) => {
+                append(&[16 * high + value], out)?;
+                None
+            }
+        };
+    }
+    match high {
+        None => Ok(()),
+        Some(_) => Err(Problem::Bad("a byte has two hexadecimal digits")),
+    }
+}
+
+fn hexadecimal(digit: u8) -> Result<u8, Problem> {
+    match digit {
+        b'0'..=b'9' => Ok(digit - b'0'),
+        b'A'..=b'F' => Ok(digit - b'A' + 10),
+        _ => Err(Problem::Bad("between backticks stand 0A or 2*x")),
+    }
+}
+
+/// The number that some digits spell, at most the greatest length of a text.
+pub fn read_number(digits: &[u8]) -> Result<usize, Problem> {
+    let mut number = 0;
+    for digit in digits {
+        if !digit.is_ascii_digit() || number > TEXT_LIMIT {
+            return Err(Problem::Bad("a number is too great or no number"));
+        }
+        number = 10 * number + usize::from(*digit - b'0');
+    }
+    if digits.is_empty() || number > TEXT_LIMIT {
+        return Err(Problem::Bad("a number is too great or no number"));
+    }
+    Ok(number)
+}
+
+/// Appends bytes to a text within its limit.
+pub fn append(bytes: &[u8], out: &mut Vec<u8>) -> Result<(), Problem> {
+    if bytes.len() > TEXT_LIMIT || out.len() > TEXT_LIMIT - bytes.len() {
+        return Err(Problem::Bad("the text is too long"));
+    }
+    out.extend_from_slice(bytes)?;
+    Ok(())
+}

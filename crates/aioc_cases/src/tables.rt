@@ -1,0 +1,101 @@
+//! A table of cases, and its answers.
+//!
+//! An empty line and a line that begins with `#` are for the reader. A line that begins with `|` adds a line to the text of
+//! the case above it. Every other line begins a case.
+
+use crate::calls::answer;
+use crate::cases::Case;
+use crate::problems::Problem;
+use dioc_terms::Memory;
+use std::alloc::Global;
+use text_pieces::write_bytes;
+
+/// The lines of the table, with the answer of each case behind its lines.
+pub fn answer_table(alloc: Global, table: &[u8]) -> Result<Vec<u8>, Memory> {
+    let mut out = Vec::new(alloc);
+    let mut begun = None;
+    for line in lines(table).split(|byte| *byte == b'\n') {
+        begun = match line {
+            [b'|', rest @ ..] => continued(begun, rest),
+            _ => {
+                write_answer(alloc, begun, &mut out)?;
+                begin(alloc, line)
+            }
+        };
+        write_bytes(line, &mut out)?;
+        write_bytes(b"\n", &mut out)?;
+    }
+    write_answer(alloc, begun, &mut out)?;
+    Ok(out)
+}
+
+// The table without the line feed at its end.
+fn lines(table: &[u8]) -> &[u8] {
+    match table {
+        [rest @ .., b'\n'] => rest,
+        _ => table,
+    }
+}
+
+// The case that a line begins, if any.
+fn begin(alloc: Global, line: &[u8]) -> Option<Result<Case, Problem>> {
+    match line {
+        [] | [b'#', ..] => None,
+        _ => Some(Case::read(alloc, line)),
+    }
+}
+
+// The case with a further line of its text.
+fn continued(begun: Option<Result<Case, Problem>>, line: &[u8]) -> Option<Result<Case, Problem>> {
+    match begun {
+        None => Some(Err(Problem::Bad("a line of a text has no case above it"))),
+        Some(Err(problem)) => Some(Err(problem)),
+        Some(Ok(case)) => Some(with_line(case, line)),
+    }
+}
+
+fn with_line(mut case: Case, line: &[u8]) -> Result<Case, Problem> {
+    case.add_line(line)?;
+    Ok(case)
+}
+
+// The lines of the answer to a case, where there is one.
+fn write_answer(
+    alloc: Global,
+    begun: Option<Result<Case, Problem>>,
+    out: &mut Vec<u8>,
+) -> Result<(), Memory> {
+    let case = match begun {
+        None => return Ok(()),
+        Some(Err(problem)) => return write_problem(problem, out),
+        Some(Ok(case)) => case,
+    };
+    match answer(alloc, &case) {
+        Ok(lines) => write_lines(b"  ", &lines, out),
+        Err(problem) => write_problem(problem, out),
+    }
+}
+
+fn write_problem(problem: Problem, out: &mut Vec<u8>) -> Result<(), Memory> {
+    match problem {
+        Problem::Memory => Err(Memory),
+        Problem::Bad(why) => {
+            write_bytes(b"  bad case: ", out)?;
+            write_bytes(why.as_bytes(), out)?;
+            write_bytes(b"\n", out)
+        }
+    }
+}
+
+/// Appends the lines of a text, each with a head before it. A last line that has no line feed is marked.
+pub fn write_lines(head: &[u8], text: &[u8], out: &mut Vec<u8>) -> Result<(), Memory> {
+    if text.is_empty() {
+        return Ok(());
+    }
+    for line in lines(text).split(|byte| *byte == b'\n') {
+        write_bytes(head, out)?;
+        write_bytes(line, out)?;
+        write_bytes(b"\n", out)?;
+    }
+    Ok(())
+}

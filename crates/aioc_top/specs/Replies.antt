@@ -1,0 +1,126 @@
+-- What each command may answer to an accepted bundle: how it ends, and its text.
+use Rattle.std.specs.Prelude.{◌≡◌, ◌⊎◌, ◌≤◌, ⊥, ℕ, suc, List, ◌∷◌, [], ◌++◌, length, Bool, true, false, Option, Some, None, if◌then◌else◌, codes, decimal}
+use Rattle.std.specs.Option.{option_map_or}
+use Rattle.dioc_terms.specs.declared.entries.Entry.{Entry}
+use Rattle.dioc_terms.specs.declared.bundles.Last.{Last}
+use Rattle.dioc_terms.specs.declared.bundles.Last.TheVariants as last
+use Rattle.dioc_terms.specs.Messages.{visible}
+use Rattle.dioc_terms.specs.Plain.{PlainBundle}
+use Rattle.dioc_terms.specs.Terms.{nodes}
+use Rattle.global_steps.specs.Follow.{State, play, stray}
+use Rattle.global_steps.specs.Running as running
+use Rattle.marked_laws.specs.Network.{Network, network_run, network_ended}
+use Rattle.trace_text.specs.Lines.{text, line_end}
+use Rattle.trace_text.specs.Json.{json_text}
+use Rattle.net_core.specs.Schedule.{sched, IsPrompt}
+use Rattle.net_core.specs.Refusals.{refusal}
+use Rattle.net_core.specs.declared.refusals.Refusal.{Refusal}
+use Rattle.command_words.specs.declared.commands.Options.{Options}
+use Rattle.command_words.specs.declared.commands.Command.{Command}
+use Rattle.command_words.specs.declared.commands.Command.TheVariants as command
+use Rattle.aioc_top.specs.declared.replies.End.{End}
+use Rattle.aioc_top.specs.declared.replies.End.TheVariants as end
+use Rattle.aioc_top.specs.declared.replies.Written.{Written}
+
+-- how a command ends when it has written its text, and that text
+pub record Reply : Type 0 where
+  pub end : End
+  pub text : List ℕ
+
+abbrev pub reply_of : Written → Reply
+reply_of written = record { end = written.end; text = written.text.items }
+
+-- ---- runs
+
+-- whether the history is a run of the bundle's network after which it has ended
+abbrev pub is_finished : PlainBundle → List Entry → Bool
+is_finished b H = option_map_or (network_ended b.cast) (network_run b H) false
+
+-- the entries of a history that are printed
+abbrev pub shown : Options → List Entry → List Entry
+shown options H = if options.aux then H else visible H
+
+-- the last line counts all entries
+abbrev pub last_of : Bool → ℕ → Last
+last_of finished n = if finished then last.Ended n else last.Stopped n
+
+abbrev pub run_text : Options → List Entry → Last → List ℕ
+run_text options H last_line = if options.json then json_text (shown options H) last_line else text (shown options H) last_line
+
+-- the reply that prints a history
+abbrev pub run_reply : Options → PlainBundle → List Entry → Reply
+run_reply options b H = record {
+  end = if is_finished b H then end.Done else end.Limit;
+  text = run_text options H (last_of (is_finished b H) (length H));
+}
+
+-- the history of `step`: the run that the schedule takes
+abbrev pub step_history : Options → PlainBundle → List Entry
+step_history options b = sched b options.seed options.steps
+
+-- a history of the threads: a prompt run with at most so many entries, and fewer only where the network has ended
+pub record IsThreadRun (b : PlainBundle) (limit : ℕ) (H : List Entry) : Type 0 where
+  pub network : Network
+  pub runs : network_run b H ≡ Some network
+  pub prompt : IsPrompt b H
+  pub within : length H ≤ limit
+  pub finished : (network_ended b.cast network ≡ true) ⊎ (length H ≡ limit)
+
+-- ---- one line
+
+abbrev pub line_of_text : List ℕ → List ℕ
+line_of_text bytes = bytes ++ line_end ∷ []
+
+abbrev pub done : List ℕ → Reply
+done bytes = record { end = end.Done; text = line_of_text bytes }
+
+abbrev pub check_line : PlainBundle → List ℕ
+check_line b = codes "accepted: roles " ++ decimal (length b.cast) ++ codes ", nodes " ++ decimal (nodes b.choreo)
+    ++ codes ", rules " ++ decimal (length b.rules) ++ codes ", changes " ++ decimal (length b.script)
+
+abbrev pub yes : ℕ → Reply
+yes n = done (codes "yes " ++ decimal n)
+
+abbrev pub no : ℕ → Reply
+no n = record { end = end.No; text = line_of_text (codes "no " ++ decimal n) }
+
+-- whether the choreography has ended when it has played the entries
+abbrev pub is_over : PlainBundle → List Entry → Bool
+is_over b trace = option_map_or (λ (S : State). running.ended S.running) (play b trace) false
+
+-- a trace that says `ended` is one entry too short where the choreography hasn't ended
+abbrev pub is_too_short : PlainBundle → Option Last → List Entry → Bool
+is_too_short b (Some (last.Ended n)) trace = if is_over b trace then false else true
+is_too_short b _ trace = false
+
+-- The judgement of the trace section: the number of the first entry that isn't played, one past the last where the section says
+-- `ended` too soon, and else how many entries were judged. Auxiliary entries are passed over, and have numbers all the same.
+abbrev pub replay_reply : PlainBundle → Reply
+replay_reply b = by_stray (stray b b.trace.entries)
+  where
+    by_stray : Option ℕ → Reply
+    by_stray (Some n) = no n
+    by_stray None = if is_too_short b b.trace.last (visible b.trace.entries)
+        then no (suc (length b.trace.entries)) else yes (length (visible b.trace.entries))
+
+-- the line of `gen`, for the made bundle and its run: the follower never refuses, so the words at its end are always true
+abbrev pub gen_line : ℕ → ℕ → PlainBundle → List Entry → ℕ → List ℕ
+gen_line number size b H updates = codes "gen " ++ decimal number ++ codes " " ++ decimal size
+    ++ codes ": roles " ++ decimal (length b.cast) ++ codes ", nodes " ++ decimal (nodes b.choreo)
+    ++ codes ", entries " ++ decimal (length H) ++ codes ", visible " ++ decimal (length (visible H))
+    ++ codes ", updates " ++ decimal updates ++ codes ", played yes"
+
+-- ---- all commands
+
+-- the first refusal of a command that reads one bundle
+abbrev pub refusal_of : Command → PlainBundle → Option Refusal
+refusal_of asked b = refusal b
+
+-- What a command may answer to an accepted bundle. A command without a row isn't defined yet.
+abbrev pub Replies : Command → PlainBundle → Reply → Type 0
+Replies (command.Step options) b reply = reply ≡ run_reply options b (step_history options b)
+Replies (command.Run options) b reply =
+    (H : List Entry) × IsThreadRun b options.steps H × (reply ≡ run_reply options b H)
+Replies command.Check b reply = reply ≡ done (check_line b)
+Replies command.Replay b reply = reply ≡ replay_reply b
+Replies _ b reply = ⊥

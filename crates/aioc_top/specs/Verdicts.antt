@@ -1,0 +1,59 @@
+-- What comes of a command and the bytes that were read.
+use Rattle.std.specs.Prelude.{◌≡◌, ◌<◌, ◌≤◌, ℕ, List, length, Option, Some, None}
+use Rattle.dioc_terms.specs.Limits.{most_bytes}
+use Rattle.dioc_terms.specs.Plain.{PlainBundle}
+use Rattle.dioc_syntax.specs.Grammar.{Spells, SpellsNone}
+use Rattle.net_core.specs.declared.refusals.Refusal.{Refusal}
+use Rattle.command_words.specs.declared.commands.Command.{Command}
+use Rattle.aioc_top.specs.declared.replies.End.{End}
+use Rattle.aioc_top.specs.declared.replies.End.TheVariants as end
+use Rattle.aioc_top.specs.declared.replies.Written.{Written}
+use Rattle.aioc_top.specs.declared.status.Status.{Status}
+use Rattle.aioc_top.specs.declared.status.Status.TheVariants as status
+use Rattle.aioc_top.specs.Replies.{Reply, Replies, refusal_of, reply_of}
+
+pub data Verdict : Type 0 where
+  TooLong : Verdict
+  -- the bytes spell no bundle; the byte is one near which the grammar wanted something else
+  Unspelled : ℕ → Verdict
+  Refused : Refusal → Verdict
+  Replied : Reply → Verdict
+
+-- the bytes spell a bundle that is refused so
+pub record Refuses (asked : Command) (bytes : List ℕ) (why : Refusal) : Type 0 where
+  pub bundle : PlainBundle
+  pub spells : Spells bytes bundle
+  pub refused : refusal_of asked bundle ≡ Some why
+
+-- the bytes spell an accepted bundle, to which the command may answer so
+pub record Answers (asked : Command) (bytes : List ℕ) (reply : Reply) : Type 0 where
+  pub bundle : PlainBundle
+  pub spells : Spells bytes bundle
+  pub accepted : refusal_of asked bundle ≡ None
+  pub replies : Replies asked bundle reply
+
+-- what was written is a reply of the command to an accepted bundle
+pub record Answered (asked : Command) (bundle : PlainBundle) (written : Written) : Type 0 where
+  pub accepted : refusal_of asked bundle ≡ None
+  pub replies : Replies asked bundle (reply_of written)
+
+abbrev pub Comes : Command → List ℕ → Verdict → Type 0
+Comes asked bytes TooLong = most_bytes < length bytes
+Comes asked bytes (Unspelled byte) = (length bytes ≤ most_bytes) × SpellsNone bytes
+Comes asked bytes (Refused why) = Refuses asked bytes why
+Comes asked bytes (Replied reply) = Answers asked bytes reply
+
+abbrev pub status_of_end : End → Status
+status_of_end end.Done = status.Done
+status_of_end end.Limit = status.Limit
+status_of_end end.No = status.No
+
+abbrev pub status_of : Verdict → Status
+status_of TooLong = status.TooLong
+status_of (Unspelled byte) = status.Syntax
+status_of (Refused why) = status.Refused
+status_of (Replied reply) = status_of_end reply.end
+
+-- what of the bytes makes a status come
+abbrev pub Cause : Command → Status → List ℕ → Type 0
+Cause asked wanted bytes = (verdict : Verdict) × Comes asked bytes verdict × (wanted ≡ status_of verdict)

@@ -1,0 +1,3 @@
+//! The commands: one module for each, from an accepted bundle to its text.
+
+pub mod step;

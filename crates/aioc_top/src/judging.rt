@@ -1,0 +1,86 @@
+//! From the bytes of a bundle to the reply of a command, or to why there is none.
+
+ghost use Rattle.std.specs.Prelude.{◌≡◌, ◌≤◌, length, true, IfErr, IfOk};
+ghost use Rattle.dioc_terms.specs.Bundles.{IsFormed};
+ghost use Rattle.dioc_terms.specs.Limits.{most_bytes};
+ghost use Rattle.dioc_terms.specs.Plain.{plain};
+ghost use Rattle.dioc_terms.specs.Supported.{IsSupported};
+ghost use Rattle.net_core.specs.Refusals.{IsAccepted};
+ghost use Rattle.aioc_top.specs.Faults.{IsJudgedSo, IsRefusalFault, IsSyntaxFault, IsRefusedSo};
+ghost use Rattle.aioc_top.specs.Replies.{Replies, reply_of};
+ghost use Rattle.aioc_top.specs.Verdicts.{Comes, Replied, Answered};
+ghost use Rattle.aioc_top.specs.Words.{is_built};
+
+use crate::commands::step::step;
+use crate::faults::{Fault, make_refusal_line, make_syntax_line};
+use crate::replies::Written;
+use command_words::Command;
+use dioc_syntax::read_bundle;
+use dioc_terms::{Bundle, Memory, SyntaxFault};
+use net_core::{Refusal, accept};
+use std::alloc::Global;
+
+/// What the command replies to the bundle that the bytes spell, or why it doesn't.
+pub fn judge(alloc: Global, command: &Command, bytes: &[u8]) -> Result<Written, Fault>
+    requires built { is_built command.now ≡ true }
+    requires small { length bytes.now ≤ most_bytes }
+    ensures reply { IfOk result (λ written. Comes command.now bytes.now (Replied (reply_of written))) }
+    ensures fault { IfErr result (IsJudgedSo command.now bytes.now) }
+{
+    match read_bundle(alloc, bytes) {
+        Ok(bundle) => reply_to(alloc, command, &bundle),
+        Err(SyntaxFault::Syntax(byte)) => Err(syntax_fault(alloc, byte)),
+        Err(SyntaxFault::Memory) => Err(Fault::Memory),
+    }
+}
+
+fn syntax_fault(alloc: Global, byte: usize) -> Fault
+    ensures { IsSyntaxFault byte result }
+{
+    match make_syntax_line(alloc, byte) {
+        Ok(line) => Fault::Syntax(line),
+        Err(Memory) => Fault::Memory,
+    }
+}
+
+// What the command replies to a formed bundle, or the first refusal of the bundle.
+fn reply_to(alloc: Global, command: &Command, bundle: &Bundle) -> Result<Written, Fault>
+    requires built { is_built command.now ≡ true }
+    requires formed { IsFormed (plain bundle.now) }
+    requires supported { IsSupported (plain bundle.now) }
+    ensures reply { IfOk result (Answered command.now (plain bundle.now)) }
+    ensures fault { IfErr result (IsRefusedSo command.now (plain bundle.now)) }
+{
+    match accept(bundle) {
+        Ok(()) => match do_command(alloc, command, bundle) {
+            Ok(written) => Ok(written),
+            Err(Memory) => Err(Fault::Memory),
+        },
+        Err(refusal) => Err(refusal_fault(alloc, &refusal)),
+    }
+}
+
+fn refusal_fault(alloc: Global, refusal: &Refusal) -> Fault
+    ensures { IsRefusalFault refusal.now result }
+{
+    match refusal {
+        Refusal::Memory => Fault::Memory,
+        _ => match make_refusal_line(alloc, refusal) {
+            Ok(line) => Fault::Refused(line),
+            Err(Memory) => Fault::Memory,
+        },
+    }
+}
+
+// The reply of a command that is built.
+fn do_command(alloc: Global, command: &Command, bundle: &Bundle) -> Result<Written, Memory>
+    requires built { is_built command.now ≡ true }
+    requires accepted { IsAccepted (plain bundle.now) }
+    requires supported { IsSupported (plain bundle.now) }
+    ensures { IfOk result (λ written. Replies command.now (plain bundle.now) (reply_of written)) }
+{
+    match command {
+        Command::Step(options) => step(alloc, options, bundle),
+        _ => unreachable!(),
+    }
+}
