@@ -4,7 +4,7 @@
 ghost use Rattle.connectedness.specs.Laws.{RolesAtEnds, StampedConnected};
 ghost use Rattle.dioc_terms.specs.TermLaws.{MentionsAreRoles, CastsAreRoles, StampedBodies};
 ghost use Rattle.net_core.specs.Headline.{EveryRun};
-ghost use Rattle.net_core.specs.Laws.{AcceptedIsSound, MovesAreSteps, RunsAreSound, SchedulesArePrompt};
+ghost use Rattle.net_core.specs.Laws.{AcceptedIsSound, MovesAreSteps, RunsAreSound, SchedulesArePrompt, SchedulesReadNoVersion};
 
 /// What the crates below prove of terms, together.
 fn known()
@@ -72,4 +72,9 @@ pub fn every_run()
 /// bundle. It does nothing.
 pub fn schedules_are_prompt()
     ensures { SchedulesArePrompt }
+{}
+
+/// A law: neither what a schedule makes of a bundle nor its first refusal depends on its version. It does nothing.
+pub fn schedules_read_no_version()
+    ensures { SchedulesReadNoVersion }
 {}
