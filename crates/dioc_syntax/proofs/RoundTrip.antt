@@ -36,7 +36,7 @@ use Rattle.expr_syntax.specs.declared.levels.Level.{Level}
 use Rattle.expr_syntax.specs.declared.levels.Level.TheVariants.{Disjunction, Conjunction, Negation, Comparison, Sum, Product, Unary}
 use Rattle.expr_syntax.proofs.RoundTrip.{written_all}
 use Rattle.expr_syntax.proofs.RoundTrip.{written_reads as expression_reads}
-use Rattle.dioc_syntax.specs.Choreographies.{NamesRoles, last_role, more_roles, NamesRoles, no_roles, roles, GivesProperties, last_property, more_properties, HasProperties, no_properties, properties, Choreography, Sequence, Step, Block, Otherwise, Stands, one_part, beside, one_step, in_turn, nothing, interaction, input, assignment, choice, loop, scope, group, block, otherwise, IsChoreography}
+use Rattle.dioc_syntax.specs.Choreographies.{NamesRoles, last_role, more_roles, HasExtraRoles, no_roles, roles, GivesProperties, last_property, more_properties, HasProperties, no_properties, properties, Choreography, Sequence, Step, Block, Otherwise, Stands, one_part, beside, one_step, in_turn, nothing, interaction, input, assignment, choice, loop, scope, group, block, otherwise, IsChoreography}
 use Rattle.dioc_syntax.specs.Writing.{is_joined, is_parallel, written_names, written_roles, written_property, written_list, written_properties, written}
 use Rattle.dioc_syntax.specs.Laws.{closes, FitsVersion}
 use Rattle.dioc_syntax.proofs.Tables.{choreography_goes}
@@ -133,7 +133,7 @@ names_stand : (first : Role) (rest : List Role) (others : List Lexeme) → Names
 names_stand first [] others = last_role {name = first.0} refl
 names_stand first (next ∷ rest) others = more_roles {name = first.0} refl (names_stand next rest others)
 
-roles_stand : (version : ℕ) (extra : List Role) (others : List Lexeme) → (version ≡ 2) ⊎ (extra ≡ []) → NamesRoles version (written_roles extra others) extra others
+roles_stand : (version : ℕ) (extra : List Role) (others : List Lexeme) → (version ≡ 2) ⊎ (extra ≡ []) → HasExtraRoles version (written_roles extra others) extra others
 roles_stand version [] others fits = no_roles
 roles_stand version (first ∷ rest) others (inl two) = roles two refl (names_stand first rest (Symbol punctuator.RightBrace ∷ others)) refl
 roles_stand version (first ∷ rest) others (inr none) = absurd cc

@@ -24,10 +24,10 @@ pub data NamesRoles : List Lexeme → List Role → List Lexeme → Type 0 where
 
 -- the further roles of a scope, which version 2 alone may name; `roles` is no reserved word:
 --   [ "roles" "{" name { "," name } "}" ]
-pub data NamesRoles (version : ℕ) : List Lexeme → List Role → List Lexeme → Type 0 where
-  no_roles : {to : List Lexeme} → NamesRoles version to [] to
+pub data HasExtraRoles (version : ℕ) : List Lexeme → List Role → List Lexeme → Type 0 where
+  no_roles : {to : List Lexeme} → HasExtraRoles version to [] to
   roles : {from names behind to : List Lexeme} {extra : List Role} → version ≡ 2 → from ≡ Name (codes "roles") ∷ Symbol punctuator.LeftBrace ∷ names → NamesRoles names extra behind → behind ≡ Symbol punctuator.RightBrace ∷ to →
-      NamesRoles version from extra to
+      HasExtraRoles version from extra to
 
 -- properties with their values:
 --   props = "N" "." name "=" value { "," "N" "." name "=" value }
@@ -93,7 +93,7 @@ pub data Stands (version : ℕ) : Form → ℕ → ℕ → List Lexeme → Term 
       Stands version Step room earlier from (While (index_at earlier) (role leader) guard inner) to
   --      | "scope" "@" name "{" choreo "}" [ "roles" "{" name { "," name } "}" ] [ "prop" "{" [ props ] "}" ]
   scope : {room earlier : ℕ} {from body behind after to : List Lexeme} {leader : List ℕ} {inner : Term} {extra : List Role} {props : List (List ℕ × Value)} →
-      from ≡ Reserved word.Scope ∷ Symbol punctuator.At ∷ Name leader ∷ body → Stands version Block room (suc earlier) body inner behind → NamesRoles version behind extra after → HasProperties after props to →
+      from ≡ Reserved word.Scope ∷ Symbol punctuator.At ∷ Name leader ∷ body → Stands version Block room (suc earlier) body inner behind → HasExtraRoles version behind extra after → HasProperties after props to →
       Stands version Step room earlier from (Scope (index_at earlier) (role leader) inner extra props 0) to
   --      | "(" choreo ")"
   group : {room left earlier : ℕ} {from inside middle to : List Lexeme} {whole : Term} → room ≡ suc left → from ≡ Symbol punctuator.LeftParen ∷ inside →

@@ -11,7 +11,7 @@ use Rattle.aioc_tokens.specs.Fronts.{Longest, NoFront}
 use Rattle.expr_syntax.specs.Constants.{constant, before}
 use Rattle.expr_syntax.specs.Grammar.{IsExpression}
 use Rattle.expr_syntax.specs.declared.levels.ExprKind.TheVariants as kind
-use Rattle.dioc_syntax.specs.Choreographies.{NamesRoles, NamesRoles, GivesProperties, HasProperties, Form, Step, IsShallow}
+use Rattle.dioc_syntax.specs.Choreographies.{NamesRoles, HasExtraRoles, GivesProperties, HasProperties, Form, Step, IsShallow}
 use Rattle.dioc_syntax.specs.declared.found.FoundChoreo.{FoundChoreo}
 use Rattle.dioc_syntax.specs.declared.found.ScopeParts.{ScopeParts}
 use Rattle.dioc_syntax.specs.declared.guards.Guard.{Guard}
@@ -66,7 +66,7 @@ NamesAt text at (Some read) = Longest (NamesRoles (drop at text)) read.0 (drop r
 
 -- the longest further roles at a place, and the place behind them
 abbrev pub RolesAt : ℕ → List Lexeme → ℕ → List Role × ℕ → Type 0
-RolesAt version text at read = Longest (NamesRoles version (drop at text)) read.0 (drop read.1 text) × (at ≤ read.1) × (read.1 ≤ length text)
+RolesAt version text at read = Longest (HasExtraRoles version (drop at text)) read.0 (drop read.1 text) × (at ≤ read.1) × (read.1 ≤ length text)
 
 -- `N . k = v` with the place behind it, or nothing
 pub record IsPair (text : List Lexeme) (at : ℕ) (pair : List ℕ × Value) (next : ℕ) : Type 0 where
@@ -91,7 +91,7 @@ PropertiesAt text at read = Longest (HasProperties (drop at text)) read.0 (drop 
 -- what a scope has behind its body at a place
 pub record ScopePartsAt (version : ℕ) (text : List Lexeme) (at : ℕ) (parts : ScopeParts) : Type 0 where
   pub between : ℕ
-  pub roles : Longest (NamesRoles version (drop at text)) parts.extra (drop between text)
+  pub roles : Longest (HasExtraRoles version (drop at text)) parts.extra (drop between text)
   pub props : Longest (HasProperties (drop between text)) parts.props (drop parts.at text)
   pub after : at ≤ parts.at
   pub within : parts.at ≤ length text
