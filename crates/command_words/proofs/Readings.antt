@@ -176,8 +176,13 @@ module _ (given : Given) (texts : Texts) where
     options_same : is_flag (choices_of verb) (codes "seed") ≡ false → is_flag (choices_of verb) (codes "steps") ≡ false
         → is_flag (choices_of verb) (codes "workers") ≡ false → options_of verb texts ≡ options_of verb (text_of given)
     options_same seed steps workers =
-        rw (text_same (codes "seed") seed, text_same (codes "steps") steps, text_same (codes "workers") workers,
-        flag_same (codes "aux"), flag_same (codes "json")) refl
+        rw (
+          text_same (codes "seed") seed,
+          text_same (codes "steps") steps,
+          text_same (codes "workers") workers,
+          flag_same (codes "aux"),
+          flag_same (codes "json"),
+        ) refl
 
   command_same : (verb : Verb) → ((name : Text) → texts name ≡ shown (choices_of verb) given name)
       → command_with verb texts ≡ command_with verb (text_of given)

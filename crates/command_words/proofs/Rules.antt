@@ -100,7 +100,7 @@ pub row_added-given : (given : Given) (name text : Text) → is_given given name
 row_added-given given name text new =
     let none : has_row name (rows_for given) ≡ false = has_row-given given name ∙ new in
     let kept : without name (rows_for given) ≡ rows_for given =
-        at_row-missing name (λ _. []) [] (rows_for given) none ∙ append-empty (rows_for given) in
+    at_row-missing name (λ _. []) [] (rows_for given) none ∙ append-empty (rows_for given) in
     ap (with_values name reading.AsWritten CommandLine (text ∷ [])) kept
     ∙ at_row-missing name (more_values CommandLine (text ∷ [])) (row_for (name, text) ∷ []) (rows_for given) none
     ∙ sym (map-append given ((name, text) ∷ []))

@@ -74,9 +74,9 @@ module _ (start now next : App) (rule : Rule) (is_next : next ≡ with_rule now 
   one_choice choices i d inside so_far is_rule =
       let x = slice_index_or choices i d in
       let added : map given_rule (choices_in (take (i + 1) choices))
-          ≡ map given_rule (choices_in (take i choices)) ++ given_rule (x.name.now, x.takes_value) ∷ [] =
-          ap (map given_rule) (map_more (λ (choice : Choice). (choice.name.now, choice.takes_value)) choices i d inside)
-          ∙ map-append given_rule (choices_in (take i choices)) ((x.name.now, x.takes_value) ∷ []) in
+      ≡ map given_rule (choices_in (take i choices)) ++ given_rule (x.name.now, x.takes_value) ∷ [] =
+      ap (map given_rule) (map_more (λ (choice : Choice). (choice.name.now, choice.takes_value)) choices i d inside)
+      ∙ map-append given_rule (choices_in (take i choices)) ((x.name.now, x.takes_value) ∷ []) in
       is_next ∙ ap₂ with_rule so_far is_rule
       ∙ sym (ap (fold with_rule start) added ∙ fold_push with_rule start (map given_rule (choices_in (take i choices))) (given_rule (x.name.now, x.takes_value)))
 
@@ -88,7 +88,7 @@ module _ (start now next : App) (rule : Rule) (is_next : next ≡ with_rule now 
       let x = slice_index_or places i d in
       let before : List Text = map (λ (place : Bor Text). place.now) (take i places) in
       let added : map new_rule (map (λ (place : Bor Text). place.now) (take (i + 1) places)) ≡ map new_rule before ++ new_rule x.now ∷ [] =
-          ap (map new_rule) (map_more (λ (place : Bor Text). place.now) places i d inside) ∙ map-append new_rule before (x.now ∷ []) in
+      ap (map new_rule) (map_more (λ (place : Bor Text). place.now) places i d inside) ∙ map-append new_rule before (x.now ∷ []) in
       is_next ∙ ap₂ with_rule so_far is_rule
       ∙ sym (ap (fold with_rule start) added ∙ fold_push with_rule start (map new_rule before) (new_rule x.now))
 
