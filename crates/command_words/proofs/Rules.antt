@@ -1,9 +1,7 @@
 -- The arguments of a built command, and what a use of one comes to.
-use Rattle.std.proofs.Common.{◌≡◌, ◌∙◌, ℕ, ◌+◌, min, Bool, true, false, not, ◌&&◌, cond, List, [], ◌∷◌, ◌++◌, map, Option, Some, None, refl, sym, ap, codes}
+use Rattle.std.proofs.Common.{◌≡◌, ◌∙◌, ℕ, Bool, true, false, not, ◌&&◌, cond, List, [], ◌∷◌, ◌++◌, map, Option, Some, None, refl, sym, ap, codes}
 use Rattle.std.specs.Prelude.{option_and_then}
-use Rattle.std.proofs.Math.Bool.{or-false, false-or}
 use Rattle.std.specs.Str.{bytes_eq}
-use Rattle.clap.specs.Lexer.{usize_max}
 use Rattle.clap.specs.Walk.{Row, Rule, Text, at_row, has_row, used, with_values, without, more_values}
 use Rattle.clap.specs.Simple.{new_rule}
 use Rattle.clap.specs.Kinds.{Kinds, or_else}

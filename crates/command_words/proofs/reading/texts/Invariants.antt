@@ -1,4 +1,4 @@
-use Rattle.std.proofs.Common.{◌≡◌, ◌∙◌, map, true, take}
+use Rattle.std.proofs.Common.{◌≡◌, map, true, take}
 use Rattle.std.specs.List.{list_all}
 use Rattle.std.specs.Str.{is_utf8}
 use Rattle.command_words.specs.Commands.{spelled}
