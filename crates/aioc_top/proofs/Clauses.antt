@@ -1,5 +1,5 @@
 -- What the table of calls says by each clause.
-use Rattle.std.proofs.Common.{◌≡◌, ◌⊎◌, ◌↔◌, ◌≤◌, ℕ, List, [], length, Bool, true, false, true≢false, Option, Some, None, IfSome, IsSome, refl, sym, ap, ◌∙◌, subst, inl, inr, ⊎_elim}
+use Rattle.std.proofs.Common.{◌≡◌, ◌⊎◌, ◌↔◌, ◌≤◌, ℕ, List, [], length, Bool, true, false, true≢false, Option, Some, None, IfSome, IsSome, refl, sym, ap, ◌∙◌, subst, inl, inr, ⊎_elim, arith}
 use Rattle.std.specs.Prelude.{if◌then◌else◌}
 use Rattle.std.proofs.lemmas.Bool.{cases_Bool, cond-true, cond-false}
 use Rattle.std.specs.Option.{option_map_or}
@@ -145,11 +145,11 @@ reply_told call s is (Refused why, judges, same, writes, says) = absurd (true≢
 reply_told call s is (Replied reply, judges, same, writes, says) = (reply, judges, same, writes, says)
 
 line_told : (call : Call) (s : Status) → has_printed s ≡ false → tells_verdict s ≡ true → Told call s → SaysWhy s call.asked call.source call.err call.err_after
-line_told call s no is (TooLong, judges, same, writes, says) = subst (λ t. SaysWhy t call.asked call.source call.err call.err_after) (sym same) says
-line_told call s no is (Unspelled byte, judges, same, writes, says) = subst (λ t. SaysWhy t call.asked call.source call.err call.err_after) (sym same) (byte, says)
-line_told call s no is (Refused why, judges, same, writes, says) = subst (λ t. SaysWhy t call.asked call.source call.err call.err_after) (sym same)
+line_told call s unprinted is (TooLong, judges, same, writes, says) = subst (λ t. SaysWhy t call.asked call.source call.err call.err_after) (sym same) says
+line_told call s unprinted is (Unspelled byte, judges, same, writes, says) = subst (λ t. SaysWhy t call.asked call.source call.err call.err_after) (sym same) (byte, says)
+line_told call s unprinted is (Refused why, judges, same, writes, says) = subst (λ t. SaysWhy t call.asked call.source call.err call.err_after) (sym same)
     (judges.command, judges.asked, (why, says, mapped (λ told e. subst (λ bytes. Comes judges.command bytes (Refused why)) (sym e) judges.comes) call.source.left judges.read))
-line_told call s no is (Replied reply, judges, same, writes, says) = absurd (prints_always s reply.end same no)
+line_told call s unprinted is (Replied reply, judges, same, writes, says) = absurd (prints_always s reply.end same unprinted)
 
 pub says : (call : Call) (s : Status) → Happens call s → SaysWhy s call.asked call.source call.err call.err_after
 says call status.Usage h = h.3
@@ -202,7 +202,7 @@ module _ (one : OneBundle) (call : Call) (all_built : (found : Command) → call
   -- the reply of a bundle that is spelled and not refused
   replied : (s : Status) (found : Command) → call.asked ≡ Some found → Told call s → IfSome call.source.left (λ bytes. (b : PlainBundle) → Spells bytes b → refusal_of found b ≡ None
       → (reply : Reply) × Replies found b reply × (s ≡ status_of_end reply.end))
-  replied s found is (verdict, judges, same, rest) =
+  replied s found is (verdict, judges, same, writes, says) =
       let command : judges.command ≡ found = some_same (sym judges.asked ∙ is) in
       mapped (λ left read. by_verdict left verdict (subst (λ bytes. Comes found bytes verdict) (sym read) (subst (λ c. Comes c judges.bytes verdict) command judges.comes)) same) call.source.left judges.read
     where

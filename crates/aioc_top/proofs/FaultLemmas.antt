@@ -60,7 +60,7 @@ stops asked source source_after all read end fault.TooLong h = absurd h
 
 -- some bytes are as long as is asked
 long_enough : (n : ℕ) → (bytes : List ℕ) × (n < length bytes)
-long_enough n = (replicate (suc n) 0, omega (arith, length-replicate (suc n) 0))
+long_enough n = (replicate (suc n) 0, omega (arith, length-replicate {A = ℕ} (suc n) 0))
 
 too_many : (left : Option (List ℕ)) → IfSome left (λ told. most_bytes < length told) → (bytes : List ℕ) × IfSome left (λ told. told ≡ bytes) × (most_bytes < length bytes)
 too_many None h = let long = long_enough most_bytes in (long.0, tt, long.1)

@@ -1,5 +1,5 @@
 -- What each command may answer to an accepted bundle: how it ends, and its text.
-use Rattle.std.specs.Prelude.{◌≡◌, ◌⊎◌, ◌≤◌, ⊥, ℕ, suc, List, ◌∷◌, [], ◌++◌, length, Bool, true, false, Option, Some, None, if◌then◌else◌, codes, decimal}
+use Rattle.std.specs.Prelude.{◌≡◌, ◌⊎◌, ◌≤◌, ℕ, suc, List, ◌∷◌, [], ◌++◌, length, Bool, true, false, Option, Some, None, if◌then◌else◌, codes, decimal}
 use Rattle.std.specs.Option.{option_map_or}
 use Rattle.dioc_terms.specs.declared.entries.Entry.{Entry}
 use Rattle.dioc_terms.specs.declared.bundles.Last.{Last}
