@@ -3,11 +3,11 @@
 #![tactic(auto)]
 
 use aioc_io::{StdSink, StdSource};
-use aioc_top::serve;
+use aioc_top::{Status, serve_alone};
 use std::process::ExitCode;
 use std::{env, io};
 
-// The bytes of the words after the program's name.
+// The bytes of the words after the program's name. Its one error is want of memory.
 fn read_words(rt: &HostRuntime) -> io::Result<Vec<Vec<u8>>> {
     let alloc = rt.alloc();
     let mut words = Vec::new(alloc);
@@ -17,11 +17,15 @@ fn read_words(rt: &HostRuntime) -> io::Result<Vec<Vec<u8>>> {
     Ok(words)
 }
 
-fn main(rt: HostRuntime) -> io::Result<ExitCode> {
-    let words = read_words(&rt)?;
-    let mut source = StdSource::new(rt.stdin());
-    let mut out = StdSink::new(rt.stdout());
-    let mut err = StdSink::new(rt.stderr());
-    let status = serve(rt.alloc(), &words, &mut source, &mut out, &mut err);
-    Ok(ExitCode::from(status.code()))
+fn main(rt: HostRuntime) -> ExitCode {
+    let status = match read_words(&rt) {
+        Ok(words) => {
+            let mut source = StdSource::new(rt.stdin());
+            let mut out = StdSink::new(rt.stdout());
+            let mut err = StdSink::new(rt.stderr());
+            serve_alone(rt.alloc(), &words, &mut source, &mut out, &mut err)
+        }
+        Err(_) => Status::Memory,
+    };
+    ExitCode::from(status.code())
 }

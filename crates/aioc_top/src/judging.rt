@@ -1,7 +1,8 @@
 //! From the bytes of a bundle to the reply of a command, or to why there is none.
 
-ghost use Rattle.std.specs.Prelude.{◌≡◌, true, IfErr, IfOk};
+ghost use Rattle.std.specs.Prelude.{◌≡◌, ◌≤◌, length, true, IfErr, IfOk};
 ghost use Rattle.dioc_terms.specs.Bundles.{IsFormed};
+ghost use Rattle.dioc_terms.specs.Limits.{most_bytes};
 ghost use Rattle.dioc_terms.specs.Plain.{plain};
 ghost use Rattle.dioc_terms.specs.Supported.{IsSupported};
 ghost use Rattle.net_core.specs.Refusals.{IsAccepted};
@@ -22,6 +23,7 @@ use std::alloc::Global;
 /// What the command replies to the bundle that the bytes spell, or why it doesn't.
 pub fn judge(alloc: Global, command: &Command, bytes: &[u8]) -> Result<Written, Fault>
     requires built { is_built command.now ≡ true }
+    requires small { length bytes.now ≤ most_bytes }
     ensures reply { IfOk result (λ written. Comes command.now bytes.now (Replied (reply_of written))) }
     ensures fault { IfErr result (IsJudgedSo command.now bytes.now) }
 {

@@ -4,6 +4,7 @@ ghost use Rattle.std.specs.Prelude.{◌≡◌, Some, true};
 ghost use Rattle.aioc_io.specs.Faults.{Rose};
 ghost use Rattle.dioc_syntax.specs.Grammar.{OneBundle, SpelledAreFormed};
 ghost use Rattle.net_core.specs.Headline.{EveryRun};
+ghost use Rattle.net_core.specs.Laws.{RunsAreSound};
 ghost use Rattle.aioc_top.specs.Calls.{Happens, PrintsReply, SaysLine};
 ghost use Rattle.aioc_top.specs.Faults.{line_of, status_of};
 ghost use Rattle.aioc_top.specs.Replies.{reply_of};
@@ -19,7 +20,7 @@ use aioc_io::{Failed, Sink, Source, write_all};
 use command_words::Command;
 use dioc_syntax::{one_bundle, spelled_are_formed};
 use dioc_terms::Memory;
-use net_core::every_run;
+use net_core::{every_run, runs_are_sound};
 use std::alloc::Global;
 
 /// Does what the words after the program's name say: reads a bundle from the source, and writes the text of the command to `out`.
@@ -76,10 +77,12 @@ fn know_laws()
     ensures one { OneBundle }
     ensures formed { SpelledAreFormed }
     ensures every_run { EveryRun }
+    ensures sound { RunsAreSound }
 {
     one_bundle();
     spelled_are_formed();
     every_run();
+    runs_are_sound();
 }
 
 // Does what the words ask for, or says that they ask for nothing.

@@ -4,7 +4,7 @@ use Rattle.dioc_terms.specs.declared.names.Role.{Role}
 use Rattle.dioc_terms.specs.declared.names.Index.{Index}
 use Rattle.dioc_terms.specs.declared.processes.Tag.{Tag}
 use Rattle.dioc_terms.specs.Processes.{Load}
-use Rattle.dpoc_process.specs.Steps.{key, letters_to}
+use Rattle.process_steps.specs.Steps.{key, letters_to}
 use Rattle.aux_messages.specs.Plans.{keys_of}
 
 -- one key to each of the others, whatever is carried

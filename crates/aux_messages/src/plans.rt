@@ -3,7 +3,7 @@
 ghost use Rattle.std.specs.Prelude.{◌≡◌, IfOk, map};
 ghost use Rattle.dioc_terms.specs.declared.names.Role.{Role};
 ghost use Rattle.dioc_terms.specs.Processes.{Load};
-ghost use Rattle.dpoc_process.specs.Steps.{key, letters_to};
+ghost use Rattle.process_steps.specs.Steps.{key, letters_to};
 ghost use Rattle.aux_messages.specs.Plans.{keys_of};
 
 use dioc_terms::{Index, Key, Memory, Role, Tag};

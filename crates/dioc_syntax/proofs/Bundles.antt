@@ -2,9 +2,9 @@
 use Rattle.std.proofs.Common.{◌≡◌, ℕ, ◌+◌, ◌-◌, List, [], ◌∷◌, drop, length, Option, Some, None, refl, sym, ap, ◌∙◌, subst, arith, length-drop, drop-drop}
 use Rattle.dioc_terms.specs.declared.names.Role.{Role}
 use Rattle.dioc_terms.specs.declared.values.Value.{Value}
-use Rattle.dioc_terms.specs.declared.bundles.Bundle.{Bundle}
 use Rattle.dioc_terms.specs.Expressions.{Const}
-use Rattle.dioc_terms.specs.Terms.{Com, term, cast_of, index_at}
+use Rattle.dioc_terms.specs.Plain.{PlainBundle}
+use Rattle.dioc_terms.specs.Terms.{Com, cast_of, index_at}
 use Rattle.aioc_tokens.specs.declared.words.Sort.{Sort}
 use Rattle.aioc_tokens.specs.declared.words.Sort.TheVariants as sorts
 use Rattle.aioc_tokens.specs.declared.words.Word.{Word}
@@ -22,9 +22,9 @@ use Rattle.dioc_syntax.specs.declared.bundle.TheConstants.{HEAD, TAIL}
 use Rattle.dioc_syntax.specs.Grammar.{IsBundle, SpellsNone}
 
 -- a bundle of a choreography alone
-pub record IsPlain (b : Bundle) : Type 0 where
+pub record IsAlone (b : PlainBundle) : Type 0 where
   pub version : b.version ≡ 1
-  pub cast : b.cast ≡ cast_of (term b.choreo)
+  pub cast : b.cast ≡ cast_of b.choreo
   pub rules : b.rules ≡ []
   pub opening : b.opening ≡ 0
   pub env : b.env ≡ []
@@ -97,14 +97,14 @@ tail_is from at h =
     nothing_left (first ∷ others) e = absurd (omega arith)
 
 -- all of a bundle's lexemes up to what is sent
-opening_is : (found : List Lexeme) (b : Bundle) (is : IsBundle found b)
+opening_is : (found : List Lexeme) (b : PlainBundle) (is : IsBundle found b)
     → found ≡ Reserved Aioc ∷ Symbol LeftBrace ∷ Name is.choreo.operation ∷ Symbol Colon ∷ Name is.choreo.sender ∷ Symbol LeftParen ∷ is.choreo.sent
 opening_is found b is = is.begins ∙ ap (λ l. Reserved Aioc ∷ Symbol LeftBrace ∷ l) is.choreo.begins
 
-pub head_begins : (found : List Lexeme) (b : Bundle) → IsBundle found b → Begins HEAD found
+pub head_begins : (found : List Lexeme) (b : PlainBundle) → IsBundle found b → Begins HEAD found
 head_begins found b is = subst (Begins HEAD) (sym (opening_is found b is)) (refl, (refl, (refl, (refl, (refl, (refl, tt))))))
 
-pub sent_is : (found : List Lexeme) (b : Bundle) (is : IsBundle found b) → constant (drop 6 found) ≡ Some (is.choreo.value, is.choreo.received)
+pub sent_is : (found : List Lexeme) (b : PlainBundle) (is : IsBundle found b) → constant (drop 6 found) ≡ Some (is.choreo.value, is.choreo.received)
 sent_is found b is = ap (λ l. constant (drop 6 l)) (opening_is found b is) ∙ is.choreo.sends
 
 abbrev rest_of : Option (Value × List Lexeme) → List Lexeme
@@ -112,19 +112,19 @@ rest_of None = []
 rest_of (Some read) = read.1
 
 -- what stands behind what is sent
-pub closing_is : (found : List Lexeme) (b : Bundle) (is : IsBundle found b) (v : Value) (at : ℕ) → constant (drop 6 found) ≡ Some (v, drop at found)
+pub closing_is : (found : List Lexeme) (b : PlainBundle) (is : IsBundle found b) (v : Value) (at : ℕ) → constant (drop 6 found) ≡ Some (v, drop at found)
     → drop at found ≡ Symbol RightParen ∷ Symbol Arrow ∷ Name is.choreo.receiver ∷ Symbol LeftParen ∷ Name is.choreo.variable ∷ Symbol RightParen ∷ Symbol RightBrace ∷ []
 closing_is found b is v at read = ap rest_of (sym read ∙ sent_is found b is) ∙ is.choreo.ends
     ∙ ap (λ l. Symbol RightParen ∷ Symbol Arrow ∷ Name is.choreo.receiver ∷ Symbol LeftParen ∷ Name is.choreo.variable ∷ Symbol RightParen ∷ l) is.ends
 
-pub tail_begins : (found : List Lexeme) (b : Bundle) → IsBundle found b → (v : Value) (at : ℕ) → constant (drop 6 found) ≡ Some (v, drop at found) → Begins TAIL (drop at found)
+pub tail_begins : (found : List Lexeme) (b : PlainBundle) → IsBundle found b → (v : Value) (at : ℕ) → constant (drop 6 found) ≡ Some (v, drop at found) → Begins TAIL (drop at found)
 tail_begins found b is v at read = subst (Begins TAIL) (sym (closing_is found b is v at read)) (refl, (refl, (refl, (refl, (refl, (refl, (refl, tt)))))))
 
-pub tail_length : (found : List Lexeme) (b : Bundle) → IsBundle found b → (v : Value) (at : ℕ) → constant (drop 6 found) ≡ Some (v, drop at found) → length found - at ≡ 7
+pub tail_length : (found : List Lexeme) (b : PlainBundle) → IsBundle found b → (v : Value) (at : ℕ) → constant (drop 6 found) ≡ Some (v, drop at found) → length found - at ≡ 7
 tail_length found b is v at read = sym (length-drop at found) ∙ ap length (closing_is found b is v at read)
 
 -- no lexemes of a bundle, no bundle
-pub spells_none : (bytes : List ℕ) (tokens : List Token) → Lexes 0 bytes tokens → ((b : Bundle) → IsBundle (lexemes bytes tokens) b → ⊥) → SpellsNone bytes
+pub spells_none : (bytes : List ℕ) (tokens : List Token) → Lexes 0 bytes tokens → ((b : PlainBundle) → IsBundle (lexemes bytes tokens) b → ⊥) → SpellsNone bytes
 spells_none bytes tokens lexes none b spells =
     none b (subst (λ l. IsBundle l b) (one_reading bytes spells.found (lexemes bytes tokens) spells.lexemes (record { tokens = tokens; lexes = lexes; lexemes_are = refl })) spells.bundle)
 
@@ -132,11 +132,11 @@ pub bad_byte_none : (bytes : List ℕ) (at : ℕ) → Breaks 0 bytes at → Spel
 bad_byte_none bytes at breaks b spells = tokens_or_bad_byte 0 bytes spells.lexemes.tokens at spells.lexemes.lexes breaks
 
 -- the bundle that the reader builds
-pub makes : (text : List Lexeme) (at : ℕ) (b : Bundle) (o x : List ℕ) (a c : Role) (v : Value) → Begins HEAD text → constant (drop 6 text) ≡ Some (v, drop at text)
+pub makes : (text : List Lexeme) (at : ℕ) (b : PlainBundle) (o x : List ℕ) (a c : Role) (v : Value) → Begins HEAD text → constant (drop 6 text) ≡ Some (v, drop at text)
     → Begins TAIL (drop at text) → length text - at ≡ 7 → drop 2 text ≡ Name o ∷ drop 3 text → drop 4 text ≡ Name a.0 ∷ drop 5 text
     → drop (at + 2) text ≡ Name c.0 ∷ drop (at + 2 + 1) text → drop (at + 4) text ≡ Name x ∷ drop (at + 4 + 1) text
-    → term b.choreo ≡ Com (index_at 0) o a (Const v) c x → IsPlain b → IsBundle text b
-makes text at b o x a c v head sent tail end op sender receiver variable is plain = record {
+    → b.choreo ≡ Com (index_at 0) o a (Const v) c x → IsAlone b → IsBundle text b
+makes text at b o x a c v head sent tail end op sender receiver variable is alone = record {
   inside = drop 2 text;
   behind = Symbol RightBrace ∷ [];
   begins = (head_is text o a.0 head op sender).0;
@@ -154,13 +154,13 @@ makes text at b o x a c v head sent tail end op sender receiver variable is plai
     is_com = is;
   };
   ends = refl;
-  version = plain.version;
-  cast = plain.cast;
-  rules = plain.rules;
-  opening = plain.opening;
-  env = plain.env;
-  inputs = plain.inputs;
-  script = plain.script;
-  entries = plain.entries;
-  last = plain.last;
+  version = alone.version;
+  cast = alone.cast;
+  rules = alone.rules;
+  opening = alone.opening;
+  env = alone.env;
+  inputs = alone.inputs;
+  script = alone.script;
+  entries = alone.entries;
+  last = alone.last;
 }

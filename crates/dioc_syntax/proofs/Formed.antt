@@ -3,9 +3,9 @@ use Rattle.std.proofs.Common.{◌≡◌, ℕ, ◌-◌, List, ◌∷◌, ◌&&◌
 use Rattle.std.specs.Prelude.{All}
 use Rattle.std.specs.List.{list_all, AllByRecursion}
 use Rattle.dioc_terms.specs.declared.values.Value.{Value}
-use Rattle.dioc_terms.specs.declared.bundles.Bundle.{Bundle}
 use Rattle.dioc_terms.specs.Bundles.{IsFormed, IsFormedTerm, IsFormedRule, is_identifier, is_constant, names_no_roles, has_no_priority, adds, numbers_from, is_formed_binding, is_formed_inputs, is_formed_timed, is_formed_entry, is_formed_last}
 use Rattle.dioc_terms.specs.Expressions.{Const}
+use Rattle.dioc_terms.specs.Plain.{PlainBundle}
 use Rattle.dioc_terms.specs.Supported.{IsSupported, is_one_interaction}
 use Rattle.dioc_terms.specs.Terms.{Com, index_at}
 use Rattle.aioc_tokens.specs.declared.words.Word.TheVariants.{Aioc}
@@ -19,12 +19,12 @@ use Rattle.dioc_syntax.specs.Grammar.{IsBundle}
 interaction_formed : (o a c x : List ℕ) (v : Value) → is_identifier o ≡ true → is_identifier a ≡ true → is_identifier c ≡ true → is_identifier x ≡ true → is_constant v ≡ true
     → IsFormedTerm (Com (index_at 0) o (role a) (Const v) (role c) x)
 interaction_formed o a c x v op sender receiver variable constant = record {
-  punctuators = refl;
+  indices = refl;
   parts = λ j. op j && sender j && (constant j && true) && receiver j && variable j;
   depth = omega arith;
 }
 
-pub bundle_formed : (found : List Lexeme) (b : Bundle) → AllByRecursion CanBeWritten found → IsBundle found b → IsFormed b
+pub bundle_formed : (found : List Lexeme) (b : PlainBundle) → AllByRecursion CanBeWritten found → IsBundle found b → IsFormed b
 bundle_formed found b valid is =
     let opening = subst (AllByRecursion CanBeWritten) (is.begins ∙ ap (λ l. Reserved Aioc ∷ Symbol LeftBrace ∷ l) is.choreo.begins) valid in
     let read = constant_valid is.choreo.sent is.choreo.value is.choreo.received opening.1.1.1.1.1.1 is.choreo.sends in
@@ -46,7 +46,7 @@ bundle_formed found b valid is =
       last = ap is_formed_last is.last;
     }
 
-pub bundle_supported : (found : List Lexeme) (b : Bundle) → IsBundle found b → IsSupported b
+pub bundle_supported : (found : List Lexeme) (b : PlainBundle) → IsBundle found b → IsSupported b
 bundle_supported found b is = record {
   choreo = ap is_one_interaction is.choreo.is_com;
   cast = is.cast;
@@ -55,5 +55,5 @@ bundle_supported found b is = record {
   script = is.script;
 }
 
-pub read_formed : (bytes : List ℕ) (found : List Lexeme) (b : Bundle) → HasLexemes bytes found → IsBundle found b → IsFormed b
+pub read_formed : (bytes : List ℕ) (found : List Lexeme) (b : PlainBundle) → HasLexemes bytes found → IsBundle found b → IsFormed b
 read_formed bytes found b lexemes is = bundle_formed found b (all_valid bytes found lexemes) is

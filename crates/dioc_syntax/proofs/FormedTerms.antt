@@ -145,4 +145,4 @@ pub read_formed : (bytes : List ℕ) (found : List Lexeme) (at version room : �
     → IsFormedTerm whole × FitsVersion version whole
 read_formed bytes found at version room whole to has is =
     let all = valid_from at found (all_valid bytes found has) in
-    (record { punctuators = stands_marked is.stands; parts = (stands_valid is.stands all).0; depth = is.shallow }, stands_fits is.stands)
+    (record { indices = stands_marked is.stands; parts = (stands_valid is.stands all).0; depth = is.shallow }, stands_fits is.stands)

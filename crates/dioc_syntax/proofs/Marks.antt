@@ -1,4 +1,4 @@
--- What stands in a text has the punctuators that the text gives it.
+-- What stands in a text has the indices that the text gives it.
 use Rattle.std.proofs.Common.{◌≡◌, ℕ, List, refl}
 use Rattle.dioc_terms.specs.Terms.{Term, Seq, Par, If, While, Scope, index_at, indexed_from}
 use Rattle.aioc_tokens.specs.Lexemes.{Lexeme}

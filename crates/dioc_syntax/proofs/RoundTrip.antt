@@ -47,7 +47,7 @@ both_true : (a b : Bool) → a && b ≡ true → (a ≡ true) × (b ≡ true)
 both_true true b is = (refl, is)
 both_true false b is = absurd cc
 
--- punctuators don't change how many constructs there are
+-- indices don't change how many constructs there are
 constructs_marked : (n : ℕ) (whole : Term) → constructs (indexed_from n whole) ≡ constructs whole
 constructs_marked n Skip = refl
 constructs_marked n (Com index operation sender value receiver variable) = refl
@@ -305,7 +305,7 @@ pub written_reads : (version : ℕ) (whole : Term) (room : ℕ) (others : List L
 written_reads version whole room others formed fits roomy closed_is =
     let shallow = formed.depth in
     let calm = closes_quiet (sort_of others) closed_is in
-    let r = subst (λ term. Stands version Choreography room 0 (written whole others) term others) (sym formed.punctuators) (written_stands version whole room 0 others formed.parts fits (omega arith) calm.0).full in
+    let r = subst (λ term. Stands version Choreography room 0 (written whole others) term others) (sym formed.indices) (written_stands version whole room 0 others formed.parts fits (omega arith) calm.0).full in
     record {
       reads = record { stands = r; shallow = shallow };
       longest = λ other end is. longest_go calm.1 (compare r room 0 (written whole others) end other refl refl refl is.stands);

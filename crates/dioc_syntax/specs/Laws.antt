@@ -17,7 +17,7 @@ abbrev pub OneChoreography : Type 0
 OneChoreography = (version room : ℕ) (from to end : List Lexeme) (whole other : Term) → Longest (IsChoreography version room from) whole to → Longest (IsChoreography version room from) other end →
     (whole ≡ other) × (to ≡ end)
 
--- a choreography has the punctuators that its text gives it
+-- a choreography has the indices that its text gives it
 abbrev pub ReadIsMarked : Type 0
 ReadIsMarked = (version room : ℕ) (from to : List Lexeme) (whole : Term) → IsChoreography version room from whole to → whole ≡ indexed whole
 

@@ -4,29 +4,28 @@ ghost use Rattle.std.specs.Prelude.{◌≡◌, ◌≢◌, ◌+◌, ◌-◌, ◌<
 ghost use Rattle.aioc_tokens.specs.Lexemes.{Begins};
 ghost use Rattle.expr_syntax.specs.Constants.{constant};
 ghost use Rattle.dioc_terms.specs.Bundles.{IsFormed};
+ghost use Rattle.dioc_terms.specs.Plain.{PlainBundle, plain};
 ghost use Rattle.dioc_terms.specs.Supported.{IsSupported};
-ghost use Rattle.dioc_terms.specs.declared.bundles.Bundle.{Bundle};
 ghost use Rattle.dioc_syntax.specs.Grammar.{IsBundle, Spells, SpellsNone};
 
 use crate::names::{name_at, role_at};
 use aioc_tokens::{Lexed, Punctuator, Sort, TokenFault, Word, place, tokens};
-use dioc_terms::{Bundle, Choreo, Expr, Index, Items, Memory, SyntaxFault, Trace, Value, roles};
+use dioc_terms::{
+    Bundle, Choreo, Expr, Index, Items, MOST_BYTES, Memory, SyntaxFault, Trace, Value, roles,
+};
 use expr_syntax::constant_at;
 use std::alloc::Global;
-
-/// The most bytes of a text that spells a bundle.
-pub const LONGEST: usize = 4_194_304;
 
 /// The bundle that the bytes spell. `Syntax` comes exactly where they spell none; its number is a byte near which the
 /// grammar wanted something else.
 pub fn read_bundle(alloc: Global, bytes: &[u8]) -> Result<Bundle, SyntaxFault>
-    ensures found { IfOk result (λ b. Spells bytes.now b) }
+    ensures found { IfOk result (λ b. Spells bytes.now (plain b)) }
     ensures syntax { IfErr result (λ fault. fault ≢ SyntaxFault.Memory → SpellsNone bytes.now) }
-    ensures formed { IfOk result IsFormed }
-    ensures supported { IfOk result IsSupported }
+    ensures formed { IfOk result (λ b. IsFormed (plain b)) }
+    ensures supported { IfOk result (λ b. IsSupported (plain b)) }
 {
-    if bytes.len() > LONGEST {
-        return Err(SyntaxFault::Syntax(LONGEST));
+    if bytes.len() > MOST_BYTES {
+        return Err(SyntaxFault::Syntax(MOST_BYTES));
     }
     let tokens = match tokens(alloc, bytes) {
         Ok(tokens) => tokens,
@@ -79,8 +78,8 @@ const TAIL: [Sort; 7] = [
 ];
 
 fn bundle_at(alloc: Global, text: &Lexed<'_>) -> Result<Bundle, Stop>
-    ensures found { IfOk result (λ b. IsBundle text.now b) }
-    ensures stopped { IfErr result (λ stop. stop ≢ Stop.Memory → (b : Bundle) → IsBundle text.now b → ⊥) }
+    ensures found { IfOk result (λ b. IsBundle text.now (plain b)) }
+    ensures stopped { IfErr result (λ stop. stop ≢ Stop.Memory → (b : PlainBundle) → IsBundle text.now b → ⊥) }
 {
     if !text.begins(0, &HEAD) {
         return Err(Stop::Near(0));
@@ -102,7 +101,7 @@ fn interaction(alloc: Global, text: &Lexed<'_>, value: Value, at: usize) -> Resu
     requires tail { Begins TAIL (drop at text.now) }
     requires end { length text.now - at ≡ 7 }
     requires small { at + 7 < 2 ^ 63 }
-    ensures found { IfOk result (λ b. IsBundle text.now b) }
+    ensures found { IfOk result (λ b. IsBundle text.now (plain b)) }
     ensures memory { IfErr result (λ stop. stop ≡ Stop.Memory) }
 {
     let choreo = Choreo::Com {

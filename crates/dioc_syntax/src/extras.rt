@@ -13,7 +13,10 @@ use std::alloc::Global;
 const ANOTHER: [Sort; 2] = [Sort::Symbol(Punctuator::Comma), Sort::Name];
 
 /// `prop {`
-const PROPERTIES: [Sort; 2] = [Sort::Reserved(Word::Prop), Sort::Symbol(Punctuator::LeftBrace)];
+const PROPERTIES: [Sort; 2] = [
+    Sort::Reserved(Word::Prop),
+    Sort::Symbol(Punctuator::LeftBrace),
+];
 
 /// `N . k =`
 const PAIR: [Sort; 4] = [

@@ -18,7 +18,7 @@ pub fn one_choreography()
     ensures { OneChoreography }
 {}
 
-/// A law: a choreography that stands in a text has the punctuators that the text gives it. It does nothing.
+/// A law: a choreography that stands in a text has the indices that the text gives it. It does nothing.
 pub fn read_is_marked()
     ensures { ReadIsMarked }
 {}

@@ -15,7 +15,7 @@ mod readers;
 mod steps;
 mod writer;
 
-pub use bundle::{LONGEST, read_bundle};
+pub use bundle::read_bundle;
 pub use choreographies::{CHOREO_DEPTH_LIMIT, read_choreo};
 pub use found::FoundChoreo;
 pub use laws::{

@@ -141,7 +141,9 @@ fn step_at(
     }
     match text.sort(at) {
         Sort::Name => named_step_at(alloc, text, room, at, earlier),
-        Sort::Symbol(Punctuator::LeftParen) => group_at(alloc, text, version, room, deep, at, earlier),
+        Sort::Symbol(Punctuator::LeftParen) => group_at(
+            alloc, text, version, room, deep, at, earlier,
+        ),
         Sort::Reserved(Word::Skip) => Ok(Some(nothing(at + 1, earlier))),
         Sort::Reserved(Word::If) => branch_at(alloc, text, version, room, deep, at, earlier),
         Sort::Reserved(Word::While) => loop_at(alloc, text, version, room, deep, at, earlier),

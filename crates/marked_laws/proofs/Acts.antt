@@ -11,7 +11,7 @@ use Rattle.dioc_terms.specs.Attempts.{Attempt, Does, when}
 use Rattle.dioc_terms.specs.Processes.{Process, Skip, Send, Recv, Assign, Read, Seq, Par, IfLead, IfFollow, WhileLead, WhileFollow, ScopeLead, ScopeFollow, Tell, Gather, Nothing, More, Val}
 use Rattle.dioc_terms.specs.Stores.{Store, next_input}
 use Rattle.dioc_terms.specs.Values.{eval, is_true}
-use Rattle.dpoc_process.specs.Steps.{Deed, Puts, Sets, Inputs, Picks, Given, ended, key, telling, gathering, take_value, take_flag, take_any, take_begin, choose_scope, if_leads, while_leads, while_follows, offers, is_offered, step}
+use Rattle.process_steps.specs.Steps.{Deed, Puts, Sets, Inputs, Picks, Given, ended, key, telling, gathering, take_value, take_flag, take_any, take_begin, choose_scope, if_leads, while_leads, while_follows, offers, is_offered, step}
 use Rattle.marked_laws.proofs.FoundParts.{seq_does, par_does}
 use Rattle.marked_laws.proofs.Moves.{stuck_does, when_does}
 use Rattle.marked_laws.proofs.Norm.{norm_of_ended, offers_alike}

@@ -19,7 +19,7 @@ use Rattle.dioc_terms.specs.Stores.{Store}
 use Rattle.dioc_terms.specs.Terms as term
 use Rattle.dioc_terms.specs.Terms.{Term, is_in}
 use Rattle.projection.specs.Projection.{projected}
-use Rattle.dpoc_process.specs.Steps.{Deed, Got, Decision, Keeps, Replaces, ended, after, key, tell, gather, gathering, take_value, take_flag, take_any, take_begin, begin_scope, while_follows, offers, is_offered, step}
+use Rattle.process_steps.specs.Steps.{Deed, Got, Decision, Keeps, Replaces, ended, after, key, tell, gather, gathering, take_value, take_flag, take_any, take_begin, begin_scope, while_follows, offers, is_offered, step}
 use Rattle.marked_laws.proofs.Acts.{step_offered, step_unended, ended_offers}
 use Rattle.marked_laws.proofs.Constructs.{Kind, Branch, Turning, Stopping, Scoped, Releasing, leader, whole, telling_key, told, Begins, before}
 use Rattle.marked_laws.proofs.Equality.{act_itself}

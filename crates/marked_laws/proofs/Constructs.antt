@@ -14,7 +14,7 @@ use Rattle.dioc_terms.specs.Processes.{Process, Load, Flag, Keep, Part, Done}
 use Rattle.dioc_terms.specs.Terms as term
 use Rattle.dioc_terms.specs.Terms.{Term, is_in, others}
 use Rattle.projection.specs.Projection.{projected}
-use Rattle.dpoc_process.specs.Steps.{key, tell, gather, send_one}
+use Rattle.process_steps.specs.Steps.{key, tell, gather, send_one}
 use Rattle.global_steps.specs.Running as running
 use Rattle.global_steps.specs.Running.{Running}
 

@@ -12,7 +12,7 @@ use Rattle.dioc_terms.specs.Terms.{Term, is_in, others}
 use Rattle.dioc_terms.specs.Processes as process
 use Rattle.dioc_terms.specs.Processes.{Process, Load, Val}
 use Rattle.projection.specs.Projection.{projected}
-use Rattle.dpoc_process.specs.Steps.{ended}
+use Rattle.process_steps.specs.Steps.{ended}
 use Rattle.global_steps.specs.Running as running
 use Rattle.global_steps.specs.Running.{Running, started}
 use Rattle.marked_laws.proofs.Constructs.{Phase, Phases, Kind, Branch, Turning, Stopping, Scoped, Releasing, Waits, Told, Inside, Sent, Gone, waits, is_late, leader, whole, body, whole_not_skip, letter, peer, opened, leads, inside, outside, follows}

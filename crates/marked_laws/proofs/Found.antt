@@ -17,7 +17,7 @@ use Rattle.dioc_terms.specs.Processes.{Process, Load, Val}
 use Rattle.dioc_terms.specs.Stores.{Store}
 use Rattle.dioc_terms.specs.Terms as term
 use Rattle.dioc_terms.specs.Terms.{distinct_roles}
-use Rattle.dpoc_process.specs.Steps.{Deed, Takes, Given, Got, Decision, ended, key, take_value, step}
+use Rattle.process_steps.specs.Steps.{Deed, Takes, Given, Got, Decision, ended, key, take_value, step}
 use Rattle.global_steps.specs.Follow.{BookChoice}
 use Rattle.marked_laws.specs.Network.{decision}
 use Rattle.marked_laws.proofs.Agreeing.{agrees_first, agrees_next, agrees_second, agrees_both, agrees_inside}

@@ -19,7 +19,7 @@ use Rattle.dioc_terms.specs.Stores.{Store}
 use Rattle.dioc_terms.specs.Terms as term
 use Rattle.dioc_terms.specs.Terms.{Term, is_in, others, distinct_roles}
 use Rattle.projection.specs.Projection.{projected}
-use Rattle.dpoc_process.specs.Steps.{Deed, Puts, Takes, Given, Got, Decision, ended, after, key, tell, gather, send_one, take_flag, take_begin, take_any, while_follows, scope_follows, step}
+use Rattle.process_steps.specs.Steps.{Deed, Puts, Takes, Given, Got, Decision, ended, after, key, tell, gather, send_one, take_flag, take_begin, take_any, while_follows, scope_follows, step}
 use Rattle.global_steps.specs.Follow.{BookChoice, updated}
 use Rattle.marked_laws.proofs.Tells.{tell_ended, gather_ended}
 use Rattle.marked_laws.proofs.Shapes.{none_some, some_same}

@@ -11,7 +11,7 @@ use Rattle.dioc_terms.specs.Equality.{act_eq}
 use Rattle.dioc_terms.specs.Attempts.{Attempt, Does, under, when}
 use Rattle.dioc_terms.specs.Processes.{Process, Seq, Par, Load}
 use Rattle.dioc_terms.specs.Stores.{Store}
-use Rattle.dpoc_process.specs.Steps.{Deed, Puts, Takes, Given, Alone, Got, FromBook, Decision, ended, after, key, letters_to, tell, gather, telling, gathering, take_any, offers, is_offered, step}
+use Rattle.process_steps.specs.Steps.{Deed, Puts, Takes, Given, Alone, Got, FromBook, Decision, ended, after, key, letters_to, tell, gather, telling, gathering, take_any, offers, is_offered, step}
 use Rattle.marked_laws.proofs.Equality.{act_same}
 use Rattle.marked_laws.proofs.MarkSteps.{given_by}
 use Rattle.marked_laws.proofs.Moves.{does_same, stuck_does, when_does, under_does}

@@ -7,7 +7,7 @@ use Rattle.dioc_terms.specs.Terms.{Term, Skip, Com, Set, Input, Seq, Par, If, Wh
 use Rattle.dioc_terms.specs.Processes as process
 use Rattle.dioc_terms.specs.Processes.{Process}
 use Rattle.projection.specs.Projection.{projected}
-use Rattle.dpoc_process.specs.Steps.{ended}
+use Rattle.process_steps.specs.Steps.{ended}
 use Rattle.global_steps.specs.Follow.{updated}
 use Rattle.marked_laws.proofs.Constructs.{Phase, Phases, Kind, Branch, Turning, Stopping, Scoped, Releasing, Waits, Told, Inside, Sent, Gone, waits, gone, is_early, is_late, leader, whole, before, followers, untold, ungone}
 use Rattle.marked_laws.proofs.Equality.{role_itself}

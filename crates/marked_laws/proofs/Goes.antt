@@ -19,7 +19,7 @@ use Rattle.dioc_terms.specs.Stores.{Store}
 use Rattle.dioc_terms.specs.Terms as term
 use Rattle.dioc_terms.specs.Terms.{Term, is_in, others, head_of}
 use Rattle.projection.specs.Projection.{projected}
-use Rattle.dpoc_process.specs.Steps.{Deed, Decision, ended, key, tell, gather, send_one, offers, is_offered, step}
+use Rattle.process_steps.specs.Steps.{Deed, Decision, ended, key, tell, gather, send_one, offers, is_offered, step}
 use Rattle.marked_laws.proofs.Tells.{tell_done, gather_done}
 use Rattle.marked_laws.proofs.Acts.{step_offered, step_unended}
 use Rattle.marked_laws.proofs.Agreeing.{agrees_first, agrees_second, agrees_both, agrees_inside, own_given}

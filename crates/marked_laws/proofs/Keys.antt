@@ -16,7 +16,7 @@ use Rattle.dioc_terms.specs.Processes.{Process, Load, Done}
 use Rattle.dioc_terms.specs.Terms as term
 use Rattle.dioc_terms.specs.Terms.{Term, is_in, others, head_of, distinct_roles}
 use Rattle.projection.specs.Projection.{projected}
-use Rattle.dpoc_process.specs.Steps.{ended, key, tell, gather, send_one, offers, is_offered}
+use Rattle.process_steps.specs.Steps.{ended, key, tell, gather, send_one, offers, is_offered}
 use Rattle.marked_laws.specs.Laws.{key_among, distinct_keys, taken_keys}
 use Rattle.marked_laws.specs.Offers.{distinct_acts}
 use Rattle.marked_laws.proofs.Constructs.{Phase, Phases, Kind, Branch, Turning, Stopping, Scoped, Releasing, Waits, Told, Inside, Sent, Gone, leader, whole, leads, before, inside, outside, follows, untold, ungone}

@@ -9,7 +9,7 @@ use Rattle.dioc_terms.specs.declared.processes.ScopeHead.{ScopeHead}
 use Rattle.dioc_terms.specs.Equality.{role_eq, key_eq}
 use Rattle.dioc_terms.specs.Processes.{Load, Val, Done}
 use Rattle.dioc_terms.specs.Stores.{Store}
-use Rattle.dpoc_process.specs.Steps.{Deed, Puts, Takes, Sets, Inputs, Picks, Chooses, key}
+use Rattle.process_steps.specs.Steps.{Deed, Puts, Takes, Sets, Inputs, Picks, Chooses, key}
 use Rattle.global_steps.specs.Follow.{BookChoice, updated}
 use Rattle.marked_laws.proofs.Shapes.{none_some, some_same}
 use Rattle.marked_laws.proofs.Constructs.{Phase, Phases, Kind, Turning, Scoped, Releasing, Waits, Told, Inside, Sent, Gone, waits, all_wait, leader, index, told, whole, telling_key, backing_key, Backs, turn_backs, end_backs, letter, peer, opened, own_mail}

@@ -14,7 +14,7 @@ use Rattle.dioc_terms.specs.Processes.{Process, Load, Val}
 use Rattle.dioc_terms.specs.Terms as term
 use Rattle.dioc_terms.specs.Terms.{Term, is_in}
 use Rattle.projection.specs.Projection.{projected}
-use Rattle.dpoc_process.specs.Steps.{key, ended}
+use Rattle.process_steps.specs.Steps.{key, ended}
 use Rattle.global_steps.specs.Running as running
 use Rattle.global_steps.specs.Running.{Running, started, light}
 use Rattle.marked_laws.proofs.Constructs.{Phase, Phases, Kind, Releasing, waits, is_early, is_late, leader, index, whole, body, runs, own_mail, leads, follows, untold, ungone, Begins}

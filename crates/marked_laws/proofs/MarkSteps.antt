@@ -17,7 +17,7 @@ use Rattle.dioc_terms.specs.Stores.{Store, next_input}
 use Rattle.dioc_terms.specs.Terms.{Term, Skip, Com, Set, Input, Seq, Par, If, While, Scope, is_in, others, head_of, stamped}
 use Rattle.dioc_terms.specs.Values.{eval, is_true}
 use Rattle.projection.specs.Projection.{projected}
-use Rattle.dpoc_process.specs.Steps.{Deed, Puts, Takes, Sets, Inputs, Picks, Chooses, Given, Alone, Got, FromBook, Decision, key, ended}
+use Rattle.process_steps.specs.Steps.{Deed, Puts, Takes, Sets, Inputs, Picks, Chooses, Given, Alone, Got, FromBook, Decision, key, ended}
 use Rattle.global_steps.specs.Follow.{BookChoice, KeepsBody, TakesRule, updated}
 use Rattle.marked_laws.proofs.Constructs.{Phases, Kind, Branch, Turning, Stopping, Scoped, Releasing, Told, Inside, Sent, Gone, all_wait, told, telling_key, backing_key, Backs, Busy, untold, ungone}
 use Rattle.marked_laws.proofs.Mark.{Mark, Still, Flying, Over, First, Second, Both, Held, Spent, run, mail, At, place, Closed}

@@ -12,7 +12,7 @@ use Rattle.dioc_terms.specs.Messages.{doer, act_of}
 use Rattle.dioc_terms.specs.Attempts.{Attempt, Stuck, Does}
 use Rattle.dioc_terms.specs.Processes.{Process}
 use Rattle.dioc_terms.specs.Rules.{apply}
-use Rattle.dpoc_process.specs.Steps.{Deed, entry_of, store_after, step}
+use Rattle.process_steps.specs.Steps.{Deed, entry_of, store_after, step}
 use Rattle.global_steps.specs.Follow.{book_choice, change_entry, updates_after, updated}
 use Rattle.marked_laws.specs.Network.{Network, NextNetwork, decision, given_at, pending_at, pending_after, visible_after, act_step, change_step, network_after, network_step}
 use Rattle.marked_laws.proofs.Shapes.{none_some, some_same, if_some}

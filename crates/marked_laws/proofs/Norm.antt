@@ -6,7 +6,7 @@ use Rattle.dioc_terms.specs.declared.entries.Act.{Act}
 use Rattle.dioc_terms.specs.Attempts.{Attempt, Does, under}
 use Rattle.dioc_terms.specs.Processes.{Process, Skip, Seq, Par, Tell, Gather, Nothing}
 use Rattle.dioc_terms.specs.Stores.{Store}
-use Rattle.dpoc_process.specs.Steps.{Deed, Given, ended, after, offers, is_offered, step}
+use Rattle.process_steps.specs.Steps.{Deed, Given, ended, after, offers, is_offered, step}
 use Rattle.marked_laws.proofs.Moves.{under_does, under_twice, under_same}
 
 abbrev pub seq_norm : Process → Process → Process

@@ -15,7 +15,7 @@ use Rattle.dioc_terms.specs.Processes.{Process, Load, Flag, Done}
 use Rattle.dioc_terms.specs.Stores.{Store}
 use Rattle.dioc_terms.specs.Terms as term
 use Rattle.dioc_terms.specs.Terms.{Term, is_in, others}
-use Rattle.dpoc_process.specs.Steps.{Deed, tell, gather, ended}
+use Rattle.process_steps.specs.Steps.{Deed, tell, gather, ended}
 use Rattle.global_steps.specs.Running.{started}
 use Rattle.global_steps.specs.Follow.{BookChoice, updated}
 use Rattle.marked_laws.proofs.Constructs.{Phase, Phases, Kind, Branch, Turning, Stopping, Scoped, Releasing, Waits, Told, Inside, Sent, Gone, waits, gone, is_early, leader, whole, Backs, turn_backs, end_backs, leads, inside, follows, untold, ungone}

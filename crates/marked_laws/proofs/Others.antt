@@ -12,7 +12,7 @@ use Rattle.dioc_terms.specs.Terms as term
 use Rattle.dioc_terms.specs.Terms.{Term, is_in, others, stamped}
 use Rattle.dioc_terms.specs.Values.{eval, is_true}
 use Rattle.projection.specs.Projection.{projected}
-use Rattle.dpoc_process.specs.Steps.{Deed, tell, gather}
+use Rattle.process_steps.specs.Steps.{Deed, tell, gather}
 use Rattle.global_steps.specs.Follow.{BookChoice, updated}
 use Rattle.marked_laws.proofs.Constructs.{Phase, Phases, Kind, Branch, Turning, Stopping, Scoped, Releasing, Waits, Told, Inside, Sent, Gone, waits, gone, all_wait, leader, whole, leads, before, outside, follows, untold, ungone}
 use Rattle.marked_laws.proofs.Ends.{place_follower}

@@ -4,7 +4,7 @@ use Rattle.std.proofs.lemmas.Bool.{cases_Bool, cond-true, cond-false, both_ways,
 use Rattle.dioc_terms.specs.declared.processes.Key.{Key}
 use Rattle.dioc_terms.specs.Equality.{key_eq}
 use Rattle.dioc_terms.specs.Processes.{Load}
-use Rattle.dpoc_process.specs.Steps.{Deed, Puts, Takes, Sets, Inputs, Picks, Chooses}
+use Rattle.process_steps.specs.Steps.{Deed, Puts, Takes, Sets, Inputs, Picks, Chooses}
 use Rattle.marked_laws.specs.Laws.{key_among, distinct_keys}
 use Rattle.marked_laws.specs.Network.{pending_at, without, pending_after}
 use Rattle.marked_laws.proofs.Shapes.{some_nil}

@@ -18,7 +18,7 @@ use Rattle.dioc_terms.specs.Stores.{Store, next_input}
 use Rattle.dioc_terms.specs.Terms as term
 use Rattle.dioc_terms.specs.Terms.{Term, is_in, head_of, stamped, index_at}
 use Rattle.dioc_terms.specs.Values.{eval, is_true}
-use Rattle.dpoc_process.specs.Steps.{Deed, Puts, Takes, Sets, Inputs, Picks, Chooses, entry_of, store_after}
+use Rattle.process_steps.specs.Steps.{Deed, Puts, Takes, Sets, Inputs, Picks, Chooses, entry_of, store_after}
 use Rattle.global_steps.specs.Running as running
 use Rattle.global_steps.specs.Running.{Running, started, light, is_due}
 use Rattle.global_steps.specs.Follow.{BookChoice, KeepsBody, TakesRule, Effect, Leaves, Assigns, Reads, affected, operation, is_doer_due, while_plays, scope_plays, plays}

@@ -26,7 +26,7 @@ use Rattle.dioc_terms.specs.Stores.{Store, fresh_store}
 use Rattle.dioc_terms.specs.Terms.{Term, Skip, Com, Set, Seq, Par, If, Scope, mentions, self_messages, indexed, stamped}
 use Rattle.connectedness.specs.Connected.{connected}
 use Rattle.projection.specs.Projection.{projected}
-use Rattle.dpoc_process.specs.Steps.{Deed, Given, Alone, FromBook, key, ended, offers, is_offered, step}
+use Rattle.process_steps.specs.Steps.{Deed, Given, Alone, FromBook, key, ended, offers, is_offered, step}
 use Rattle.global_steps.specs.Running as running
 use Rattle.global_steps.specs.Running.{Running, started, is_due}
 use Rattle.global_steps.specs.Follow.{BookChoice, TakesRule, Effect, plays, play}

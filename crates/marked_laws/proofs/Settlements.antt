@@ -6,7 +6,7 @@ use Rattle.dioc_terms.specs.declared.entries.Entry.TheVariants as entry
 use Rattle.dioc_terms.specs.Plain.{Setting}
 use Rattle.dioc_terms.specs.Messages.{is_aux, doer, visible}
 use Rattle.dioc_terms.specs.Terms.{distinct_roles}
-use Rattle.dpoc_process.specs.Steps.{Deed, Puts, Takes, Sets, Inputs, Picks, Chooses, entry_of}
+use Rattle.process_steps.specs.Steps.{Deed, Puts, Takes, Sets, Inputs, Picks, Chooses, entry_of}
 use Rattle.global_steps.specs.Follow.{State, book_choice, follow}
 use Rattle.global_steps.specs.Settled.{SettledAt, Settled, SettledFrom, nobody}
 use Rattle.marked_laws.specs.Network.{Network, network_step, run_from}

@@ -17,7 +17,7 @@ use Rattle.dioc_terms.specs.Processes.{Load, Done}
 use Rattle.dioc_terms.specs.Stores.{Store}
 use Rattle.dioc_terms.specs.Terms as term
 use Rattle.dioc_terms.specs.Terms.{Term, is_in, others}
-use Rattle.dpoc_process.specs.Steps.{Deed, ended, entry_of}
+use Rattle.process_steps.specs.Steps.{Deed, ended, entry_of}
 use Rattle.global_steps.specs.Running as running
 use Rattle.global_steps.specs.Running.{Running, started, is_due}
 use Rattle.global_steps.specs.Follow.{BookChoice, Effect, plays}

@@ -18,7 +18,7 @@ use Rattle.dioc_terms.specs.Attempts.{Attempt, Stuck, Does}
 use Rattle.dioc_terms.specs.Processes.{Process, Load}
 use Rattle.dioc_terms.specs.Rules.{apply}
 use Rattle.dioc_terms.specs.Terms.{distinct_roles}
-use Rattle.dpoc_process.specs.Steps.{Deed, Puts, Takes, Sets, Inputs, Picks, Chooses, Decision, entry_of, store_after, step}
+use Rattle.process_steps.specs.Steps.{Deed, Puts, Takes, Sets, Inputs, Picks, Chooses, Decision, entry_of, store_after, step}
 use Rattle.global_steps.specs.Running.{Running}
 use Rattle.global_steps.specs.Follow.{BookChoice, Effect, State, affected, book_choice, change_entry, shows, updates_after, updated, plays, follow, follow_change, play_from}
 use Rattle.marked_laws.specs.Network.{Network, decision, pending_at, visible_after, network_step, run_from}

@@ -13,7 +13,7 @@ use Rattle.dioc_terms.specs.Terms as term
 use Rattle.dioc_terms.specs.Terms.{Term, is_in, others, head_of, stamped}
 use Rattle.dioc_terms.specs.Values.{eval, is_true}
 use Rattle.projection.specs.Projection.{projected}
-use Rattle.dpoc_process.specs.Steps.{Deed, ended}
+use Rattle.process_steps.specs.Steps.{Deed, ended}
 use Rattle.global_steps.specs.Follow.{BookChoice, TakesRule, updated}
 use Rattle.marked_laws.proofs.Constructs.{Phase, Phases, Kind, Branch, Turning, Stopping, Scoped, Releasing, Waits, Told, Inside, Sent, Gone, waits, is_early, is_late, all_wait, leader, index, whole, body, Begins, Busy}
 use Rattle.marked_laws.proofs.Ends.{all_over}

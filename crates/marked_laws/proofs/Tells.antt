@@ -4,7 +4,7 @@ use Rattle.dioc_terms.specs.declared.names.Role.{Role}
 use Rattle.dioc_terms.specs.declared.names.Index.{Index}
 use Rattle.dioc_terms.specs.declared.processes.Tag.{Tag}
 use Rattle.dioc_terms.specs.Processes.{Load}
-use Rattle.dpoc_process.specs.Steps.{ended, tell, gather}
+use Rattle.process_steps.specs.Steps.{ended, tell, gather}
 
 pub tell_ended : (from : Role) (qs : List Role) (i : Index) (t : Tag) (carries : Role → Load) → ended (tell from qs i t carries) ≡ true → qs ≡ []
 tell_ended from [] i t carries h = refl

@@ -13,7 +13,7 @@ use Rattle.dioc_terms.specs.Messages.{visible}
 use Rattle.dioc_terms.specs.Plain.{PlainRule, PlainBundle, setting}
 use Rattle.dioc_terms.specs.Terms.{Term, mentions, self_messages}
 use Rattle.connectedness.specs.Connected.{connected}
-use Rattle.dpoc_process.specs.Steps.{ended, offers, is_offered}
+use Rattle.process_steps.specs.Steps.{ended, offers, is_offered}
 use Rattle.global_steps.specs.Running as running
 use Rattle.global_steps.specs.Follow.{State, play}
 use Rattle.global_steps.specs.Settled.{IsSettled}

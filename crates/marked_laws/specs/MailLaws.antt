@@ -4,7 +4,7 @@ use Rattle.std.specs.Prelude.{◌≡◌, ℕ, List, map, true, Option, Some, Non
 use Rattle.dioc_terms.specs.declared.processes.Key.{Key}
 use Rattle.dioc_terms.specs.Equality.{key_eq}
 use Rattle.dioc_terms.specs.Processes.{Load}
-use Rattle.dpoc_process.specs.Steps.{Puts, Takes}
+use Rattle.process_steps.specs.Steps.{Puts, Takes}
 use Rattle.marked_laws.specs.Laws.{distinct_keys}
 use Rattle.marked_laws.specs.Network.{pending_at, pending_after, no_message}
 

@@ -17,7 +17,7 @@ use Rattle.dioc_terms.specs.Rules.{Book, apply, opening_book}
 use Rattle.dioc_terms.specs.Stores.{Store}
 use Rattle.dioc_terms.specs.Terms.{stamped}
 use Rattle.projection.specs.Projection.{projected}
-use Rattle.dpoc_process.specs.Steps.{Deed, Puts, Takes, Given, Alone, Got, FromBook, Decision, Keeps, Replaces, entry_of, store_after, step, ended}
+use Rattle.process_steps.specs.Steps.{Deed, Puts, Takes, Given, Alone, Got, FromBook, Decision, Keeps, Replaces, entry_of, store_after, step, ended}
 use Rattle.global_steps.specs.Follow.{BookChoice, KeepsBody, TakesRule, book_choice, opening_store, change_entry, updates_after, updated}
 
 pub record Network : Type 0 where

@@ -4,7 +4,7 @@ use Rattle.dioc_terms.specs.declared.names.Role.{Role}
 use Rattle.dioc_terms.specs.declared.entries.Act.{Act}
 use Rattle.dioc_terms.specs.declared.entries.Entry.{Entry}
 use Rattle.dioc_terms.specs.Plain.{PlainBundle}
-use Rattle.dpoc_process.specs.Steps.{offers, is_offered}
+use Rattle.process_steps.specs.Steps.{offers, is_offered}
 use Rattle.marked_laws.specs.Laws.{IsSound}
 use Rattle.marked_laws.specs.Network.{Network, network_run}
 

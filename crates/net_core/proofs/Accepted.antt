@@ -6,12 +6,12 @@ use Rattle.std.proofs.lemmas.List.Elements.{All-nil, All-cons}
 use Rattle.dioc_terms.specs.declared.names.Role.{Role}
 use Rattle.dioc_terms.specs.declared.names.Index.{Index}
 use Rattle.dioc_terms.specs.declared.values.Value.{Value}
-use Rattle.dioc_terms.specs.declared.bundles.Rule.{Rule}
-use Rattle.dioc_terms.specs.declared.bundles.Bundle.{Bundle}
 use Rattle.dioc_terms.specs.Equality.{member}
+use Rattle.dioc_terms.specs.Limits.{most_nodes, most_roles, most_rules, most_changes}
+use Rattle.dioc_terms.specs.Plain.{PlainRule, PlainBundle}
 use Rattle.dioc_terms.specs.Rules.{opening_book}
 use Rattle.dioc_terms.specs.TermLaws.{MentionsAreRoles, CastsAreRoles}
-use Rattle.dioc_terms.specs.Terms.{Term, term, mentions, self_messages, nodes}
+use Rattle.dioc_terms.specs.Terms.{Term, mentions, self_messages, nodes}
 use Rattle.connectedness.specs.Connected.{Gap, first_gap}
 use Rattle.connectedness.specs.Laws.{GapsAreFound, HasRoles}
 use Rattle.marked_laws.specs.Laws.{IsSoundTerm, IsSoundRule}
@@ -42,15 +42,15 @@ rule_tests cast n body =
     unlinked (place.Rule n) cast body ∷
     body_too_big n body ∷ []
 
-abbrev bundle_tests : Bundle → List (Option Refusal)
+abbrev bundle_tests : PlainBundle → List (Option Refusal)
 bundle_tests b =
-    too_many Nodes 5000 (nodes (term b.choreo)) ∷
-    too_many Roles 32 (length b.cast) ∷
-    too_many Rules 256 (most_alive b.rules (opening_book b.rules b.opening b.env) b.script) ∷
-    too_many Changes 1000 (length b.script) ∷
+    too_many Nodes most_nodes (nodes b.choreo) ∷
+    too_many Roles most_roles (length b.cast) ∷
+    too_many Rules most_rules (most_alive b.rules (opening_book b.rules b.opening b.env) b.script) ∷
+    too_many Changes most_changes (length b.script) ∷
     unknown_role place.Program b.cast (map (λ (given : Role × List Value). given.0) b.inputs) ∷
-    self_message place.Program (term b.choreo) ∷
-    unlinked place.Program b.cast (term b.choreo) ∷
+    self_message place.Program b.choreo ∷
+    unlinked place.Program b.cast b.choreo ∷
     rules_refusal b.cast 0 b.rules ∷ []
 
 -- what the three tests of a text refuse, by what they found
@@ -107,20 +107,20 @@ module _ (mentioned : MentionsAreRoles) (casts : CastsAreRoles) (gaps : GapsAreF
     no_self_message = none_to_self at I to_self;
   }
 
-  sound_rule : (cast : List Role) (n : ℕ) (rule : Rule) → rule_refusal cast n (term rule.body) ≡ None → IsSoundRule cast rule
+  sound_rule : (cast : List Role) (n : ℕ) (rule : PlainRule) → rule_refusal cast n rule.body ≡ None → IsSoundRule cast rule
   sound_rule cast n rule h =
-      let each = each_none (rule_tests cast n (term rule.body)) h in
-      let known = all_known (place.Rule n) cast (mentions (term rule.body)) each.0 in
+      let each = each_none (rule_tests cast n rule.body) h in
+      let known = all_known (place.Rule n) cast (mentions rule.body) each.0 in
       record {
-        body = sound_term (place.Rule n) cast (term rule.body)
-            (λ q is. all_member (λ r. member r cast) (mentions (term rule.body)) q known (sym (mentioned q (term rule.body)) ∙ is)) each.1.0 each.1.1.0;
+        body = sound_term (place.Rule n) cast rule.body
+            (λ q is. all_member (λ r. member r cast) (mentions rule.body) q known (sym (mentioned q rule.body) ∙ is)) each.1.0 each.1.1.0;
         in_cast = known;
       }
 
-  sound_rules : (cast : List Role) (n : ℕ) (rules : List Rule) → rules_refusal cast n rules ≡ None → All (IsSoundRule cast) rules
+  sound_rules : (cast : List Role) (n : ℕ) (rules : List PlainRule) → rules_refusal cast n rules ≡ None → All (IsSoundRule cast) rules
   sound_rules cast n [] h = All-nil (IsSoundRule cast)
   sound_rules cast n (rule ∷ rest) h =
-      let each = each_none (rule_refusal cast n (term rule.body) ∷ rules_refusal cast (suc n) rest ∷ []) h in
+      let each = each_none (rule_refusal cast n rule.body ∷ rules_refusal cast (suc n) rest ∷ []) h in
       All-cons (IsSoundRule cast) rule rest (sound_rule cast n rule each.0) (sound_rules cast (suc n) rest each.1.0)
 
   pub accepted_sound : AcceptedIsSound
@@ -129,7 +129,7 @@ module _ (mentioned : MentionsAreRoles) (casts : CastsAreRoles) (gaps : GapsAreF
       let texts = each.1.1.1.1.1 in
       record {
         formed = accepted.formed;
-        choreo = sound_term place.Program b.cast (term b.choreo)
-            (λ q is. subst (λ cast. member q cast ≡ true) (sym accepted.formed.cast) (casts.same q (term b.choreo) ∙ is)) texts.0 texts.1.0;
+        choreo = sound_term place.Program b.cast b.choreo
+            (λ q is. subst (λ cast. member q cast ≡ true) (sym accepted.formed.cast) (casts.same q b.choreo ∙ is)) texts.0 texts.1.0;
         rules = sound_rules b.cast 0 b.rules texts.1.1.0;
       }

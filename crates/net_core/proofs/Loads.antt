@@ -5,8 +5,8 @@ use Rattle.dioc_terms.specs.declared.processes.Key.{Key}
 use Rattle.dioc_terms.specs.declared.processes.Tag.TheVariants.{Op, Begin}
 use Rattle.dioc_terms.specs.Equality.{key_eq}
 use Rattle.dioc_terms.specs.Processes.{Load, Val}
-use Rattle.dpoc_process.specs.Laws.{load_fits}
-use Rattle.dpoc_process.specs.Steps.{key}
+use Rattle.process_steps.specs.Laws.{load_fits}
+use Rattle.process_steps.specs.Steps.{key}
 use Rattle.marked_laws.proofs.Constructs.{Phase, Told, Sent, Kind, Branch, Turning, Stopping, Scoped, Releasing, tag, told, letter, peer, opened, own_mail, Begins}
 use Rattle.marked_laws.proofs.Equality.{key_same}
 use Rattle.marked_laws.proofs.Mark.{Mark, Still, Flying, Over, First, Second, Both, Held, Spent, mail, first_of_two, Fine}

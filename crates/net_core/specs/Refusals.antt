@@ -3,13 +3,13 @@ use Rattle.std.specs.Prelude.{◌≡◌, ℕ, suc, max, List, [], ◌∷◌, len
 use Rattle.dioc_terms.specs.declared.names.Role.{Role}
 use Rattle.dioc_terms.specs.declared.names.Index.{Index}
 use Rattle.dioc_terms.specs.declared.values.Value.{Value}
-use Rattle.dioc_terms.specs.declared.bundles.Rule.{Rule}
 use Rattle.dioc_terms.specs.declared.bundles.Timed.{Timed}
-use Rattle.dioc_terms.specs.declared.bundles.Bundle.{Bundle}
 use Rattle.dioc_terms.specs.Bundles.{IsFormed}
 use Rattle.dioc_terms.specs.Equality.{member}
+use Rattle.dioc_terms.specs.Limits.{most_nodes, most_roles, most_rules, most_changes, most_body_nodes, most_body_depth}
+use Rattle.dioc_terms.specs.Plain.{PlainRule, PlainBundle}
 use Rattle.dioc_terms.specs.Rules.{Book, apply, opening_book}
-use Rattle.dioc_terms.specs.Terms.{Term, term, mentions, self_messages, nodes, depth}
+use Rattle.dioc_terms.specs.Terms.{Term, mentions, self_messages, nodes, depth}
 use Rattle.connectedness.specs.Connected.{Gap, first_gap}
 use Rattle.net_core.specs.declared.refusals.Refusal.{Refusal}
 use Rattle.net_core.specs.declared.refusals.Refusal.TheVariants.{TooMany, UnknownRole, SelfMessage, Unlinked, BodyTooBig}
@@ -28,7 +28,7 @@ abbrev pub too_many : Which → ℕ → ℕ → Option Refusal
 too_many which most count = if nat_lt most count then Some (TooMany which) else None
 
 -- the greatest number of rules in the book, at its start and after each change of the script
-abbrev pub most_alive : List Rule → Book → List Timed → ℕ
+abbrev pub most_alive : List PlainRule → Book → List Timed → ℕ
 most_alive rules book [] = length book.order
 most_alive rules book (timed ∷ rest) = max (length book.order) (most_alive rules (apply rules book timed.change) rest)
 
@@ -56,9 +56,9 @@ unlinked at cast I = refused (first_gap cast I)
     refused None = None
     refused (Some gap) = Some (Unlinked at gap.first gap.second gap.role)
 
--- more than 200 nodes, or deeper than 64
+-- more nodes than a body may have, or deeper than it may be
 abbrev pub body_too_big : ℕ → Term → Option Refusal
-body_too_big n I = if nat_lt 200 (nodes I) || nat_lt 64 (depth I) then Some (BodyTooBig n) else None
+body_too_big n I = if nat_lt most_body_nodes (nodes I) || nat_lt most_body_depth (depth I) then Some (BodyTooBig n) else None
 
 -- the first refusal of rule n
 abbrev pub rule_refusal : List Role → ℕ → Term → Option Refusal
@@ -69,23 +69,23 @@ rule_refusal cast n body = first_refusal (
     body_too_big n body ∷ [])
 
 -- the first refusal of the rules from number n on
-abbrev pub rules_refusal : List Role → ℕ → List Rule → Option Refusal
+abbrev pub rules_refusal : List Role → ℕ → List PlainRule → Option Refusal
 rules_refusal cast n [] = None
-rules_refusal cast n (rule ∷ rest) = first_refusal (rule_refusal cast n (term rule.body) ∷ rules_refusal cast (suc n) rest ∷ [])
+rules_refusal cast n (rule ∷ rest) = first_refusal (rule_refusal cast n rule.body ∷ rules_refusal cast (suc n) rest ∷ [])
 
 -- the first refusal of a bundle
-abbrev pub refusal : Bundle → Option Refusal
+abbrev pub refusal : PlainBundle → Option Refusal
 refusal b = first_refusal (
-    too_many Nodes 5000 (nodes (term b.choreo)) ∷
-    too_many Roles 32 (length b.cast) ∷
-    too_many Rules 256 (most_alive b.rules (opening_book b.rules b.opening b.env) b.script) ∷
-    too_many Changes 1000 (length b.script) ∷
+    too_many Nodes most_nodes (nodes b.choreo) ∷
+    too_many Roles most_roles (length b.cast) ∷
+    too_many Rules most_rules (most_alive b.rules (opening_book b.rules b.opening b.env) b.script) ∷
+    too_many Changes most_changes (length b.script) ∷
     unknown_role place.Program b.cast (map (λ (given : Role × List Value). given.0) b.inputs) ∷
-    self_message place.Program (term b.choreo) ∷
-    unlinked place.Program b.cast (term b.choreo) ∷
+    self_message place.Program b.choreo ∷
+    unlinked place.Program b.cast b.choreo ∷
     rules_refusal b.cast 0 b.rules ∷ [])
 
 -- a bundle that may run
-pub record IsAccepted (b : Bundle) : Type 0 where
+pub record IsAccepted (b : PlainBundle) : Type 0 where
   pub formed : IsFormed b
   pub no_refusal : refusal b ≡ None

@@ -6,9 +6,9 @@ use Rattle.dioc_terms.specs.declared.entries.Act.{Act}
 use Rattle.dioc_terms.specs.declared.entries.Act.TheVariants as act
 use Rattle.dioc_terms.specs.declared.entries.Entry.{Entry}
 use Rattle.dioc_terms.specs.declared.bundles.Timed.{Timed}
-use Rattle.dioc_terms.specs.declared.bundles.Bundle.{Bundle}
 use Rattle.dioc_terms.specs.Messages.{visible, doer}
-use Rattle.dpoc_process.specs.Steps.{offers}
+use Rattle.dioc_terms.specs.Plain.{PlainBundle, Setting, setting}
+use Rattle.process_steps.specs.Steps.{offers}
 use Rattle.marked_laws.specs.Network.{Network, NextNetwork, act_step, change_step, network_run, network_ended, pending_at}
 use Rattle.net_core.specs.declared.moves.Move.{Move}
 use Rattle.net_core.specs.declared.moves.Move.TheVariants as move
@@ -27,11 +27,11 @@ abbrev pub role_moves : Network → Role → List Move
 role_moves N q = map (move.Act q) (filter (is_ready N) (offers q (N.processes q)))
 
 -- the script's next change first, where it is due and the network has not ended, and then the acts, role by role in the cast's order
-abbrev pub moves : Bundle → Network → List Move
+abbrev pub moves : Setting → Network → List Move
 moves b N =
-    (if change_due b.script N.changes N.visible && not (network_ended b N) then move.Change ∷ [] else []) ++ flat_map (role_moves N) b.cast
+    (if change_due b.script N.changes N.visible && not (network_ended b.cast N) then move.Change ∷ [] else []) ++ flat_map (role_moves N) b.cast
 
-abbrev pub move_step : Bundle → Network → Move → Option NextNetwork
+abbrev pub move_step : Setting → Network → Move → Option NextNetwork
 move_step b N move.Change = change_step b N
 move_step b N (move.Act q a) = act_step b N q a
 
@@ -48,22 +48,22 @@ abbrev pub next_seed : Option ℕ → Option ℕ
 next_seed seed = option_map next_number seed
 
 -- what a schedule takes next
-abbrev pub scheduled : Bundle → Network → Option ℕ → Option NextNetwork
+abbrev pub scheduled : Setting → Network → Option ℕ → Option NextNetwork
 scheduled b N seed = option_and_then (move_step b N) (slice_get (moves b N) (move_place seed (length (moves b N))))
 
 -- the entries that a schedule takes from a network on: until it has ended, and at most so many
-abbrev pub continued : Bundle → Option ℕ → ℕ → Network → List Entry
+abbrev pub continued : Setting → Option ℕ → ℕ → Network → List Entry
 continued b seed zero N = []
 continued b seed (suc count) N =
-    if network_ended b N then [] else
+    if network_ended b.cast N then [] else
     option_map_or (λ (outcome : NextNetwork). outcome.entry ∷ continued b (next_seed seed) count outcome.network) (scheduled b N seed) []
 
 -- a history continued by the schedule, to at most limit entries
-abbrev pub sched_from : Bundle → List Entry → Option ℕ → ℕ → List Entry
-sched_from b H seed limit = H ++ option_map_or (continued b seed (limit - length H)) (network_run b H) []
+abbrev pub sched_from : PlainBundle → List Entry → Option ℕ → ℕ → List Entry
+sched_from b H seed limit = H ++ option_map_or (continued (setting b) seed (limit - length H)) (network_run b H) []
 
 -- the run that the schedule takes from the start
-abbrev pub sched : Bundle → Option ℕ → ℕ → List Entry
+abbrev pub sched : PlainBundle → Option ℕ → ℕ → List Entry
 sched b seed limit = sched_from b [] seed limit
 
 -- how many changes stand in a history
@@ -71,9 +71,9 @@ abbrev pub changes_in : List Entry → ℕ
 changes_in H = length (filter (λ e. is_none (doer e)) H)
 
 -- the script's next change is due after a history
-abbrev pub due_after : Bundle → List Entry → Bool
+abbrev pub due_after : PlainBundle → List Entry → Bool
 due_after b H = change_due b.script (changes_in H) (length (visible H))
 
 -- no entry of a role stands directly after a part of the history after which the next change is due
-abbrev pub IsPrompt : Bundle → List Entry → Type 0
+abbrev pub IsPrompt : PlainBundle → List Entry → Type 0
 IsPrompt b H = (before : List Entry) (e : Entry) (rest : List Entry) → H ≡ before ++ e ∷ rest → is_some (doer e) ≡ true → due_after b before ≡ false

@@ -4,7 +4,7 @@
 ghost use Rattle.connectedness.specs.Laws.{RolesAtEnds, StampedConnected};
 ghost use Rattle.dioc_terms.specs.TermLaws.{MentionsAreRoles, CastsAreRoles, StampedBodies};
 ghost use Rattle.net_core.specs.Headline.{EveryRun};
-ghost use Rattle.net_core.specs.Laws.{AcceptedIsSound, MovesAreSteps, RunsAreSound, SchedulesArePrompt};
+ghost use Rattle.net_core.specs.Laws.{AcceptedIsSound, MovesAreSteps, RunsAreSound, SchedulesArePrompt, SchedulesReadNoVersion};
 
 /// What the crates below prove of terms, together.
 fn known()
@@ -38,7 +38,7 @@ pub fn moves_are_steps()
     known();
     accepted_is_sound();
     marked_laws::progress();
-    dpoc_process::offers_are_steps();
+    process_steps::offers_are_steps();
 }
 
 /// A law: what a schedule, with a seed or without, makes of a run of an accepted bundle is again a run, that the choreography
@@ -50,7 +50,7 @@ pub fn runs_are_sound()
     accepted_is_sound();
     marked_laws::progress();
     marked_laws::simulation();
-    dpoc_process::offers_are_steps();
+    process_steps::offers_are_steps();
 }
 
 /// A law, the headline: every run of the network of an accepted bundle, under every interleaving and every live change, is played
@@ -72,4 +72,9 @@ pub fn every_run()
 /// bundle. It does nothing.
 pub fn schedules_are_prompt()
     ensures { SchedulesArePrompt }
+{}
+
+/// A law: neither what a schedule makes of a bundle nor its first refusal depends on its version. It does nothing.
+pub fn schedules_read_no_version()
+    ensures { SchedulesReadNoVersion }
 {}

@@ -11,6 +11,7 @@ mod tests;
 
 pub use laws::{
     accepted_is_sound, every_run, moves_are_steps, runs_are_sound, schedules_are_prompt,
+    schedules_read_no_version,
 };
 pub use moves::{Finish, Move, StepFault};
 pub use network::Net;

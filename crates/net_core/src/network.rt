@@ -4,9 +4,9 @@
 
 ghost use Rattle.std.specs.Prelude.{◌≡◌, ◌≢◌, ◌≤◌, ◌++◌, [], ◌∷◌, Some, None, IfOk, IfErr, OnOk, OnErr};
 ghost use Rattle.dioc_terms.specs.Supported.{IsSupported};
-ghost use Rattle.dioc_terms.specs.declared.bundles.Bundle.{Bundle};
+ghost use Rattle.dioc_terms.specs.Plain.{PlainBundle, plain, setting};
 ghost use Rattle.marked_laws.specs.Network.{network_ended};
-ghost use Rattle.net_core.specs.Net.{IsNetOf, Steps, network_of, step_fault, move_at, offer_at, put_entry, take_entry};
+ghost use Rattle.net_core.specs.Net.{IsNetOf, IsStepOf, network_of, step_fault, move_at, offer_at, put_entry, take_entry};
 ghost use Rattle.net_core.specs.Refusals.{IsAccepted};
 ghost use Rattle.net_core.specs.Schedule.{moves};
 
@@ -17,7 +17,7 @@ use std::marker::Model;
 
 /// How far the interaction has come: not begun, its message in flight, or taken.
 #[derive(Clone, Copy, Debug, PartialEq, Eq)]
-pub enum Stage {
+pub enum Phase {
     Ready,
     Flying,
     Landed,
@@ -43,7 +43,7 @@ pub struct Net {
     key: Key,
     variable: Name,
     value: Value,
-    stage: Stage,
+    phase: Phase,
     history: Vec<Entry>,
     limit: u64,
 }
@@ -53,15 +53,15 @@ impl Model for Net {
 
     ghost Value = { NetState };
 
-    ghost view = { λ net. record { key = net.key; variable = net.variable; value = net.value; stage = net.stage; history = net.history.items; limit = net.limit } };
+    ghost view = { λ net. record { key = net.key; variable = net.variable; value = net.value; phase = net.phase; history = net.history.items; limit = net.limit } };
 }
 
 impl Net {
     /// The network of an accepted bundle before its first step.
     pub fn start(alloc: Global, bundle: &Bundle, limit: u64) -> Result<Net, Memory>
-        requires accepted { IsAccepted bundle.now }
-        requires supported { IsSupported bundle.now }
-        ensures net { IfOk result (λ net. IsNetOf bundle.now net) }
+        requires accepted { IsAccepted (plain bundle.now) }
+        requires supported { IsSupported (plain bundle.now) }
+        ensures net { IfOk result (λ net. IsNetOf (plain bundle.now) net) }
         ensures history { IfOk result (λ net. net.history ≡ []) }
         ensures limit { IfOk result (λ net. net.limit ≡ limit) }
     {
@@ -83,7 +83,7 @@ impl Net {
                 },
                 variable: var.copy(alloc)?,
                 value: value.copy(alloc)?,
-                stage: Stage::Ready,
+                phase: Phase::Ready,
                 history: Vec::new(alloc),
                 limit,
             }),
@@ -100,12 +100,12 @@ impl Net {
 
     /// Whether each process has ended and no message is pending.
     pub fn is_ended(&self) -> bool
-        ghost bundle: { Bundle }
+        ghost bundle: { PlainBundle }
         requires { IsNetOf bundle self.now }
-        ensures { result ≡ network_ended bundle (network_of bundle self.now) }
+        ensures { result ≡ network_ended bundle.cast (network_of bundle self.now) }
     {
-        match self.stage {
-            Stage::Landed => true,
+        match self.phase {
+            Phase::Landed => true,
             _ => false,
         }
     }
@@ -114,9 +114,9 @@ impl Net {
     /// The moves of the network, in the order in which a schedule numbers them: the acts that the roles offer, role by
     /// role in the cast's order, without takes whose message isn't pending.
     pub fn moves(&self) -> Result<Vec<Move>, Memory>
-        ghost bundle: { Bundle }
+        ghost bundle: { PlainBundle }
         requires { IsNetOf bundle self.now }
-        ensures { IfOk result (λ found. found.items ≡ moves bundle (network_of bundle self.now)) }
+        ensures { IfOk result (λ found. found.items ≡ moves (setting bundle) (network_of bundle self.now)) }
     {
         let mut moves = Vec::new(self.alloc);
         if let Some(next) = self.next_move()? {
@@ -129,13 +129,13 @@ impl Net {
     /// The step of a role by an act. The refusals come in the order of their variants; after any of them the net is
     /// unchanged.
     pub fn step(&mut self, role: &Role, act: &Act) -> Result<(), StepFault>
-        ghost bundle: { Bundle }
+        ghost bundle: { PlainBundle }
         requires { IsNetOf bundle self.old }
-        ensures stepped { OnOk result (Steps bundle self.old role.now act.now self.new) }
+        ensures stepped { OnOk result (IsStepOf bundle self.old role.now act.now self.new) }
         ensures refused { IfErr result (λ fault. fault ≢ StepFault.Memory → step_fault bundle self.old role.now act.now ≡ Some fault) }
         ensures err { OnErr result (self.new ≡ self.old) }
     {
-        if self.stage == Stage::Landed {
+        if self.phase == Phase::Landed {
             return Err(StepFault::Ended);
         }
         if self.history.len() as u64 >= self.limit {
@@ -153,37 +153,37 @@ impl Net {
 impl Net {
     // The one act that the roles can do now.
     fn next_move(&self) -> Result<Option<Move>, Memory>
-        ensures { IfOk result (λ next. next ≡ move_at self.now.key self.now.stage) }
+        ensures { IfOk result (λ next. next ≡ move_at self.now.key self.now.phase) }
     {
-        match self.stage {
-            Stage::Ready => Ok(Some(Move::Act(
+        match self.phase {
+            Phase::Ready => Ok(Some(Move::Act(
                 self.key.from.copy(self.alloc)?,
                 Act::Put(self.key.copy(self.alloc)?),
             ))),
-            Stage::Flying => Ok(Some(Move::Act(
+            Phase::Flying => Ok(Some(Move::Act(
                 self.key.to.copy(self.alloc)?,
                 Act::Take(self.key.copy(self.alloc)?),
             ))),
-            Stage::Landed => Ok(None),
+            Phase::Landed => Ok(None),
         }
     }
 
     fn offer(&self, role: &Role, act: &Act) -> Offer
-        ensures { result ≡ offer_at self.now.key self.now.stage role.now act.now }
+        ensures { result ≡ offer_at self.now.key self.now.phase role.now act.now }
     {
         let sends = *role == self.key.from;
         let receives = *role == self.key.to;
-        match (self.stage, act) {
-            (Stage::Ready, Act::Put(key)) if sends && *key == self.key => Offer::Put,
-            (Stage::Ready, Act::Take(key)) if receives && *key == self.key => Offer::Waiting,
-            (Stage::Flying, Act::Take(key)) if receives && *key == self.key => Offer::Take,
+        match (self.phase, act) {
+            (Phase::Ready, Act::Put(key)) if sends && *key == self.key => Offer::Put,
+            (Phase::Ready, Act::Take(key)) if receives && *key == self.key => Offer::Waiting,
+            (Phase::Flying, Act::Take(key)) if receives && *key == self.key => Offer::Take,
             _ => Offer::Nothing,
         }
     }
 
     // The message is put: it flies from now on.
     fn put(&mut self) -> Result<(), StepFault>
-        ensures ok { OnOk result (self.new ≡ record self.old { stage = Stage.Flying; history = self.old.history ++ put_entry self.old ∷ [] }) }
+        ensures ok { OnOk result (self.new ≡ record self.old { phase = Phase.Flying; history = self.old.history ++ put_entry self.old ∷ [] }) }
         ensures memory { IfErr result (λ fault. fault ≡ StepFault.Memory) }
         ensures err { OnErr result (self.new ≡ self.old) }
     {
@@ -192,13 +192,13 @@ impl Net {
             note: Note::Val(self.value.copy(self.alloc)?),
         };
         self.history.push(entry)?;
-        self.stage = Stage::Flying;
+        self.phase = Phase::Flying;
         Ok(())
     }
 
     // The message is taken: nothing is left to do.
     fn take(&mut self) -> Result<(), StepFault>
-        ensures ok { OnOk result (self.new ≡ record self.old { stage = Stage.Landed; history = self.old.history ++ take_entry self.old ∷ [] }) }
+        ensures ok { OnOk result (self.new ≡ record self.old { phase = Phase.Landed; history = self.old.history ++ take_entry self.old ∷ [] }) }
         ensures memory { IfErr result (λ fault. fault ≡ StepFault.Memory) }
         ensures err { OnErr result (self.new ≡ self.old) }
     {
@@ -207,7 +207,7 @@ impl Net {
             var: Some(self.variable.copy(self.alloc)?),
         };
         self.history.push(entry)?;
-        self.stage = Stage::Landed;
+        self.phase = Phase::Landed;
         Ok(())
     }
 }

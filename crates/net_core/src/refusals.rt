@@ -2,6 +2,7 @@
 
 ghost use Rattle.std.specs.Prelude.{◌≡◌, ◌≢◌, Some, IfErr, OnOk};
 ghost use Rattle.dioc_terms.specs.Bundles.{IsFormed};
+ghost use Rattle.dioc_terms.specs.Plain.{plain};
 ghost use Rattle.dioc_terms.specs.Supported.{IsSupported};
 ghost use Rattle.net_core.specs.Refusals.{IsAccepted, refusal};
 
@@ -48,10 +49,10 @@ impl From<Memory> for Refusal {
 /// Whether a formed bundle may run; else its first refusal. Of the bundles that are read today the only one is an
 /// interaction of a role with itself.
 pub fn accept(bundle: &Bundle) -> Result<(), Refusal>
-    requires formed { IsFormed bundle.now }
-    requires supported { IsSupported bundle.now }
-    ensures accepted { OnOk result (IsAccepted bundle.now) }
-    ensures refused { IfErr result (λ first. first ≢ Refusal.Memory → refusal bundle.now ≡ Some first) }
+    requires formed { IsFormed (plain bundle.now) }
+    requires supported { IsSupported (plain bundle.now) }
+    ensures accepted { OnOk result (IsAccepted (plain bundle.now)) }
+    ensures refused { IfErr result (λ first. first ≢ Refusal.Memory → refusal (plain bundle.now) ≡ Some first) }
 {
     match &bundle.choreo {
         Choreo::Com {

@@ -1,7 +1,7 @@
 //! A run by the schedule without a seed.
 
 ghost use Rattle.std.specs.Prelude.{◌≡◌, IfOk, OnErr, MatchOption};
-ghost use Rattle.dioc_terms.specs.declared.bundles.Bundle.{Bundle};
+ghost use Rattle.dioc_terms.specs.Plain.{PlainBundle};
 ghost use Rattle.net_core.specs.Net.{IsNetOf};
 ghost use Rattle.net_core.specs.Runs.{Advances, Finishes, RunsPart};
 
@@ -13,7 +13,7 @@ use dioc_terms::Memory;
 /// Takes the first move each time, until the network has ended or its history is full. After `Memory` the net has made
 /// the first moves of that run, possibly none.
 pub fn run_first(net: &mut Net) -> Result<Finish, Memory>
-    ghost bundle: { Bundle }
+    ghost bundle: { PlainBundle }
     requires { IsNetOf bundle net.old }
     ensures finished { IfOk result (λ finish. Finishes bundle net.old net.new finish) }
     ensures memory { OnErr result (RunsPart bundle net.old net.new) }
@@ -28,7 +28,7 @@ pub fn run_first(net: &mut Net) -> Result<Finish, Memory>
 #[tactic(auto, using(crate::proofs::RunLemmas::first_steps))]
 // Takes the first move, or tells how the run has finished.
 fn advance(net: &mut Net) -> Result<Option<Finish>, Memory>
-    ghost bundle: { Bundle }
+    ghost bundle: { PlainBundle }
     requires { IsNetOf bundle net.old }
     ensures advanced { IfOk result (λ done. MatchOption done (Advances bundle net.old net.new) (λ finish. Finishes bundle net.old net.new finish)) }
     ensures finished { IfOk result (λ done. MatchOption done (Advances bundle net.old net.new) (λ finish. net.new ≡ net.old)) }

@@ -3,7 +3,7 @@
 ghost use Rattle.std.specs.Prelude.{◌≡◌, true, IfOk};
 ghost use Rattle.dioc_terms.specs.Bundles.{IsFormed, is_identifier};
 ghost use Rattle.dioc_terms.specs.Supported.{IsSupported};
-ghost use Rattle.dioc_terms.specs.declared.bundles.Bundle.{Bundle};
+ghost use Rattle.dioc_terms.specs.Plain.{PlainBundle, plain};
 ghost use Rattle.net_core.specs.Net.{IsNetOf};
 
 use super::*;
@@ -26,8 +26,8 @@ fn role(alloc: Global, bytes: &[u8]) -> Result<Role, NameFault>
 /// `hi: a(1) -> b(x)`, with the receiver's name in place of `b`.
 fn interaction(alloc: Global, receiver: &[u8]) -> Result<Bundle, NameFault>
     requires { is_identifier receiver.now ≡ true }
-    ensures formed { IfOk result IsFormed }
-    ensures supported { IfOk result IsSupported }
+    ensures formed { IfOk result (λ bundle. IsFormed (plain bundle)) }
+    ensures supported { IfOk result (λ bundle. IsSupported (plain bundle)) }
 {
     let choreo = Choreo::Com {
         index: FIRST,
@@ -63,7 +63,7 @@ struct Trial {
 
 /// The net of `hi: a(1) -> b(x)` before its first step.
 fn start(alloc: Global, limit: u64) -> Result<Trial, Fail>
-    ensures { IfOk result (λ trial. IsNetOf trial.bundle trial.net) }
+    ensures { IfOk result (λ trial. IsNetOf (plain trial.bundle) trial.net) }
 {
     let bundle = interaction(alloc, b"b")?;
     accept(&bundle)?;
@@ -73,7 +73,7 @@ fn start(alloc: Global, limit: u64) -> Result<Trial, Fail>
 
 // Here and below the bundle only tells the contract whose net it is.
 fn step(net: &mut Net, _bundle: &Bundle, role: &Role, act: &Act) -> Result<(), StepFault>
-    ghost owner: { Bundle }
+    ghost owner: { PlainBundle }
     requires { IsNetOf owner net.old }
     ensures { IsNetOf owner net.new }
 {
@@ -81,21 +81,21 @@ fn step(net: &mut Net, _bundle: &Bundle, role: &Role, act: &Act) -> Result<(), S
 }
 
 fn run(net: &mut Net, _bundle: &Bundle) -> Result<Finish, Memory>
-    ghost owner: { Bundle }
+    ghost owner: { PlainBundle }
     requires { IsNetOf owner net.old }
 {
     run_first(net)
 }
 
 fn is_ended(net: &Net, _bundle: &Bundle) -> bool
-    ghost owner: { Bundle }
+    ghost owner: { PlainBundle }
     requires { IsNetOf owner net.now }
 {
     net.is_ended()
 }
 
 fn moves(net: &Net, _bundle: &Bundle) -> Result<Vec<Move>, Memory>
-    ghost owner: { Bundle }
+    ghost owner: { PlainBundle }
     requires { IsNetOf owner net.now }
 {
     net.moves()
@@ -143,8 +143,8 @@ fn take_entry(alloc: Global) -> Result<Entry, NameFault> {
 }
 
 fn to_oneself(alloc: Global) -> Result<Bundle, NameFault>
-    ensures formed { IfOk result IsFormed }
-    ensures supported { IfOk result IsSupported }
+    ensures formed { IfOk result (λ bundle. IsFormed (plain bundle)) }
+    ensures supported { IfOk result (λ bundle. IsSupported (plain bundle)) }
 {
     interaction(alloc, b"a")
 }
@@ -165,8 +165,8 @@ fn refuses_a_message_to_oneself(rt: HostRuntime) -> Result<(), Fail> {
 type Row = (&'static [u8], Deed, Result<(), StepFault>, usize);
 
 fn expect_step(rt: &impl Abort, alloc: Global, trial: &mut Trial, row: Row) -> Result<(), Fail>
-    requires { IsNetOf trial.old.bundle trial.old.net }
-    ensures { IsNetOf trial.new.bundle trial.new.net }
+    requires { IsNetOf (plain trial.old.bundle) trial.old.net }
+    ensures { IsNetOf (plain trial.new.bundle) trial.new.net }
 {
     let (name, deed, want, entries) = row;
     let role = role(alloc, name)?;
@@ -212,7 +212,7 @@ fn refuses_steps_in_order(rt: HostRuntime) -> Result<(), Fail> {
 
 /// The one move of the net, none where it has ended.
 fn expect_move(rt: &impl Abort, trial: &Trial, want: Option<(Role, Act)>) -> Result<(), Memory>
-    requires { IsNetOf trial.now.bundle trial.now.net }
+    requires { IsNetOf (plain trial.now.bundle) trial.now.net }
 {
     let found = moves(&trial.net, &trial.bundle)?;
     assert_eq!(rt; is_ended(&trial.net, &trial.bundle), want.is_none());

@@ -5,7 +5,7 @@ use Rattle.dioc_terms.specs.Equality.{role_eq, member}
 use Rattle.dioc_terms.specs.Processes.{Process, Skip}
 use Rattle.dioc_terms.specs.Terms as term
 use Rattle.dioc_terms.specs.Terms.{Term, is_in}
-use Rattle.dpoc_process.specs.Steps.{ended}
+use Rattle.process_steps.specs.Steps.{ended}
 use Rattle.projection.specs.Laws.{OutsidersHaveEnded}
 
 -- a process that is one of two that haven't ended, or none

@@ -2,7 +2,7 @@
 use Rattle.std.specs.Prelude.{◌≡◌, List, not}
 use Rattle.dioc_terms.specs.declared.names.Role.{Role}
 use Rattle.dioc_terms.specs.Terms.{Term, is_in}
-use Rattle.dpoc_process.specs.Steps.{ended}
+use Rattle.process_steps.specs.Steps.{ended}
 use Rattle.projection.specs.Projection.{projected}
 
 -- a role's projection has ended from the start exactly where the term doesn't name the role

@@ -27,7 +27,8 @@ impl Mail {
         }
     }
 
-    /// Makes room for so many messages more. After a refusal the mail has the messages that it had.
+    /// Makes room for so many messages more. After a refusal the mail has the
+    /// messages and at least the room that it had.
     pub fn reserve(&mut self, count: usize) -> Result<(), Memory>
         ensures ok { OnOk result (count ≤ room self.new) }
         ensures enough { count ≤ room self.old → IsOk result }

@@ -5,9 +5,9 @@ use Rattle.std.specs.Map.{lookup, remove_entry}
 use Rattle.indexmap.specs.IndexMap.{insert_entry}
 use Rattle.dioc_terms.specs.declared.bundles.Change.{Change}
 use Rattle.dioc_terms.specs.declared.bundles.Change.TheVariants as change
-use Rattle.dioc_terms.specs.declared.bundles.Rule.{Rule}
 use Rattle.dioc_terms.specs.declared.values.Value.{Value}
 use Rattle.dioc_terms.specs.Equality.{name_eq}
+use Rattle.dioc_terms.specs.Plain.{PlainRule}
 use Rattle.dioc_terms.specs.Rules.{Book, apply}
 use Rattle.dioc_terms.specs.Values.{bound}
 use Rattle.rule_book.specs.declared.kept.KeptChange.{KeptChange}
@@ -30,7 +30,7 @@ first_and_rest P before rest first e all = subst (AllByRecursion P) e all
 abbrev book_with : List ℕ → (List ℕ → Value) → Book
 book_with order environment = record { order = order; environment = environment }
 
-module _ (rules : List Rule) (next : Change) where
+module _ (rules : List PlainRule) (next : Change) where
   pub applied-add : (es new : List (List ℕ × KeptRule)) (env : List (List ℕ × Value)) (name : List ℕ) (kept : KeptRule) → AreKept rules es → IsKept rules name kept
       → new ≡ insert_entry name_eq es name kept → next ≡ change.Add kept.number
       → book_with (order_of new) (bound env) ≡ apply rules (book_with (order_of es) (bound env)) next

@@ -7,18 +7,19 @@ use Rattle.std.specs.Option.{option_map, option_map_or}
 use Rattle.std.proofs.lemmas.Bool.{and_parts, and_from, or_cases, or_left, or_right}
 use Rattle.std.proofs.lemmas.List.{append-nil}
 use Rattle.std.proofs.lemmas.List.Sums.{fold_more}
-use Rattle.dioc_terms.specs.declared.bundles.Rule.{Rule}
 use Rattle.dioc_terms.specs.declared.names.Role.{Role}
 use Rattle.dioc_terms.specs.declared.processes.ScopeHead.{ScopeHead}
 use Rattle.dioc_terms.specs.declared.values.Value.{Value}
 use Rattle.dioc_terms.specs.Equality.{role_eq, member}
 use Rattle.dioc_terms.specs.EqualityLemmas.{role_eq-decides}
 use Rattle.dioc_terms.specs.Expressions.{expression}
+use Rattle.dioc_terms.specs.Limits.{top_level}
+use Rattle.dioc_terms.specs.Plain.{PlainRule}
 use Rattle.dioc_terms.specs.RuleLaws.{greater_of, chosen_among, ChoicesGoOn}
 use Rattle.dioc_terms.specs.Rules.{Book, fits, no_lower}
 use Rattle.dioc_terms.specs.Stores.{Store}
 use Rattle.dioc_terms.specs.TermLaws.{CastsAreRoles, MentionsAreRoles}
-use Rattle.dioc_terms.specs.Terms.{Term, term, cast_of, mentions}
+use Rattle.dioc_terms.specs.Terms.{Term, cast_of, mentions}
 use Rattle.dioc_terms.specs.Values.{bound, holds}
 use Rattle.rule_book.specs.declared.kept.KeptRule.{KeptRule}
 use Rattle.rule_book.specs.Kept.{order_of, IsKept, AreKept}
@@ -49,7 +50,7 @@ list_all-cast_of mentioned casts p I = same_tests (list_all p (cast_of I)) (list
 module _ (head : ScopeHead) (s : Store) (env : List (List ℕ × Value)) where
   -- whether a kept rule fits
   abbrev pub kept_fits : KeptRule → Bool
-  kept_fits kept = holds (expression kept.cond) s (bound head.props) (bound env) && list_all (λ q. member q head.roles) kept.roles && nat_lt head.level 16
+  kept_fits kept = holds (expression kept.cond) s (bound head.props) (bound env) && list_all (λ q. member q head.roles) kept.roles && nat_lt head.level top_level
 
   -- the number and priority of the better one of the best so far and one more
   abbrev pub next_best : Option (ℕ × ℤ) → KeptRule → Option (ℕ × ℤ)
@@ -80,14 +81,14 @@ module _ (head : ScopeHead) (s : Store) (env : List (List ℕ × Value)) where
       by false = refl
 
 -- the best is rule n, with its priority
-record IsBest (rules : List Rule) (best : ℕ × ℤ) (n : ℕ) : Type 0 where
-  rule : Rule
+record IsBest (rules : List PlainRule) (best : ℕ × ℤ) (n : ℕ) : Type 0 where
+  rule : PlainRule
   number : best.0 ≡ n
   at : slice_get rules n ≡ Some rule
   priority : best.1 ≡ rule.priority
 
 -- the best so far is what is chosen so far
-abbrev Matches : List Rule → Option (ℕ × ℤ) → Option ℕ → Type 0
+abbrev Matches : List PlainRule → Option (ℕ × ℤ) → Option ℕ → Type 0
 Matches rules None None = Unit {0}
 Matches rules (Some best) (Some n) = IsBest rules best n
 Matches rules _ _ = ⊥
@@ -107,7 +108,7 @@ int_lt-le a b = by (int_lt a b) (int_le b a) refl refl
         let below = le-false b a f in
         absurd (omega (arith, ints))
 
-module _ (rules : List Rule) where
+module _ (rules : List PlainRule) where
   compared : (n : ℕ) (best : ℕ × ℤ) (name : List ℕ) (kept : KeptRule) → IsBest rules best n → IsKept rules name kept
       → no_lower rules n kept.number ≡ int_le kept.priority best.1
   compared n best name kept is at = rw (is.at, at.at, is.priority, at.priority) refl
@@ -136,15 +137,15 @@ module _ (rules : List Rule) where
       → book.environment ≡ bound env → IsKept rules name kept → fits rules book head s kept.number ≡ kept_fits head s env kept
   fits-kept mentioned casts book head s env name kept known is =
       by_rule is.at
-      ∙ (λ j. holds (sym is.condition j) s (bound head.props) (known j) && roles j && nat_lt head.level 16)
+      ∙ (λ j. holds (sym is.condition j) s (bound head.props) (known j) && roles j && nat_lt head.level top_level)
     where
       by_rule : slice_get rules kept.number ≡ Some is.rule
           → fits rules book head s kept.number
-          ≡ (holds (expression (is.rule).cond) s (bound head.props) book.environment && list_all (λ q. member q head.roles) (mentions (term (is.rule).body)) && nat_lt head.level 16)
+          ≡ (holds (is.rule).cond s (bound head.props) book.environment && list_all (λ q. member q head.roles) (mentions (is.rule).body) && nat_lt head.level top_level)
       by_rule at = rw at refl
 
-      roles : list_all (λ q. member q head.roles) (mentions (term (is.rule).body)) ≡ list_all (λ q. member q head.roles) kept.roles
-      roles = sym (list_all-cast_of mentioned casts (λ q. member q head.roles) (term (is.rule).body)) ∙ ap (list_all (λ q. member q head.roles)) (sym is.roles)
+      roles : list_all (λ q. member q head.roles) (mentions (is.rule).body) ≡ list_all (λ q. member q head.roles) kept.roles
+      roles = sym (list_all-cast_of mentioned casts (λ q. member q head.roles) (is.rule).body) ∙ ap (list_all (λ q. member q head.roles)) (sym is.roles)
 
   module _ (goes : ChoicesGoOn) (mentioned : MentionsAreRoles) (casts : CastsAreRoles) (book : Book) (head : ScopeHead) (s : Store) (env : List (List ℕ × Value))
       (known : book.environment ≡ bound env) where

@@ -7,12 +7,12 @@ use Rattle.std.specs.Option.{option_map}
 use Rattle.indexmap.specs.IndexMap.{insert_entry}
 use Rattle.dioc_terms.specs.declared.bundles.Change.{Change}
 use Rattle.dioc_terms.specs.declared.bundles.Change.TheVariants as change
-use Rattle.dioc_terms.specs.declared.bundles.Rule.{Rule}
 use Rattle.dioc_terms.specs.declared.bundles.Timed.{Timed}
 use Rattle.dioc_terms.specs.declared.values.Value.{Value}
 use Rattle.dioc_terms.specs.Bundles.{adds, numbers_from}
 use Rattle.dioc_terms.specs.Equality.{name_eq}
 use Rattle.dioc_terms.specs.EqualityLemmas.{equivalence_from_Decides, name_eq-decides}
+use Rattle.dioc_terms.specs.Plain.{PlainRule}
 use Rattle.dioc_terms.specs.Rules.{is_named, add_rule, added}
 use Rattle.dioc_terms.specs.Values.{bound}
 use Rattle.dioc_terms.proofs.ValueLemmas.{bound-push}
@@ -25,7 +25,7 @@ Entries = List (List ℕ × KeptRule)
 name_eq-symm : (a b : List ℕ) → name_eq a b ≡ name_eq b a
 name_eq-symm = (equivalence_from_Decides name_eq name_eq-decides).symm
 
-module _ (rules : List Rule) where
+module _ (rules : List PlainRule) where
   -- a kept rule has the name in the book that it is kept under
   named_as : (name : List ℕ) (kept : KeptRule) (other : List ℕ) → IsKept rules name kept → is_named rules other kept.number ≡ name_eq other name
   named_as name kept other is = by_rule is.at ∙ (name_eq-symm (is.rule).name other ∙ ap (name_eq other) (sym is.named))

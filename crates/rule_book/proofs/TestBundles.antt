@@ -6,13 +6,14 @@ use Rattle.std.proofs.lemmas.List.{append-nil}
 use Rattle.std.proofs.lemmas.List.Folds.{list_all-append}
 use Rattle.dioc_terms.specs.declared.bundles.Change.{Change}
 use Rattle.dioc_terms.specs.declared.bundles.Change.TheVariants as change
-use Rattle.dioc_terms.specs.declared.bundles.Rule.{Rule}
 use Rattle.dioc_terms.specs.declared.bundles.Timed.{Timed}
 use Rattle.dioc_terms.specs.declared.values.Value.TheVariants as value
-use Rattle.dioc_terms.specs.Bundles.{IsFormedTerm, IsFormedRule, is_identifier, is_formed_condition, adds, is_formed_change, is_formed_timed, largest}
-use Rattle.dioc_terms.specs.Expressions.{Const, Env, expression}
+use Rattle.dioc_terms.specs.Bundles.{IsFormedTerm, IsFormedRule, is_identifier, is_formed_condition, adds, is_formed_change, is_formed_timed}
+use Rattle.dioc_terms.specs.Expressions.{Const, Env}
+use Rattle.dioc_terms.specs.Limits.{largest}
 use Rattle.dioc_terms.specs.Names.{is_reserved, reserved_words}
-use Rattle.dioc_terms.specs.Terms.{Term, Set, index_at, term}
+use Rattle.dioc_terms.specs.Plain.{PlainRule}
+use Rattle.dioc_terms.specs.Terms.{Term, Set, index_at}
 use Rattle.std.specs.Prelude.{nat_le}
 
 pub k_is_identifier : is_identifier (107 ∷ []) ≡ true
@@ -27,21 +28,21 @@ pub k_is_condition : (name : List ℕ) → name ≡ 107 ∷ [] → is_formed_con
 k_is_condition name e = λ j. (ap is_identifier e ∙ k_is_identifier) j && true
 
 -- `x` at a role is set to nil
-abbrev pub setting : ℕ → Term
-setting role = Set (index_at 0) (120 ∷ []) (record { 0 = role ∷ [] }) (Const value.Nil)
+abbrev pub sets_nil : ℕ → Term
+sets_nil role = Set (index_at 0) (120 ∷ []) (record { 0 = role ∷ [] }) (Const value.Nil)
 
-setting_formed : (role : ℕ) → is_identifier (role ∷ []) ≡ true → IsFormedTerm (setting role)
-setting_formed role named = record { marks = refl; parts = λ j. x_is_identifier j && named j && true; depth = omega arith }
+sets_nil_formed : (role : ℕ) → is_identifier (role ∷ []) ≡ true → IsFormedTerm (sets_nil role)
+sets_nil_formed role named = record { indices = refl; parts = λ j. x_is_identifier j && named j && true; depth = omega arith }
 
-pub rule_formed : (rule : Rule) (letter role : ℕ) → rule.name ≡ letter ∷ [] → is_identifier (letter ∷ []) ≡ true → is_identifier (role ∷ []) ≡ true
+pub rule_formed : (rule : PlainRule) (letter role : ℕ) → rule.name ≡ letter ∷ [] → is_identifier (letter ∷ []) ≡ true → is_identifier (role ∷ []) ≡ true
     → int_le (negsuc 999999) rule.priority ≡ true → int_le rule.priority (pos 1000000) ≡ true
-    → is_formed_condition (expression rule.cond) ≡ true → term rule.body ≡ setting role → IsFormedRule rule
+    → is_formed_condition rule.cond ≡ true → rule.body ≡ sets_nil role → IsFormedRule rule
 rule_formed rule letter role name named by_role least most condition body = record {
   name = ap is_identifier name ∙ named;
   least = least;
   most = most;
   condition = condition;
-  body = subst IsFormedTerm (sym body) (setting_formed role by_role);
+  body = subst IsFormedTerm (sym body) (sets_nil_formed role by_role);
 }
 
 adds-append : (xs ys : List Timed) → adds (xs ++ ys) ≡ adds xs ++ adds ys

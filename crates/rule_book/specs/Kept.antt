@@ -3,9 +3,9 @@ use Rattle.std.specs.Prelude.{◌≡◌, ℕ, List, map, Some, slice_get, ⊤}
 use Rattle.std.specs.List.{AllByRecursion}
 use Rattle.dioc_terms.specs.declared.bundles.Change.{Change}
 use Rattle.dioc_terms.specs.declared.bundles.Change.TheVariants as change
-use Rattle.dioc_terms.specs.declared.bundles.Rule.{Rule}
 use Rattle.dioc_terms.specs.Expressions.{expression}
-use Rattle.dioc_terms.specs.Terms.{term, cast_of}
+use Rattle.dioc_terms.specs.Plain.{PlainRule}
+use Rattle.dioc_terms.specs.Terms.{cast_of}
 use Rattle.rule_book.specs.declared.kept.KeptChange.{KeptChange}
 use Rattle.rule_book.specs.declared.kept.KeptChange.TheVariants as kept
 use Rattle.rule_book.specs.declared.kept.KeptRule.{KeptRule}
@@ -21,18 +21,18 @@ abbrev pub order_of : List (List ℕ × KeptRule) → List ℕ
 order_of entries = map (λ entry. entry.1.number) entries
 
 -- what is kept under a name is so in the rule of its number
-pub record IsKept (rules : List Rule) (name : List ℕ) (kept : KeptRule) : Type 0 where
-  pub rule : Rule
+pub record IsKept (rules : List PlainRule) (name : List ℕ) (kept : KeptRule) : Type 0 where
+  pub rule : PlainRule
   pub at : slice_get rules kept.number ≡ Some rule
   pub named : name ≡ rule.name
   pub priority : kept.priority ≡ rule.priority
-  pub condition : expression kept.cond ≡ expression rule.cond
-  pub roles : kept.roles ≡ cast_of (term rule.body)
+  pub condition : expression kept.cond ≡ rule.cond
+  pub roles : kept.roles ≡ cast_of rule.body
 
-abbrev pub AreKept : List Rule → List (List ℕ × KeptRule) → Type 0
+abbrev pub AreKept : List PlainRule → List (List ℕ × KeptRule) → Type 0
 AreKept rules entries = AllByRecursion (λ entry. IsKept rules entry.0 entry.1) entries
 
 -- the rule that a kept change adds is so among the rules
-abbrev pub IsKeptChange : List Rule → KeptChange → Type 0
+abbrev pub IsKeptChange : List PlainRule → KeptChange → Type 0
 IsKeptChange rules (kept.Add name rule) = IsKept rules name rule
 IsKeptChange rules _ = ⊤

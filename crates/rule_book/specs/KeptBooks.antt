@@ -2,7 +2,7 @@
 use Rattle.std.specs.Prelude.{List, map}
 use Rattle.std.specs.List.{AllByRecursion}
 use Rattle.dioc_terms.specs.declared.bundles.Change.{Change}
-use Rattle.dioc_terms.specs.declared.bundles.Rule.{Rule}
+use Rattle.dioc_terms.specs.Plain.{PlainRule}
 use Rattle.dioc_terms.specs.Rules.{Book}
 use Rattle.dioc_terms.specs.Values.{bound}
 use Rattle.rule_book.specs.declared.book.Book.{Book as KeptBook}
@@ -16,6 +16,6 @@ abbrev pub coming : KeptBook → List Change
 coming book = map change_of book.coming.items
 
 -- the book is one of these rules: what it keeps of a rule is so in the rule of that number
-pub record IsBookOf (rules : List Rule) (book : KeptBook) : Type 0 where
+pub record IsBookOf (rules : List PlainRule) (book : KeptBook) : Type 0 where
   pub kept : AreKept rules book.rules.entries
   pub coming : AllByRecursion (IsKeptChange rules) book.coming.items

@@ -29,19 +29,19 @@ pub struct Book {
 
 impl Book {
     ghost use Rattle.std.specs.Prelude.{◌≡◌, List, Some, IfOk, drop, find, map, slice_get};
-    ghost use Rattle.dioc_terms.specs.declared.bundles.Rule.{Rule};
     ghost use Rattle.dioc_terms.specs.Bundles.{IsFormed};
     ghost use Rattle.dioc_terms.specs.KeptStores.{store_of};
+    ghost use Rattle.dioc_terms.specs.Plain.{PlainRule, plain};
     ghost use Rattle.dioc_terms.specs.Rules.{apply, choose, is_named, opening_book};
     ghost use Rattle.rule_book.specs.KeptBooks.{book_of, coming, IsBookOf};
 
     /// The book of a formed bundle before the first change: the opening rules, added one after another, and the environment.
     /// The memory of all changes of the script is taken.
     pub fn new(alloc: Global, bundle: &Bundle) -> Result<Book, Memory>
-        requires { IsFormed bundle.now }
-        ensures opening { IfOk result (λ book. book_of book ≡ opening_book bundle.now.rules bundle.now.opening bundle.now.env) }
+        requires { IsFormed (plain bundle.now) }
+        ensures opening { IfOk result (λ book. book_of book ≡ opening_book (plain bundle.now).rules bundle.now.opening bundle.now.env) }
         ensures coming { IfOk result (λ book. coming book ≡ map (λ timed. timed.change) bundle.now.script) }
-        ensures of { IfOk result (IsBookOf bundle.now.rules) }
+        ensures of { IfOk result (IsBookOf (plain bundle.now).rules) }
     {
         let coming = keep_script(alloc, bundle.rules.as_slice(), bundle.script.as_slice())?;
         let mut rules = keep_opening(alloc, bundle.rules.as_slice(), bundle.opening)?;
@@ -58,9 +58,9 @@ impl Book {
     /// nothing. A key of the environment has the value that was set last.
     pub fn apply(&mut self, change: &Change)
         requires next { slice_get (coming self.old) 0 ≡ Some change.now }
-        ensures applied { (rules : List Rule) → IsBookOf rules self.old → book_of self.new ≡ apply rules (book_of self.old) change.now }
+        ensures applied { (rules : List PlainRule) → IsBookOf rules self.old → book_of self.new ≡ apply rules (book_of self.old) change.now }
         ensures coming { coming self.new ≡ drop 1 (coming self.old) }
-        ensures of { (rules : List Rule) → IsBookOf rules self.old → IsBookOf rules self.new }
+        ensures of { (rules : List PlainRule) → IsBookOf rules self.old → IsBookOf rules self.new }
     {
         match self.coming.pop_front() {
             Some(KeptChange::Add(name, rule)) => {
@@ -80,7 +80,7 @@ impl Book {
     /// A rule fits where its condition holds over the scope's properties, the environment and the store, where all roles of its
     /// body are roles of the scope, and where the scope's level is below 16.
     pub fn choose(&self, head: &ScopeHead, store: &Store) -> Option<u32>
-        ensures { (rules : List Rule) → IsBookOf rules self.now → result ≡ choose rules (book_of self.now) head.now (store_of store.now) }
+        ensures { (rules : List PlainRule) → IsBookOf rules self.now → result ≡ choose rules (book_of self.now) head.now (store_of store.now) }
     {
         choices_go_on();
         casts_are_roles();
@@ -97,7 +97,7 @@ impl Book {
 
     /// The number of the rule of that name in the book, `None` exactly where there is none. It takes no memory.
     pub fn find(&self, name: &Name) -> Option<u32>
-        ensures { (rules : List Rule) → IsBookOf rules self.now → result ≡ find (is_named rules name.now) (book_of self.now).order }
+        ensures { (rules : List PlainRule) → IsBookOf rules self.now → result ≡ find (is_named rules name.now) (book_of self.now).order }
     {
         self.rules.get(name).map(|rule| rule.number)
     }

@@ -3,6 +3,7 @@
 ghost use Rattle.std.specs.Prelude.{◌≡◌, ◌<◌, ◌≤◌, ℕ, length, map, All, IfOk};
 ghost use Rattle.std.specs.List.{AllByRecursion};
 ghost use Rattle.dioc_terms.specs.Bundles.{IsFormedRule, adds};
+ghost use Rattle.dioc_terms.specs.Plain.{plain_rule};
 ghost use Rattle.dioc_terms.specs.Rules.{opening_order};
 ghost use Rattle.rule_book.specs.Kept.{change_of, order_of, IsKept, AreKept, IsKeptChange};
 
@@ -18,10 +19,10 @@ pub(crate) fn keep_opening(
     rules: &[Rule],
     opening: u32,
 ) -> Result<IndexMap<Name, KeptRule>, Memory>
-    requires formed { All IsFormedRule rules.now }
+    requires formed { All IsFormedRule (map plain_rule rules.now) }
     requires there { opening ≤ length rules.now }
-    ensures order { IfOk result (λ kept. order_of kept.entries ≡ opening_order rules.now opening) }
-    ensures kept { IfOk result (λ kept. AreKept rules.now kept.entries) }
+    ensures order { IfOk result (λ kept. order_of kept.entries ≡ opening_order (map plain_rule rules.now) opening) }
+    ensures kept { IfOk result (λ kept. AreKept (map plain_rule rules.now) kept.entries) }
 {
     let mut kept = IndexMap::new(alloc);
     for number in 0..opening {
@@ -37,10 +38,10 @@ pub(crate) fn keep_script(
     rules: &[Rule],
     script: &[Timed],
 ) -> Result<VecDeque<KeptChange>, Memory>
-    requires formed { All IsFormedRule rules.now }
+    requires formed { All IsFormedRule (map plain_rule rules.now) }
     requires there { AllByRecursion (λ m. m < length rules.now) (adds script.now) }
     ensures changes { IfOk result (λ kept. map change_of kept.items ≡ map (λ timed. timed.change) script.now) }
-    ensures kept { IfOk result (λ kept. AllByRecursion (IsKeptChange rules.now) kept.items) }
+    ensures kept { IfOk result (λ kept. AllByRecursion (IsKeptChange (map plain_rule rules.now)) kept.items) }
 {
     let mut kept = Vec::with_capacity(alloc, script.len())?;
     for timed in script {
@@ -50,10 +51,10 @@ pub(crate) fn keep_script(
 }
 
 fn keep_change(alloc: Global, rules: &[Rule], change: &Change) -> Result<KeptChange, Memory>
-    requires formed { All IsFormedRule rules.now }
+    requires formed { All IsFormedRule (map plain_rule rules.now) }
     requires there { (m : ℕ) → change.now ≡ Change.Add m → m < length rules.now }
     ensures change { IfOk result (λ kept. change_of kept ≡ change.now) }
-    ensures kept { IfOk result (IsKeptChange rules.now) }
+    ensures kept { IfOk result (IsKeptChange (map plain_rule rules.now)) }
 {
     match change {
         Change::Add(number) => {
@@ -67,9 +68,9 @@ fn keep_change(alloc: Global, rules: &[Rule], change: &Change) -> Result<KeptCha
 
 /// What a book keeps of the rule of this number, and the rule's name.
 fn keep_rule(alloc: Global, rules: &[Rule], number: u32) -> Result<(Name, KeptRule), Memory>
-    requires formed { All IsFormedRule rules.now }
+    requires formed { All IsFormedRule (map plain_rule rules.now) }
     requires there { number < length rules.now }
-    ensures kept { IfOk result (λ kept. IsKept rules.now kept.0 kept.1) }
+    ensures kept { IfOk result (λ kept. IsKept (map plain_rule rules.now) kept.0 kept.1) }
     ensures number { IfOk result (λ kept. kept.1.number ≡ number) }
 {
     conditions_join_nothing();

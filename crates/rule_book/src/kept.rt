@@ -7,6 +7,7 @@ ghost use Rattle.dioc_terms.specs.Conditions.{has_no_join};
 ghost use Rattle.dioc_terms.specs.Equality.{member};
 ghost use Rattle.dioc_terms.specs.Expressions.{expression};
 ghost use Rattle.dioc_terms.specs.KeptStores.{store_of};
+ghost use Rattle.dioc_terms.specs.Limits.{top_level};
 ghost use Rattle.dioc_terms.specs.Values.{bound, holds};
 
 use dioc_terms::{Expr, Name, Role, Roles, ScopeHead, Store, Value, test};
@@ -44,7 +45,7 @@ impl KeptRule {
     /// level is below the limit.
     pub(crate) fn fits(&self, head: &ScopeHead, store: &Store, env: &[(Name, Value)]) -> bool
         ensures { result ≡ (holds (expression self.now.cond) (store_of store.now) (bound head.now.props) (bound env.now)
-            && list_all (λ q. member q head.now.roles) self.now.roles && nat_lt head.now.level 16) }
+            && list_all (λ q. member q head.now.roles) self.now.roles && nat_lt head.now.level top_level) }
     {
         test(&self.cond, store, head.props.as_slice(), env)
             && are_among(self.roles.as_slice(), head.roles.as_slice())

@@ -5,6 +5,7 @@ ghost use Rattle.std.specs.List.{list_all};
 ghost use Rattle.dioc_terms.specs.Bundles.{IsFormed, IsFormedRule, adds, is_formed_condition, is_formed_timed, is_identifier};
 ghost use Rattle.dioc_terms.specs.declared.values.Value.TheVariants.{Nil};
 ghost use Rattle.dioc_terms.specs.Expressions.{Const, expression};
+ghost use Rattle.dioc_terms.specs.Plain.{plain, plain_rule};
 ghost use Rattle.dioc_terms.specs.Terms.{Set, index_at, term};
 ghost use Rattle.rule_book.specs.KeptBooks.{coming};
 
@@ -84,7 +85,7 @@ fn body(alloc: Global, letter: u8) -> Result<Choreo, NameFault>
 fn rule(alloc: Global, letter: u8, priority: u8, is_key: bool, role: u8) -> Result<Rule, NameFault>
     requires named { is_identifier (letter ∷ []) ≡ true }
     requires by_role { is_identifier (role ∷ []) ≡ true }
-    ensures { IfOk result IsFormedRule }
+    ensures { IfOk result (λ rule. IsFormedRule (plain_rule rule)) }
 {
     let name = name(alloc, letter)?;
     let cond = condition(alloc, is_key)?;
@@ -98,7 +99,7 @@ fn rule(alloc: Global, letter: u8, priority: u8, is_key: bool, role: u8) -> Resu
 }
 
 fn rules(alloc: Global) -> Result<Vec<Rule>, Fail>
-    ensures formed { IfOk result (λ rules. All IsFormedRule rules.items) }
+    ensures formed { IfOk result (λ rules. All IsFormedRule (map plain_rule rules.items)) }
     ensures count { IfOk result (λ rules. length rules.items ≡ 6) }
 {
     let mut rules = Vec::new(alloc);
@@ -152,7 +153,7 @@ fn script(alloc: Global) -> Result<Vec<Timed>, Fail>
 }
 
 fn bundle(alloc: Global) -> Result<Bundle, Fail>
-    ensures { IfOk result IsFormed }
+    ensures { IfOk result (λ bundle. IsFormed (plain bundle)) }
 {
     let script = script(alloc)?;
     let rules = rules(alloc)?;
@@ -161,11 +162,11 @@ fn bundle(alloc: Global) -> Result<Bundle, Fail>
 
 /// The bundle of these rules and this script, with nothing beside them.
 fn assembled(alloc: Global, rules: Vec<Rule>, script: Vec<Timed>) -> Bundle
-    requires formed_rules { All IsFormedRule rules.items }
+    requires formed_rules { All IsFormedRule (map plain_rule rules.items) }
     requires six { length rules.items ≡ 6 }
     requires two_adds { adds script.items ≡ 4 ∷ 5 ∷ [] }
     requires formed_script { list_all is_formed_timed script.items ≡ true }
-    ensures { IsFormed result }
+    ensures { IsFormed (plain result) }
 {
     Bundle {
         version: 2,
@@ -230,7 +231,7 @@ fn states(alloc: Global, book: &mut Book, script: &[Timed]) -> Result<Vec<State>
 }
 
 fn run(alloc: Global, bundle: &Bundle) -> Result<Vec<State>, Fail>
-    requires { IsFormed bundle.now }
+    requires { IsFormed (plain bundle.now) }
 {
     let mut book = Book::new(alloc, bundle)?;
     states(alloc, &mut book, bundle.script.as_slice())

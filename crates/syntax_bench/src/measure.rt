@@ -2,7 +2,8 @@
 
 use crate::texts::{STATEMENTS, Statement, make_text};
 use aioc_tokens::tokens;
-use dioc_syntax::{LONGEST, read_choreo};
+use dioc_syntax::read_choreo;
+use dioc_terms::MOST_BYTES;
 use std::alloc::Global;
 use std::io;
 use std::time::Instant;
@@ -69,7 +70,7 @@ fn least_time(rt: &HostRuntime, text: &[u8]) -> io::Result<u64> {
 
 // Whether the text is a choreography to its end.
 fn read_whole(alloc: Global, text: &[u8]) -> bool {
-    if text.len() > LONGEST {
+    if text.len() > MOST_BYTES {
         return false;
     }
     let tokens = match tokens(alloc, text) {

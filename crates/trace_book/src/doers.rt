@@ -1,28 +1,11 @@
-//! What an entry is to a history: auxiliary or visible, and whose.
+//! Whose an entry is.
 
 ghost use Rattle.std.specs.Prelude.{◌≡◌};
 ghost use Rattle.std.specs.Option.{option_copied};
-ghost use Rattle.dioc_terms.specs.Messages.{is_aux_tag, is_aux, doer};
+ghost use Rattle.dioc_terms.specs.Messages.{doer};
 ghost use Rattle.trace_book.specs.Histories.{is_of};
 
-use dioc_terms::{Entry, Role, Tag};
-
-/// Whether the entry puts or takes an auxiliary message.
-pub(crate) fn is_aux(entry: &Entry) -> bool
-    ensures { result ≡ is_aux entry.now }
-{
-    match entry {
-        Entry::Put { key, .. } | Entry::Take { key, .. } => is_aux_tag(&key.tag),
-        _ => false,
-    }
-}
-
-/// Whether the tag is none of an operation.
-fn is_aux_tag(tag: &Tag) -> bool
-    ensures { result ≡ is_aux_tag tag.now }
-{
-    !matches!(tag, Tag::Op(_))
-}
+use dioc_terms::{Entry, Role};
 
 /// Whether the entry is one of that role.
 pub(crate) fn is_of(entry: &Entry, role: &Role) -> bool

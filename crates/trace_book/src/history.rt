@@ -5,7 +5,7 @@ ghost use Rattle.std.specs.Option.{option_copied};
 ghost use Rattle.dioc_terms.specs.Messages.{visible};
 ghost use Rattle.trace_book.specs.Histories.{is_of};
 
-use crate::doers::{is_aux, is_of};
+use crate::doers::is_of;
 use dioc_terms::{Entry, Memory, Role};
 use std::alloc::Global;
 use std::marker::Model;
@@ -66,7 +66,8 @@ impl History {
         ensures pushed { self.new.entries ≡ self.old.entries ++ entry ∷ [] }
         ensures room_left { self.old.room ≤ self.new.room + 1 }
     {
-        if !is_aux(&entry) {
+        let is_visible = !entry.is_aux();
+        if is_visible {
             self.visible_count += 1;
         }
         self.entries.push(entry).unwrap();
@@ -110,7 +111,7 @@ impl History {
         let mut history = History::new(*self.entries.allocator());
         let entries = self.entries.as_slice();
         for entry in entries {
-            if !is_aux(entry) {
+            if !entry.is_aux() {
                 history.push_copy(entry)?;
             }
         }

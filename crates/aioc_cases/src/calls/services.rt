@@ -4,7 +4,7 @@ use crate::cases::Case;
 use crate::problems::Problem;
 use crate::tables::write_lines;
 use aioc_io::{MemSink, MemSource};
-use aioc_top::serve;
+use aioc_top::serve_alone;
 use dioc_terms::Memory;
 use std::alloc::Global;
 use text_pieces::{write_bytes, write_number};
@@ -18,7 +18,7 @@ pub fn answer(alloc: Global, case: &Case, out: &mut Vec<u8>) -> Result<(), Probl
     let mut source = MemSource::new(input, PIECE, Vec::new(alloc));
     let mut printed = MemSink::new(alloc, PIECE, Vec::new(alloc));
     let mut said = MemSink::new(alloc, PIECE, Vec::new(alloc));
-    let status = serve(alloc, &case.options, &mut source, &mut printed, &mut said);
+    let status = serve_alone(alloc, &case.options, &mut source, &mut printed, &mut said);
     write_bytes(b"code ", out)?;
     write_number(u64::from(status.code()), out)?;
     write_bytes(b"\n", out)?;

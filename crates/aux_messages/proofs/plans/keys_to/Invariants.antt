@@ -1,6 +1,6 @@
 -- The keys so far are those to the others so far.
 use Rattle.std.proofs.Common.{◌≡◌, map, take}
-use Rattle.dpoc_process.specs.Steps.{key}
+use Rattle.process_steps.specs.Steps.{key}
 use Rattle.aux_messages.proofs.plans.keys_to.Given as goal
 
 abbrev pub invariant-loop-other : goal.invariant-loop-other

@@ -1,6 +1,6 @@
 -- What the looks show, said of the bytes.
 use Rattle.std.proofs.Common.{◌≡◌, ◌≢◌, ℕ, List, Err, refl, subst, ap, ◌∙◌}
-use Rattle.dioc_terms.specs.declared.bundles.Bundle.{Bundle}
+use Rattle.dioc_terms.specs.Plain.{PlainBundle, plain}
 use Rattle.aioc_tokens.specs.Lexemes.{Lexeme, lexemes}
 use Rattle.dioc_syntax.specs.declared.bundle.Stop.{Stop}
 use Rattle.dioc_syntax.specs.declared.bundle.Stop.TheVariants as stop
@@ -15,16 +15,16 @@ returns-in-Err-BadByte-clause-syntax c =
 
 pub returns-in-Ok-bundle_at-clause-formed : goal.returns-in-Ok-bundle_at-clause-formed
 returns-in-Ok-bundle_at-clause-formed c =
-    read_formed c.args.bytes.now (lexemes c.args.bytes.now c.in-Ok.tokens.items) c.in-Ok-bundle_at.bundle
+    read_formed c.args.bytes.now (lexemes c.args.bytes.now c.in-Ok.tokens.items) (plain c.in-Ok-bundle_at.bundle)
     (record { tokens = c.in-Ok.tokens.items; lexes = c.in-Ok.ensures.found; lexemes_are = refl })
-    (subst (λ l. IsBundle l c.in-Ok-bundle_at.bundle) (c.new.ensures ∙ ap (lexemes c.args.bytes.now) c.deref.ensures.value) c.in-Ok-bundle_at.ensures.found)
+    (subst (λ l. IsBundle l (plain c.in-Ok-bundle_at.bundle)) (c.new.ensures ∙ ap (lexemes c.args.bytes.now) c.deref.ensures.value) c.in-Ok-bundle_at.ensures.found)
 
 -- the reader stopped near a place, so it has no other answer
-stopped : (s : Stop) (at : ℕ) (text : List Lexeme) → (s ≢ stop.Memory → (b : Bundle) → IsBundle text b → ⊥) → s ≡ stop.Near at → (b : Bundle) → IsBundle text b → ⊥
+stopped : (s : Stop) (at : ℕ) (text : List Lexeme) → (s ≢ stop.Memory → (b : PlainBundle) → IsBundle text b → ⊥) → s ≡ stop.Near at → (b : PlainBundle) → IsBundle text b → ⊥
 stopped s at text told is b = told (λ e. cc) b
 
 pub returns-in-Err-Near-clause-syntax : goal.returns-in-Err-Near-clause-syntax
 returns-in-Err-Near-clause-syntax c = λ other.
     spells_none c.args.bytes.now c.in-Ok.tokens.items c.in-Ok.ensures.found
-    (subst (λ l. (b : Bundle) → IsBundle l b → ⊥) (c.new.ensures ∙ ap (lexemes c.args.bytes.now) c.deref.ensures.value)
+    (subst (λ l. (b : PlainBundle) → IsBundle l b → ⊥) (c.new.ensures ∙ ap (lexemes c.args.bytes.now) c.deref.ensures.value)
     (stopped c.in-Err-Near.field-0 c.in-Err-Near.at c.new.result c.in-Err-Near.ensures.stopped c.in-Err-Near.field-0-is))

@@ -1,4 +1,5 @@
-use Rattle.std.proofs.Common.{◌∙◌, ap, sym, subst, add-one}
+use Rattle.std.proofs.Common.{◌∙◌, ap, map, sym, subst, add-one}
+use Rattle.dioc_terms.specs.Plain.{plain_rule}
 use Rattle.dioc_terms.specs.Rules.{added, opening_order}
 use Rattle.rule_book.specs.Kept.{order_of, AreKept}
 use Rattle.rule_book.proofs.OrderLemmas.{order_of-added, kept-insert_entry}
@@ -6,7 +7,7 @@ use Rattle.rule_book.proofs.keeping.keep_opening.Goals as goal
 
 pub loop-number-preserved : goal.loop-number-preserved
 loop-number-preserved c =
-    let rules = c.args.rules.now in
+    let rules = map plain_rule c.args.rules.now in
     let before = c.loop-number.kept.entries in
     let kept = c.loop-number.invariant in
     let rule = c.in_ok-name.ensures in

@@ -1,10 +1,11 @@
-use Rattle.std.proofs.Common.{◌≡◌, ◌∙◌, ◌+◌, ℕ, [], ◌∷◌, ◌++◌, Bool, true, false, length, ap, refl}
+use Rattle.std.proofs.Common.{◌≡◌, ◌∙◌, ◌+◌, ℕ, [], ◌∷◌, ◌++◌, Bool, true, false, length, map, ap, refl}
 use Rattle.std.specs.List.{list_all}
-use Rattle.std.proofs.lemmas.List.{length_push}
+use Rattle.std.proofs.lemmas.List.{length_push, map-append}
 use Rattle.std.proofs.lemmas.List.Elements.{All-same, All-push}
 use Rattle.std.proofs.lemmas.List.Sums.{AllPass-from_list_all}
 use Rattle.dioc_terms.specs.Bundles.{IsFormedRule, is_identifier}
 use Rattle.dioc_terms.specs.Names.{is_reserved, reserved_words}
+use Rattle.dioc_terms.specs.Plain.{plain_rule}
 use Rattle.rule_book.specs.declared.tests.TheConstants.{RULES}
 use Rattle.rule_book.proofs.tests.rules.Goals as goal
 
@@ -30,6 +31,6 @@ loop-letter-preserved c =
     let rule = c.in_ok-rule.field-0 in
     let items = c.in_ok-push.ensures.items in
     record {
-      formed = All-same IsFormedRule c.push.new.self.items (before ++ rule ∷ []) items (All-push IsFormedRule before rule c.loop-letter.invariant.formed c.in_ok-rule.ensures);
+      formed = All-same IsFormedRule (map plain_rule c.push.new.self.items) (map plain_rule before ++ plain_rule rule ∷ []) (ap (map plain_rule) items ∙ map-append plain_rule before (rule ∷ [])) (All-push IsFormedRule (map plain_rule before) (plain_rule rule) c.loop-letter.invariant.formed c.in_ok-rule.ensures);
       count = ap length items ∙ (length_push before rule ∙ ap (λ n. n + 1) c.loop-letter.invariant.count);
     }

@@ -1,0 +1,73 @@
+-- What comes of a command and the bytes that were read, from what its parts answered.
+use Rattle.std.proofs.Common.{◌≡◌, ◌<◌, ◌≤◌, ℕ, suc, List, length, Option, Some, None, IfSome, Result, Ok, Err, IfErr, refl, sym, subst, arith}
+use Rattle.std.specs.Prelude.{replicate}
+use Rattle.std.proofs.lemmas.List.{length-replicate}
+use Rattle.std.specs.Io.KnownBytes.{IsAtEnd}
+use Rattle.aioc_io.specs.Source.{SourceState}
+use Rattle.dioc_terms.specs.Limits.{most_bytes}
+use Rattle.dioc_terms.specs.Plain.{PlainBundle}
+use Rattle.dioc_syntax.specs.Grammar.{Spells, SpellsNone}
+use Rattle.command_words.specs.declared.commands.Command.{Command}
+use Rattle.aioc_top.specs.Calls.{IsRead}
+use Rattle.aioc_top.specs.Faults.{IsJudgedSo, IsRefusedSo, IsSyntaxFault, ReadSo, Stops}
+use Rattle.aioc_top.specs.Replies.{Reply, Replies, reply_of}
+use Rattle.aioc_top.specs.Verdicts.{Verdict, TooLong, Unspelled, Refused, Replied, Answered, Comes}
+use Rattle.aioc_top.specs.declared.faults.Fault.{Fault}
+use Rattle.aioc_top.specs.declared.faults.Fault.TheVariants as fault
+use Rattle.aioc_top.specs.declared.replies.Written.{Written}
+use Rattle.aioc_top.proofs.Clauses.{mapped}
+
+pub mapped_fault : {A E : Type 0} {P Q : E → Type 0} → ((e : E) → P e → Q e) → (r : Result A E) → IfErr r P → IfErr r Q
+mapped_fault f (Ok x) h = h
+mapped_fault f (Err e) h = f e h
+
+pub syntax_is : (asked : Command) (bytes : List ℕ) (byte : ℕ) (f : Fault) → length bytes ≤ most_bytes → SpellsNone bytes → IsSyntaxFault byte f → IsJudgedSo asked bytes f
+syntax_is asked bytes byte (fault.Syntax line) small none h = (byte, (small, none), h)
+syntax_is asked bytes byte fault.Memory small none h = h
+syntax_is asked bytes byte fault.Usage small none h = absurd h
+syntax_is asked bytes byte fault.ReadFault small none h = absurd h
+syntax_is asked bytes byte fault.WriteFault small none h = absurd h
+syntax_is asked bytes byte fault.TooLong small none h = absurd h
+syntax_is asked bytes byte (fault.Refused line) small none h = absurd h
+
+pub refused_is : (asked : Command) (bytes : List ℕ) (b : PlainBundle) → Spells bytes b → (f : Fault) → IsRefusedSo asked b f → IsJudgedSo asked bytes f
+refused_is asked bytes b spells (fault.Refused line) h = (h.0, record { bundle = b; spells = spells; refused = h.1 }, h.2)
+refused_is asked bytes b spells fault.Memory h = h
+refused_is asked bytes b spells fault.Usage h = absurd h
+refused_is asked bytes b spells fault.ReadFault h = absurd h
+refused_is asked bytes b spells fault.WriteFault h = absurd h
+refused_is asked bytes b spells fault.TooLong h = absurd h
+refused_is asked bytes b spells (fault.Syntax line) h = absurd h
+
+pub answered_is : (asked : Command) (bytes : List ℕ) (b : PlainBundle) → Spells bytes b → (written : Written) → Answered asked b written
+    → Comes asked bytes (Replied (reply_of written))
+answered_is asked bytes b spells written h = record { bundle = b; spells = spells; accepted = h.accepted; replies = h.replies }
+
+-- the bytes that were read are the source's, where it tells them
+pub is_read : (source : SourceState) (all : List ℕ) → IfSome source.left (λ told. all ≡ told) → IsRead source all
+is_read source all h = mapped (λ told e. sym e) source.left h
+
+-- the fault of the bytes that were read
+pub stops : (asked : Command) (source source_after : SourceState) (all : List ℕ) → IsRead source all → IsAtEnd source_after.left
+    → (f : Fault) → IsJudgedSo asked all f → Stops asked source source_after f
+stops asked source source_after all read end (fault.Syntax line) h = (h.0, record { bytes = all; read = read; to_end = end; comes = h.1 }, h.2)
+stops asked source source_after all read end (fault.Refused line) h = (h.0, record { bytes = all; read = read; to_end = end; comes = h.1 }, h.2)
+stops asked source source_after all read end fault.Memory h = h
+stops asked source source_after all read end fault.Usage h = absurd h
+stops asked source source_after all read end fault.ReadFault h = absurd h
+stops asked source source_after all read end fault.WriteFault h = absurd h
+stops asked source source_after all read end fault.TooLong h = absurd h
+
+-- some bytes are as long as is asked
+long_enough : (n : ℕ) → (bytes : List ℕ) × (n < length bytes)
+long_enough n = (replicate (suc n) 0, omega (arith, length-replicate (suc n) 0))
+
+too_many : (left : Option (List ℕ)) → IfSome left (λ told. most_bytes < length told) → (bytes : List ℕ) × IfSome left (λ told. told ≡ bytes) × (most_bytes < length bytes)
+too_many None h = let long = long_enough most_bytes in (long.0, tt, long.1)
+too_many (Some told) h = (told, refl, h)
+
+-- more bytes were given than are allowed, whether the source tells them or not
+pub too_long : (asked : Command) (source source_after : SourceState) → IfSome source.left (λ told. most_bytes < length told) → ReadSo asked source source_after TooLong
+too_long asked source source_after h =
+    let many = too_many source.left h in
+    record { bytes = many.0; read = many.1; to_end = tt; comes = many.2 }

@@ -1,0 +1,53 @@
+-- Each clause, from what the call did and from what the crates below prove.
+use Rattle.std.proofs.Common.{refl}
+use Rattle.aioc_top.specs.declared.status.Status.TheVariants as status
+use Rattle.aioc_top.proofs.Asked as asking
+use Rattle.aioc_top.proofs.Clauses as clauses
+use Rattle.aioc_top.proofs.service.serve_alone.Goals as goal
+
+pub returns-clause-step_text : goal.returns-clause-step_text
+returns-clause-step_text g c options is prints =
+    clauses.step_text c.know_laws.ensures.formed c.know_laws.ensures.every_run c.know_laws.ensures.sound options _ c.do_words.result c.do_words.ensures is prints
+
+pub returns-clause-headline : goal.returns-clause-headline
+returns-clause-headline g c options is prints =
+    (clauses.step_text c.know_laws.ensures.formed c.know_laws.ensures.every_run c.know_laws.ensures.sound options _ c.do_words.result c.do_words.ensures is prints).0
+
+pub returns-clause-usage : goal.returns-clause-usage
+returns-clause-usage g c = clauses.usage _ c.do_words.result c.do_words.ensures
+
+pub returns-clause-done : goal.returns-clause-done
+returns-clause-done g c = clauses.comes_exactly c.know_laws.ensures.one _ (asking.asked_built _) status.Done c.do_words.result refl c.do_words.ensures
+
+pub returns-clause-limit : goal.returns-clause-limit
+returns-clause-limit g c = clauses.comes_exactly c.know_laws.ensures.one _ (asking.asked_built _) status.Limit c.do_words.result refl c.do_words.ensures
+
+pub returns-clause-no : goal.returns-clause-no
+returns-clause-no g c = clauses.comes_exactly c.know_laws.ensures.one _ (asking.asked_built _) status.No c.do_words.result refl c.do_words.ensures
+
+pub returns-clause-too_long : goal.returns-clause-too_long
+returns-clause-too_long g c = clauses.comes_exactly c.know_laws.ensures.one _ (asking.asked_built _) status.TooLong c.do_words.result refl c.do_words.ensures
+
+pub returns-clause-syntax : goal.returns-clause-syntax
+returns-clause-syntax g c = clauses.comes_exactly c.know_laws.ensures.one _ (asking.asked_built _) status.Syntax c.do_words.result refl c.do_words.ensures
+
+pub returns-clause-refused : goal.returns-clause-refused
+returns-clause-refused g c = clauses.comes_exactly c.know_laws.ensures.one _ (asking.asked_built _) status.Refused c.do_words.result refl c.do_words.ensures
+
+pub returns-clause-read_fault : goal.returns-clause-read_fault
+returns-clause-read_fault g c = clauses.read_fault _ c.do_words.result c.do_words.ensures
+
+pub returns-clause-write_fault : goal.returns-clause-write_fault
+returns-clause-write_fault g c = clauses.write_fault _ c.do_words.result c.do_words.ensures
+
+pub returns-clause-complete : goal.returns-clause-complete
+returns-clause-complete g c = clauses.complete c.know_laws.ensures.one _ (asking.asked_built _) c.do_words.result c.do_words.ensures
+
+pub returns-clause-reads_all : goal.returns-clause-reads_all
+returns-clause-reads_all g c = clauses.reads_all _ c.do_words.result c.do_words.ensures
+
+pub returns-clause-silent : goal.returns-clause-silent
+returns-clause-silent g c = clauses.silent _ c.do_words.result c.do_words.ensures
+
+pub returns-clause-says : goal.returns-clause-says
+returns-clause-says g c = clauses.says _ c.do_words.result c.do_words.ensures

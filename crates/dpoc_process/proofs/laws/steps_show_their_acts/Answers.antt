@@ -1,5 +1,0 @@
-use Rattle.dpoc_process.proofs.Lemmas.{steps-show_their_acts}
-use Rattle.dpoc_process.proofs.laws.steps_show_their_acts.Goals as goal
-
-pub returns : goal.returns
-returns c = steps-show_their_acts
