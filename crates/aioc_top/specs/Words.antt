@@ -1,13 +1,8 @@
 -- Which commands are built, and which of them words ask for.
-use Rattle.std.specs.Prelude.{ℕ, List, map, Vec, Bool, true, false, ◌&&◌, not, is_none, Option, Some, None, option_and_then, if◌then◌else◌}
-use Rattle.std.specs.declared.alloc.Global.{Global}
+use Rattle.std.specs.Prelude.{ℕ, List, Bool, false, ◌&&◌, not, is_none, Option, Some, None, option_and_then, if◌then◌else◌}
 use Rattle.command_words.specs.Commands.{command_of}
 use Rattle.command_words.specs.declared.commands.Command.{Command}
 use Rattle.command_words.specs.declared.commands.Command.TheVariants as command
-
--- the bytes of the words
-abbrev pub spelled : List (Vec ℕ Global) → List (List ℕ)
-spelled words = map (λ word. word.items) words
 
 -- the commands that are built: `step`, without a seed and without JSON lines
 abbrev pub is_built : Command → Bool

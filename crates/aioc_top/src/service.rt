@@ -9,7 +9,8 @@ ghost use Rattle.aioc_top.specs.Calls.{Happens, PrintsReply, SaysLine};
 ghost use Rattle.aioc_top.specs.Faults.{line_of, status_of};
 ghost use Rattle.aioc_top.specs.Replies.{reply_of};
 ghost use Rattle.aioc_top.specs.Serve.{ComesExactly, Complete, HeadlineHolds, ReadsAll, SaysWhy, Silent, StepText, UsageComes};
-ghost use Rattle.aioc_top.specs.Words.{asked, is_built, spelled};
+ghost use Rattle.aioc_top.specs.Words.{asked, is_built};
+ghost use Rattle.command_words.specs.Commands.{spelled};
 
 use crate::faults::Fault;
 use crate::reading::answer;

@@ -1,7 +1,8 @@
 //! The words of the command line, and which commands are built.
 
-ghost use Rattle.std.specs.Prelude.{◌≡◌, IfOk};
-ghost use Rattle.aioc_top.specs.Words.{asked, is_built, spelled};
+ghost use Rattle.std.specs.Prelude.{◌≡◌, Some, None, if◌then◌else◌, IfOk};
+ghost use Rattle.command_words.specs.Commands.{spelled};
+ghost use Rattle.aioc_top.specs.Words.{asked, is_built};
 
 use command_words::{Command, read_words};
 use dioc_terms::Memory;
