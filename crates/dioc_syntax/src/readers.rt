@@ -21,8 +21,8 @@ use crate::steps::named_step_at;
 use aioc_tokens::{Punctuator, Sort, Word};
 use dioc_terms::{Choreo, Memory, Role, give_up};
 
-/// The longest choreography at a place of the text that goes no further than it may, or `None` where
-/// none stands there. It is marked as its text is. The error says that memory ran out.
+/// The longest choreography at a place of the text that goes no further than it may, or `None`
+/// where none stands there. It is marked as its text is. The error says that memory ran out.
 ///
 /// ```text
 /// choreo = seq { "|" seq }
