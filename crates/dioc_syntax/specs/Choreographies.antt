@@ -114,17 +114,17 @@ pub data Stands (version : ℕ) : Form → ℕ → ℕ → List Lexeme → Term 
       {operation sender receiver variable : List ℕ} {value : Expression}
       → room ≡ suc left
       → from ≡ Name operation ∷ Symbol punctuator.Colon ∷ Name sender ∷ Symbol punctuator.LeftParen
-          ∷ sent
+      ∷ sent
       → IsExpression kind.Step left sent value received
       → received ≡ Symbol punctuator.RightParen ∷ Symbol punctuator.Arrow ∷ Name receiver
-          ∷ Symbol punctuator.LeftParen ∷ Name variable ∷ Symbol punctuator.RightParen ∷ to
+      ∷ Symbol punctuator.LeftParen ∷ Name variable ∷ Symbol punctuator.RightParen ∷ to
       → Stands version Step room earlier from
-          (Com (index_at earlier) operation (role sender) value (role receiver) variable) to
+      (Com (index_at earlier) operation (role sender) value (role receiver) variable) to
   --      | name "@" name "=" "input" "(" ")"
   input : {room left earlier : ℕ} {from to : List Lexeme} {variable owner : List ℕ}
       → room ≡ suc left
       → from ≡ Name variable ∷ Symbol punctuator.At ∷ Name owner ∷ Symbol punctuator.Equal
-          ∷ Reserved word.Input ∷ Symbol punctuator.LeftParen ∷ Symbol punctuator.RightParen ∷ to
+      ∷ Reserved word.Input ∷ Symbol punctuator.LeftParen ∷ Symbol punctuator.RightParen ∷ to
       → Stands version Step room earlier from (Input (index_at earlier) variable (role owner)) to
   --      | name "@" name "=" expr
   assignment : {room earlier : ℕ} {from given to : List Lexeme} {variable owner : List ℕ}
@@ -132,7 +132,7 @@ pub data Stands (version : ℕ) : Form → ℕ → ℕ → List Lexeme → Term 
       → from ≡ Name variable ∷ Symbol punctuator.At ∷ Name owner ∷ Symbol punctuator.Equal ∷ given
       → IsExpression kind.Step room given value to
       → Stands version Step room earlier from
-          (Set (index_at earlier) variable (role owner) value) to
+      (Set (index_at earlier) variable (role owner) value) to
   --      | "if" expr "@" name "{" choreo "}" [ "else" "{" choreo "}" ]
   choice : {room earlier : ℕ} {from guarded head body behind to : List Lexeme} {leader : List ℕ}
       {guard : Expression} {first second : Term}
@@ -142,7 +142,7 @@ pub data Stands (version : ℕ) : Form → ℕ → ℕ → List Lexeme → Term 
       → Stands version Block room (suc earlier) body first behind
       → Stands version Otherwise room (suc earlier + constructs first) behind second to
       → Stands version Step room earlier from
-          (If (index_at earlier) (role leader) guard first second) to
+      (If (index_at earlier) (role leader) guard first second) to
   --      | "while" expr "@" name "{" choreo "}"
   loop : {room earlier : ℕ} {from guarded head body to : List Lexeme} {leader : List ℕ}
       {guard : Expression} {inner : Term}
@@ -151,7 +151,7 @@ pub data Stands (version : ℕ) : Form → ℕ → ℕ → List Lexeme → Term 
       → head ≡ Symbol punctuator.At ∷ Name leader ∷ body
       → Stands version Block room (suc earlier) body inner to
       → Stands version Step room earlier from
-          (While (index_at earlier) (role leader) guard inner) to
+      (While (index_at earlier) (role leader) guard inner) to
   --      | "scope" "@" name "{" choreo "}"
   --            [ "roles" "{" name { "," name } "}" ] [ "prop" "{" [ props ] "}" ]
   scope : {room earlier : ℕ} {from body behind after to : List Lexeme} {leader : List ℕ}
@@ -161,7 +161,7 @@ pub data Stands (version : ℕ) : Form → ℕ → ℕ → List Lexeme → Term 
       → HasExtraRoles version behind extra after
       → HasProperties after props to
       → Stands version Step room earlier from
-          (Scope (index_at earlier) (role leader) inner extra props 0) to
+      (Scope (index_at earlier) (role leader) inner extra props 0) to
   --      | "(" choreo ")"
   group : {room left earlier : ℕ} {from inside middle to : List Lexeme} {whole : Term}
       → room ≡ suc left

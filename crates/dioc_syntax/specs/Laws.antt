@@ -58,5 +58,5 @@ WrittenTextIsRead = (version : ℕ) (whole : Term) (found : List Lexeme)
     → IsFormedTerm whole → FitsVersion version whole
     → HasLexemes (spelled (written whole [])) found
     → Longest (IsChoreography version most_brackets found) whole []
-        × ((other : Term) (to : List Lexeme)
-            → Longest (IsChoreography version most_brackets found) other to → other ≡ whole)
+    × ((other : Term) (to : List Lexeme)
+    → Longest (IsChoreography version most_brackets found) other to → other ≡ whole)
