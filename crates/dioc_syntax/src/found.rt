@@ -5,7 +5,7 @@ ghost use Rattle.dioc_terms.specs.Expressions.{expression};
 ghost use Rattle.dioc_terms.specs.Terms.{term, index_at, Seq, Par, If, While, Scope};
 
 use crate::guards::Guard;
-use dioc_terms::{Bindings, Choreo, Index, Memory, Role, Roles};
+use dioc_terms::{Bindings, Choreo, Index, Memory, Role, Roles, new_box};
 use std::alloc::Global;
 
 /// A choreography that was read.
@@ -21,40 +21,31 @@ pub struct FoundChoreo {
     pub next: u32,
 }
 
-/// The value in a box.
-fn boxed<T: Drop>(alloc: Global, value: T) -> Result<Box<T>, Memory>
-    ensures { IfOk result (λ made. made.value ≡ value) }
-{
-    Ok(Box::new(alloc, value)?)
-}
-
-/// Lets go of a value, for want of memory.
-pub fn lost<T: Drop, U: Drop>(_value: T, fault: Memory) -> Result<U, Memory>
-    ensures { result ≡ Err fault }
-{
-    Err(fault)
-}
-
 /// Lets go of what turned out to be no part of a choreography.
-pub fn refused<T: Drop>(_value: T) -> Option<FoundChoreo>
+pub fn nothing_found<T: Drop>(_value: T) -> Option<FoundChoreo>
     ensures { result ≡ None }
 {
     None
 }
 
 /// Two sequences side by side.
-pub fn beside(alloc: Global, first: FoundChoreo, second: FoundChoreo) -> Result<FoundChoreo, Memory>
+pub fn parallel_of(
+    alloc: Global,
+    first: FoundChoreo,
+    second: FoundChoreo,
+) -> Result<FoundChoreo, Memory>
     requires first { first.depth < 2 ^ 64 - 1 }
     requires second { second.depth < 2 ^ 64 - 1 }
-    ensures choreo { IfOk result (λ found. term found.choreo ≡ Par (term first.choreo) (term second.choreo)) }
+    ensures choreo { IfOk result (λ found. term found.choreo
+        ≡ Par (term first.choreo) (term second.choreo)) }
     ensures depth { IfOk result (λ found. found.depth ≡ suc (max first.depth second.depth)) }
     ensures at { IfOk result (λ found. found.at ≡ second.at) }
     ensures next { IfOk result (λ found. found.next ≡ second.next) }
 {
     let depth = first.depth.max(second.depth) + 1;
     let (at, next) = (second.at, second.next);
-    let first = boxed(alloc, first.choreo)?;
-    let second = boxed(alloc, second.choreo)?;
+    let first = new_box(alloc, first.choreo)?;
+    let second = new_box(alloc, second.choreo)?;
     Ok(FoundChoreo {
         choreo: Choreo::Par(first, second),
         depth,
@@ -64,22 +55,23 @@ pub fn beside(alloc: Global, first: FoundChoreo, second: FoundChoreo) -> Result<
 }
 
 /// A step and the sequence after it.
-pub fn in_turn(
+pub fn sequence_of(
     alloc: Global,
     first: FoundChoreo,
     second: FoundChoreo,
 ) -> Result<FoundChoreo, Memory>
     requires first { first.depth < 2 ^ 64 - 1 }
     requires second { second.depth < 2 ^ 64 - 1 }
-    ensures choreo { IfOk result (λ found. term found.choreo ≡ Seq (term first.choreo) (term second.choreo)) }
+    ensures choreo { IfOk result (λ found. term found.choreo
+        ≡ Seq (term first.choreo) (term second.choreo)) }
     ensures depth { IfOk result (λ found. found.depth ≡ suc (max first.depth second.depth)) }
     ensures at { IfOk result (λ found. found.at ≡ second.at) }
     ensures next { IfOk result (λ found. found.next ≡ second.next) }
 {
     let depth = first.depth.max(second.depth) + 1;
     let (at, next) = (second.at, second.next);
-    let first = boxed(alloc, first.choreo)?;
-    let second = boxed(alloc, second.choreo)?;
+    let first = new_box(alloc, first.choreo)?;
+    let second = new_box(alloc, second.choreo)?;
     Ok(FoundChoreo {
         choreo: Choreo::Seq(first, second),
         depth,
@@ -89,7 +81,7 @@ pub fn in_turn(
 }
 
 /// A choice between two branches.
-pub fn choice(
+pub fn choice_of(
     alloc: Global,
     guard: Guard,
     earlier: u32,
@@ -98,15 +90,17 @@ pub fn choice(
 ) -> Result<FoundChoreo, Memory>
     requires first { first.depth < 2 ^ 64 - 1 }
     requires second { second.depth < 2 ^ 64 - 1 }
-    ensures choreo { IfOk result (λ found. term found.choreo ≡ If (index_at earlier) guard.leader (expression guard.expr) (term first.choreo) (term second.choreo)) }
+    ensures choreo { IfOk result (λ found. term found.choreo
+        ≡ If (index_at earlier) guard.leader (expression guard.expr) (term first.choreo)
+        (term second.choreo)) }
     ensures depth { IfOk result (λ found. found.depth ≡ suc (max first.depth second.depth)) }
     ensures at { IfOk result (λ found. found.at ≡ second.at) }
     ensures next { IfOk result (λ found. found.next ≡ second.next) }
 {
     let depth = first.depth.max(second.depth) + 1;
     let (at, next) = (second.at, second.next);
-    let yes = boxed(alloc, first.choreo)?;
-    let no = boxed(alloc, second.choreo)?;
+    let yes = new_box(alloc, first.choreo)?;
+    let no = new_box(alloc, second.choreo)?;
     Ok(FoundChoreo {
         choreo: Choreo::If {
             index: Index {
@@ -125,20 +119,21 @@ pub fn choice(
 }
 
 /// A loop around its body.
-pub fn turns(
+pub fn loop_of(
     alloc: Global,
     guard: Guard,
     earlier: u32,
     inner: FoundChoreo,
 ) -> Result<FoundChoreo, Memory>
     requires { inner.depth < 2 ^ 64 - 1 }
-    ensures choreo { IfOk result (λ found. term found.choreo ≡ While (index_at earlier) guard.leader (expression guard.expr) (term inner.choreo)) }
+    ensures choreo { IfOk result (λ found. term found.choreo
+        ≡ While (index_at earlier) guard.leader (expression guard.expr) (term inner.choreo)) }
     ensures depth { IfOk result (λ found. found.depth ≡ suc inner.depth) }
     ensures at { IfOk result (λ found. found.at ≡ inner.at) }
     ensures next { IfOk result (λ found. found.next ≡ inner.next) }
 {
     let (depth, at, next) = (inner.depth + 1, inner.at, inner.next);
-    let body = boxed(alloc, inner.choreo)?;
+    let body = new_box(alloc, inner.choreo)?;
     Ok(FoundChoreo {
         choreo: Choreo::While {
             index: Index {
@@ -166,20 +161,21 @@ pub struct ScopeParts {
 }
 
 /// A scope around its body.
-pub fn scoped(
+pub fn scope_of(
     alloc: Global,
     parts: ScopeParts,
     earlier: u32,
     inner: FoundChoreo,
 ) -> Result<FoundChoreo, Memory>
     requires { inner.depth < 2 ^ 64 - 1 }
-    ensures choreo { IfOk result (λ found. term found.choreo ≡ Scope (index_at earlier) parts.leader (term inner.choreo) parts.extra parts.props 0) }
+    ensures choreo { IfOk result (λ found. term found.choreo
+        ≡ Scope (index_at earlier) parts.leader (term inner.choreo) parts.extra parts.props 0) }
     ensures depth { IfOk result (λ found. found.depth ≡ suc inner.depth) }
     ensures at { IfOk result (λ found. found.at ≡ parts.at) }
     ensures next { IfOk result (λ found. found.next ≡ inner.next) }
 {
     let (depth, next) = (inner.depth + 1, inner.next);
-    let body = boxed(alloc, inner.choreo)?;
+    let body = new_box(alloc, inner.choreo)?;
     Ok(FoundChoreo {
         choreo: Choreo::Scope {
             index: Index {

@@ -5,63 +5,47 @@ ghost use Rattle.aioc_tokens.specs.declared.words.Sort.{Sort};
 ghost use Rattle.aioc_tokens.specs.declared.words.Word.{Word};
 ghost use Rattle.aioc_tokens.specs.declared.words.Punctuator.{Punctuator};
 ghost use Rattle.aioc_tokens.specs.Lexemes.{sort_of};
+ghost use Rattle.dioc_terms.specs.Limits.{greatest_place};
 ghost use Rattle.dioc_terms.specs.Terms.{term, Skip};
-ghost use Rattle.dioc_syntax.specs.Choreographies.{Choreography, Sequence, Step, Block, Otherwise, IsShallow};
-ghost use Rattle.dioc_syntax.specs.Readers.{one_behind, Finds, FormAt, ScopePartsAt};
+ghost use Rattle.dioc_syntax.specs.Choreographies.{Choreography, Sequence, Step, Block};
+ghost use Rattle.dioc_syntax.specs.Readers.{one_behind, StandsAt, OtherwiseAt, ScopePartsAt};
 
 use crate::extras::{properties_at, roles_at};
 use crate::found::{
-    FoundChoreo, ScopeParts, beside, choice, in_turn, lost, refused, scoped, turns,
+    FoundChoreo, ScopeParts, choice_of, loop_of, nothing_found, parallel_of, scope_of, sequence_of,
 };
 use crate::guards::guard_at;
 use crate::heads::leader_at;
+use crate::places::{Place, Reader};
 use crate::steps::named_step_at;
-use aioc_tokens::{Lexed, Punctuator, Sort, Word};
-use dioc_terms::{Choreo, Memory, Role};
-use std::alloc::Global;
+use aioc_tokens::{Punctuator, Sort, Word};
+use dioc_terms::{Choreo, Memory, Role, give_up};
 
-/// The longest choreography at a place of the text that is at most `deep` deep, or `None` where none stands there. As many
-/// brackets as `room` may be open in it at once, and `earlier` indexed constructs begin before it in its text: so it is marked.
-/// The error says that memory ran out.
+/// The longest choreography at a place of the text that goes no further than it may, or `None`
+/// where none stands there. It is marked as its text is. The error says that memory ran out.
 ///
 /// ```text
 /// choreo = seq { "|" seq }
 /// ```
 #[cycle(reading)]
-pub fn choreo_at(
-    alloc: Global,
-    text: &Lexed<'_>,
-    version: u32,
-    room: usize,
-    deep: usize,
-    at: usize,
-    earlier: u32,
-) -> Result<Option<FoundChoreo>, Memory>
-    requires { earlier + (length text.now - at) ≤ 4294967295 }
-    ensures { IfOk result (λ found. FormAt version Choreography room deep earlier text.now at found) }
+pub fn choreo_at(reader: &Reader<'_>, place: Place) -> Result<Option<FoundChoreo>, Memory>
+    requires { place.earlier + (length reader.now.text.now - place.at) ≤ greatest_place }
+    ensures { IfOk result (λ found. StandsAt reader.now Choreography place found) }
 {
-    let first = match sequence_at(alloc, text, version, room, deep, at, earlier)? {
+    let first = match sequence_at(reader, place)? {
         Some(first) => first,
         None => return Ok(None),
     };
-    if !text.has(first.at, Sort::Symbol(Punctuator::Bar)) || first.depth == deep {
+    if !reader.text.has(first.at, Sort::Symbol(Punctuator::Bar)) || first.depth == place.deep {
         return Ok(Some(first));
     }
-    match choreo_at(
-        alloc,
-        text,
-        version,
-        room,
-        deep - 1,
-        first.at + 1,
-        first.next,
-    ) {
+    match choreo_at(reader, place.part(first.at + 1, first.next)) {
         Ok(Some(second)) => {
-            let both = beside(alloc, first, second)?;
+            let both = parallel_of(reader.alloc, first, second)?;
             Ok(Some(both))
         }
         Ok(None) => Ok(Some(first)),
-        Err(fault) => lost(first, fault),
+        Err(fault) => give_up(first, fault),
     }
 }
 
@@ -69,48 +53,33 @@ pub fn choreo_at(
 /// seq = step { ";" step } [ ";" ]
 /// ```
 #[cycle(reading)]
-fn sequence_at(
-    alloc: Global,
-    text: &Lexed<'_>,
-    version: u32,
-    room: usize,
-    deep: usize,
-    at: usize,
-    earlier: u32,
-) -> Result<Option<FoundChoreo>, Memory>
-    requires { earlier + (length text.now - at) ≤ 4294967295 }
-    ensures { IfOk result (λ found. FormAt version Sequence room deep earlier text.now at found) }
+fn sequence_at(reader: &Reader<'_>, place: Place) -> Result<Option<FoundChoreo>, Memory>
+    requires { place.earlier + (length reader.now.text.now - place.at) ≤ greatest_place }
+    ensures { IfOk result (λ found. StandsAt reader.now Sequence place found) }
 {
-    let first = match step_at(alloc, text, version, room, deep, at, earlier)? {
+    let text = reader.text;
+    let first = match step_at(reader, place)? {
         Some(first) => first,
         None => return Ok(None),
     };
     if !text.has(first.at, Sort::Symbol(Punctuator::Semicolon)) {
         return Ok(Some(first));
     }
-    if first.depth == deep {
-        return Ok(Some(ended(first)));
+    if first.depth == place.deep {
+        return Ok(Some(one_behind(first)));
     }
-    match sequence_at(
-        alloc,
-        text,
-        version,
-        room,
-        deep - 1,
-        first.at + 1,
-        first.next,
-    ) {
+    match sequence_at(reader, place.part(first.at + 1, first.next)) {
         Ok(Some(second)) => {
-            let both = in_turn(alloc, first, second)?;
+            let both = sequence_of(reader.alloc, first, second)?;
             Ok(Some(both))
         }
-        Ok(None) => Ok(Some(ended(first))),
-        Err(fault) => lost(first, fault),
+        Ok(None) => Ok(Some(one_behind(first))),
+        Err(fault) => give_up(first, fault),
     }
 }
 
 /// What was read, with one token more: the `;` or the bracket behind it.
-fn ended(found: FoundChoreo) -> FoundChoreo
+fn one_behind(found: FoundChoreo) -> FoundChoreo
     requires { found.at < 2 ^ 63 }
     ensures { result ≡ one_behind found }
 {
@@ -124,30 +93,20 @@ fn ended(found: FoundChoreo) -> FoundChoreo
 
 /// One step: what stands between two `;`.
 #[cycle(reading)]
-fn step_at(
-    alloc: Global,
-    text: &Lexed<'_>,
-    version: u32,
-    room: usize,
-    deep: usize,
-    at: usize,
-    earlier: u32,
-) -> Result<Option<FoundChoreo>, Memory>
-    requires { earlier + (length text.now - at) ≤ 4294967295 }
-    ensures { IfOk result (λ found. FormAt version Step room deep earlier text.now at found) }
+fn step_at(reader: &Reader<'_>, place: Place) -> Result<Option<FoundChoreo>, Memory>
+    requires { place.earlier + (length reader.now.text.now - place.at) ≤ greatest_place }
+    ensures { IfOk result (λ found. StandsAt reader.now Step place found) }
 {
-    if deep == 0 {
+    if place.deep == 0 {
         return Ok(None);
     }
-    match text.sort(at) {
-        Sort::Name => named_step_at(alloc, text, room, at, earlier),
-        Sort::Symbol(Punctuator::LeftParen) => group_at(
-            alloc, text, version, room, deep, at, earlier,
-        ),
-        Sort::Reserved(Word::Skip) => Ok(Some(nothing(at + 1, earlier))),
-        Sort::Reserved(Word::If) => branch_at(alloc, text, version, room, deep, at, earlier),
-        Sort::Reserved(Word::While) => loop_at(alloc, text, version, room, deep, at, earlier),
-        Sort::Reserved(Word::Scope) => scope_at(alloc, text, version, room, deep, at, earlier),
+    match reader.text.sort(place.at) {
+        Sort::Name => named_step_at(reader, place),
+        Sort::Symbol(Punctuator::LeftParen) => group_at(reader, place),
+        Sort::Reserved(Word::Skip) => Ok(Some(nothing(place.at + 1, place.earlier))),
+        Sort::Reserved(Word::If) => branch_at(reader, place),
+        Sort::Reserved(Word::While) => loop_at(reader, place),
+        Sort::Reserved(Word::Scope) => scope_at(reader, place),
         _ => Ok(None),
     }
 }
@@ -171,32 +130,26 @@ fn nothing(at: usize, earlier: u32) -> FoundChoreo
 /// "(" choreo ")"
 /// ```
 #[cycle(reading)]
-fn group_at(
-    alloc: Global,
-    text: &Lexed<'_>,
-    version: u32,
-    room: usize,
-    deep: usize,
-    at: usize,
-    earlier: u32,
-) -> Result<Option<FoundChoreo>, Memory>
-    requires sort { sort_of (drop at text.now) ≡ Sort.Symbol Punctuator.LeftParen }
-    requires within { at < length text.now }
-    requires small { length text.now < 2 ^ 63 }
-    requires few { earlier + (length text.now - at) ≤ 4294967295 }
-    ensures { IfOk result (λ found. FormAt version Step room deep earlier text.now at found) }
+fn group_at(reader: &Reader<'_>, place: Place) -> Result<Option<FoundChoreo>, Memory>
+    requires sort { sort_of (drop place.at reader.now.text.now)
+        ≡ Sort.Symbol Punctuator.LeftParen }
+    requires within { place.at < length reader.now.text.now }
+    requires small { length reader.now.text.now < 2 ^ 63 }
+    requires few { place.earlier + (length reader.now.text.now - place.at) ≤ greatest_place }
+    ensures { IfOk result (λ found. StandsAt reader.now Step place found) }
 {
-    if room == 0 {
+    let text = reader.text;
+    if place.room == 0 {
         return Ok(None);
     }
-    let inner = match choreo_at(alloc, text, version, room - 1, deep, at + 1, earlier)? {
+    let inner = match choreo_at(reader, place.inside())? {
         Some(inner) => inner,
         None => return Ok(None),
     };
     if text.has(inner.at, Sort::Symbol(Punctuator::RightParen)) {
-        Ok(Some(ended(inner)))
+        Ok(Some(one_behind(inner)))
     } else {
-        Ok(refused(inner))
+        Ok(nothing_found(inner))
     }
 }
 
@@ -204,29 +157,22 @@ fn group_at(
 /// "{" choreo "}"
 /// ```
 #[cycle(reading)]
-fn block_at(
-    alloc: Global,
-    text: &Lexed<'_>,
-    version: u32,
-    room: usize,
-    deep: usize,
-    at: usize,
-    earlier: u32,
-) -> Result<Option<FoundChoreo>, Memory>
-    requires { earlier + (length text.now - at) ≤ 4294967295 }
-    ensures { IfOk result (λ found. FormAt version Block room deep earlier text.now at found) }
+fn block_at(reader: &Reader<'_>, place: Place) -> Result<Option<FoundChoreo>, Memory>
+    requires { place.earlier + (length reader.now.text.now - place.at) ≤ greatest_place }
+    ensures { IfOk result (λ found. StandsAt reader.now Block place found) }
 {
-    if !text.has(at, Sort::Symbol(Punctuator::LeftBrace)) || room == 0 {
+    let text = reader.text;
+    if !text.has(place.at, Sort::Symbol(Punctuator::LeftBrace)) || place.room == 0 {
         return Ok(None);
     }
-    let inner = match choreo_at(alloc, text, version, room - 1, deep, at + 1, earlier)? {
+    let inner = match choreo_at(reader, place.inside())? {
         Some(inner) => inner,
         None => return Ok(None),
     };
     if text.has(inner.at, Sort::Symbol(Punctuator::RightBrace)) {
-        Ok(Some(ended(inner)))
+        Ok(Some(one_behind(inner)))
     } else {
-        Ok(refused(inner))
+        Ok(nothing_found(inner))
     }
 }
 
@@ -236,62 +182,46 @@ fn block_at(
 /// [ "else" "{" choreo "}" ]
 /// ```
 #[cycle(reading)]
-fn otherwise_at(
-    alloc: Global,
-    text: &Lexed<'_>,
-    version: u32,
-    room: usize,
-    deep: usize,
-    at: usize,
-    earlier: u32,
-) -> Result<FoundChoreo, Memory>
-    requires few { earlier + (length text.now - at) ≤ 4294967295 }
-    requires some { 0 < deep }
-    requires within { at ≤ length text.now }
-    ensures { IfOk result (λ found. Finds (IsShallow version Otherwise room deep earlier) 0 deep earlier text.now at found) }
+fn otherwise_at(reader: &Reader<'_>, place: Place) -> Result<FoundChoreo, Memory>
+    requires few { place.earlier + (length reader.now.text.now - place.at) ≤ greatest_place }
+    requires some { 0 < place.deep }
+    requires within { place.at ≤ length reader.now.text.now }
+    ensures { IfOk result (λ found. OtherwiseAt reader.now place found) }
 {
-    if text.has(at, Sort::Reserved(Word::Else)) {
-        if let Some(found) = block_at(alloc, text, version, room, deep, at + 1, earlier)? {
+    if reader.text.has(place.at, Sort::Reserved(Word::Else)) {
+        if let Some(found) = block_at(reader, place.behind())? {
             return Ok(found);
         }
     }
-    Ok(nothing(at, earlier))
+    Ok(nothing(place.at, place.earlier))
 }
 
 /// ```text
 /// "if" expr "@" name "{" choreo "}" [ "else" "{" choreo "}" ]
 /// ```
 #[cycle(reading)]
-fn branch_at(
-    alloc: Global,
-    text: &Lexed<'_>,
-    version: u32,
-    room: usize,
-    deep: usize,
-    at: usize,
-    earlier: u32,
-) -> Result<Option<FoundChoreo>, Memory>
-    requires sort { sort_of (drop at text.now) ≡ Sort.Reserved Word.If }
-    requires within { at < length text.now }
-    requires small { length text.now < 2 ^ 63 }
-    requires some { 0 < deep }
-    requires few { earlier + (length text.now - at) ≤ 4294967295 }
-    ensures { IfOk result (λ found. FormAt version Step room deep earlier text.now at found) }
+fn branch_at(reader: &Reader<'_>, place: Place) -> Result<Option<FoundChoreo>, Memory>
+    requires sort { sort_of (drop place.at reader.now.text.now) ≡ Sort.Reserved Word.If }
+    requires within { place.at < length reader.now.text.now }
+    requires small { length reader.now.text.now < 2 ^ 63 }
+    requires some { 0 < place.deep }
+    requires few { place.earlier + (length reader.now.text.now - place.at) ≤ greatest_place }
+    ensures { IfOk result (λ found. StandsAt reader.now Step place found) }
 {
-    let guard = match guard_at(alloc, text, room, at + 1)? {
+    let guard = match guard_at(reader, place.room, place.at + 1)? {
         Some(guard) => guard,
         None => return Ok(None),
     };
-    let first = match block_at(alloc, text, version, room, deep - 1, guard.at, earlier + 1) {
+    let first = match block_at(reader, place.part(guard.at, place.earlier + 1)) {
         Ok(Some(first)) => first,
-        Ok(None) => return Ok(refused(guard)),
-        Err(fault) => return lost(guard, fault),
+        Ok(None) => return Ok(nothing_found(guard)),
+        Err(fault) => return give_up(guard, fault),
     };
-    let second = match otherwise_at(alloc, text, version, room, deep - 1, first.at, first.next) {
+    let second = match otherwise_at(reader, place.part(first.at, first.next)) {
         Ok(second) => second,
-        Err(fault) => return lost((guard, first), fault),
+        Err(fault) => return give_up((guard, first), fault),
     };
-    let whole = choice(alloc, guard, earlier, first, second)?;
+    let whole = choice_of(reader.alloc, guard, place.earlier, first, second)?;
     Ok(Some(whole))
 }
 
@@ -299,88 +229,68 @@ fn branch_at(
 /// "while" expr "@" name "{" choreo "}"
 /// ```
 #[cycle(reading)]
-fn loop_at(
-    alloc: Global,
-    text: &Lexed<'_>,
-    version: u32,
-    room: usize,
-    deep: usize,
-    at: usize,
-    earlier: u32,
-) -> Result<Option<FoundChoreo>, Memory>
-    requires sort { sort_of (drop at text.now) ≡ Sort.Reserved Word.While }
-    requires within { at < length text.now }
-    requires small { length text.now < 2 ^ 63 }
-    requires some { 0 < deep }
-    requires few { earlier + (length text.now - at) ≤ 4294967295 }
-    ensures { IfOk result (λ found. FormAt version Step room deep earlier text.now at found) }
+fn loop_at(reader: &Reader<'_>, place: Place) -> Result<Option<FoundChoreo>, Memory>
+    requires sort { sort_of (drop place.at reader.now.text.now) ≡ Sort.Reserved Word.While }
+    requires within { place.at < length reader.now.text.now }
+    requires small { length reader.now.text.now < 2 ^ 63 }
+    requires some { 0 < place.deep }
+    requires few { place.earlier + (length reader.now.text.now - place.at) ≤ greatest_place }
+    ensures { IfOk result (λ found. StandsAt reader.now Step place found) }
 {
-    let guard = match guard_at(alloc, text, room, at + 1)? {
+    let guard = match guard_at(reader, place.room, place.at + 1)? {
         Some(guard) => guard,
         None => return Ok(None),
     };
-    match block_at(alloc, text, version, room, deep - 1, guard.at, earlier + 1) {
+    match block_at(reader, place.part(guard.at, place.earlier + 1)) {
         Ok(Some(inner)) => {
-            let whole = turns(alloc, guard, earlier, inner)?;
+            let whole = loop_of(reader.alloc, guard, place.earlier, inner)?;
             Ok(Some(whole))
         }
-        Ok(None) => Ok(refused(guard)),
-        Err(fault) => lost(guard, fault),
+        Ok(None) => Ok(nothing_found(guard)),
+        Err(fault) => give_up(guard, fault),
     }
 }
 
 /// ```text
-/// "scope" "@" name "{" choreo "}" [ "roles" "{" name { "," name } "}" ] [ "prop" "{" [ props ] "}" ]
+/// "scope" "@" name "{" choreo "}"
+///     [ "roles" "{" name { "," name } "}" ] [ "prop" "{" [ props ] "}" ]
 /// ```
 #[cycle(reading)]
-fn scope_at(
-    alloc: Global,
-    text: &Lexed<'_>,
-    version: u32,
-    room: usize,
-    deep: usize,
-    at: usize,
-    earlier: u32,
-) -> Result<Option<FoundChoreo>, Memory>
-    requires sort { sort_of (drop at text.now) ≡ Sort.Reserved Word.Scope }
-    requires within { at < length text.now }
-    requires small { length text.now < 2 ^ 63 }
-    requires some { 0 < deep }
-    requires few { earlier + (length text.now - at) ≤ 4294967295 }
-    ensures { IfOk result (λ found. FormAt version Step room deep earlier text.now at found) }
+fn scope_at(reader: &Reader<'_>, place: Place) -> Result<Option<FoundChoreo>, Memory>
+    requires sort { sort_of (drop place.at reader.now.text.now) ≡ Sort.Reserved Word.Scope }
+    requires within { place.at < length reader.now.text.now }
+    requires small { length reader.now.text.now < 2 ^ 63 }
+    requires some { 0 < place.deep }
+    requires few { place.earlier + (length reader.now.text.now - place.at) ≤ greatest_place }
+    ensures { IfOk result (λ found. StandsAt reader.now Step place found) }
 {
-    let leader = match leader_at(alloc, text, at + 1)? {
+    let leader = match leader_at(reader.alloc, reader.text, place.at + 1)? {
         Some(leader) => leader,
         None => return Ok(None),
     };
-    let inner = match block_at(alloc, text, version, room, deep - 1, at + 3, earlier + 1) {
+    let inner = match block_at(reader, place.part(place.at + 3, place.earlier + 1)) {
         Ok(Some(inner)) => inner,
-        Ok(None) => return Ok(refused(leader)),
-        Err(fault) => return lost(leader, fault),
+        Ok(None) => return Ok(nothing_found(leader)),
+        Err(fault) => return give_up(leader, fault),
     };
-    let parts = match scope_parts_at(alloc, text, version, inner.at, leader) {
+    let parts = match scope_parts_at(reader, inner.at, leader) {
         Ok(parts) => parts,
-        Err(fault) => return lost(inner, fault),
+        Err(fault) => return give_up(inner, fault),
     };
-    let whole = scoped(alloc, parts, earlier, inner)?;
+    let whole = scope_of(reader.alloc, parts, place.earlier, inner)?;
     Ok(Some(whole))
 }
 
 /// What a scope has behind its body.
-fn scope_parts_at(
-    alloc: Global,
-    text: &Lexed<'_>,
-    version: u32,
-    at: usize,
-    leader: Role,
-) -> Result<ScopeParts, Memory>
-    requires within { at ≤ length text.now }
-    requires small { length text.now < 2 ^ 63 }
-    ensures parts { IfOk result (λ parts. ScopePartsAt version text.now at parts) }
+fn scope_parts_at(reader: &Reader<'_>, at: usize, leader: Role) -> Result<ScopeParts, Memory>
+    requires within { at ≤ length reader.now.text.now }
+    requires small { length reader.now.text.now < 2 ^ 63 }
+    ensures parts { IfOk result (λ parts.
+        ScopePartsAt reader.now.version reader.now.text.now at parts) }
     ensures leader { IfOk result (λ parts. parts.leader ≡ leader) }
 {
-    let (extra, behind) = roles_at(alloc, text, version, at)?;
-    let (props, next) = properties_at(alloc, text, behind)?;
+    let (extra, behind) = roles_at(reader.alloc, reader.text, reader.version, at)?;
+    let (props, next) = properties_at(reader.alloc, reader.text, behind)?;
     Ok(ScopeParts {
         leader,
         extra,

@@ -4,14 +4,16 @@ ghost use Rattle.std.specs.Prelude.{◌≡◌, ◌≢◌, ◌+◌, ◌-◌, ◌<
 ghost use Rattle.aioc_tokens.specs.declared.words.Sort.{Sort};
 ghost use Rattle.aioc_tokens.specs.declared.words.Word.{Word};
 ghost use Rattle.aioc_tokens.specs.Lexemes.{sort_of};
-ghost use Rattle.dioc_syntax.specs.Readers.{sent_by, set_by, LeafFoundAt};
+ghost use Rattle.dioc_terms.specs.Limits.{greatest_place};
+ghost use Rattle.dioc_syntax.specs.Choreographies.{Step};
+ghost use Rattle.dioc_syntax.specs.Readers.{sent_by, set_by, StandsAt};
 
-use crate::found::{FoundChoreo, lost, refused};
+use crate::found::{FoundChoreo, nothing_found};
 use crate::heads::{receiver_at, sender_at, target_at};
-use aioc_tokens::{Lexed, Punctuator, Sort, Word};
-use dioc_terms::{Choreo, Index, Memory, Name, Role};
+use crate::places::{Place, Reader};
+use aioc_tokens::{Punctuator, Sort, Word};
+use dioc_terms::{Choreo, Index, Memory, Name, Role, give_up};
 use expr_syntax::{ExprKind, expr_at};
-use std::alloc::Global;
 
 /// `( )`
 const BRACKETS: [Sort; 2] = [
@@ -19,31 +21,27 @@ const BRACKETS: [Sort; 2] = [
     Sort::Symbol(Punctuator::RightParen),
 ];
 
-/// The step at a place of the text that begins with a name there: an interaction, an input or an assignment.
-pub fn named_step_at(
-    alloc: Global,
-    text: &Lexed<'_>,
-    room: usize,
-    at: usize,
-    earlier: u32,
-) -> Result<Option<FoundChoreo>, Memory>
-    requires sort { sort_of (drop at text.now) ≡ Sort.Name }
-    requires within { at < length text.now }
-    requires small { length text.now < 2 ^ 63 }
-    requires few { earlier + (length text.now - at) ≤ 4294967295 }
-    ensures { IfOk result (λ found. LeafFoundAt room earlier text.now at found) }
+/// The step at a place of the text that begins with a name there: an interaction, an input or an
+/// assignment.
+pub fn named_step_at(reader: &Reader<'_>, place: Place) -> Result<Option<FoundChoreo>, Memory>
+    requires sort { sort_of (drop place.at reader.now.text.now) ≡ Sort.Name }
+    requires within { place.at < length reader.now.text.now }
+    requires small { length reader.now.text.now < 2 ^ 63 }
+    requires some { 0 < place.deep }
+    requires few { place.earlier + (length reader.now.text.now - place.at) ≤ greatest_place }
+    ensures { IfOk result (λ found. StandsAt reader.now Step place found) }
 {
-    if let Some((operation, sender)) = sender_at(alloc, text, at)? {
-        return interaction_at(alloc, text, room, at, earlier, operation, sender);
+    if let Some((operation, sender)) = sender_at(reader.alloc, reader.text, place.at)? {
+        return interaction_at(reader, place, operation, sender);
     }
-    let (variable, owner) = match target_at(alloc, text, at)? {
+    let (variable, owner) = match target_at(reader.alloc, reader.text, place.at)? {
         Some(names) => names,
         None => return Ok(None),
     };
-    if text.has(at + 4, Sort::Reserved(Word::Input)) {
-        Ok(input_at(text, room, at, earlier, variable, owner))
+    if reader.text.has(place.at + 4, Sort::Reserved(Word::Input)) {
+        Ok(input_at(reader, place, variable, owner))
     } else {
-        assignment_at(alloc, text, room, at, earlier, variable, owner)
+        assignment_at(reader, place, variable, owner)
     }
 }
 
@@ -51,37 +49,37 @@ pub fn named_step_at(
 /// name ":" name "(" expr ")" "->" name "(" name ")"
 /// ```
 fn interaction_at(
-    alloc: Global,
-    text: &Lexed<'_>,
-    room: usize,
-    at: usize,
-    earlier: u32,
+    reader: &Reader<'_>,
+    place: Place,
     operation: Name,
     sender: Name,
 ) -> Result<Option<FoundChoreo>, Memory>
-    requires head { drop at text.now ≡ sent_by operation sender (drop (at + 4) text.now) }
-    requires within { at + 4 ≤ length text.now }
-    requires small { length text.now < 2 ^ 63 }
-    requires few { earlier + (length text.now - at) ≤ 4294967295 }
-    ensures { IfOk result (λ found. LeafFoundAt room earlier text.now at found) }
+    requires head { drop place.at reader.now.text.now
+        ≡ sent_by operation sender (drop (place.at + 4) reader.now.text.now) }
+    requires within { place.at + 4 ≤ length reader.now.text.now }
+    requires small { length reader.now.text.now < 2 ^ 63 }
+    requires some { 0 < place.deep }
+    requires few { place.earlier + (length reader.now.text.now - place.at) ≤ greatest_place }
+    ensures { IfOk result (λ found. StandsAt reader.now Step place found) }
 {
-    if room == 0 {
+    if place.room == 0 {
         return Ok(None);
     }
-    let (value, next) = match expr_at(alloc, text, ExprKind::Step, room - 1, at + 4)? {
+    let (alloc, text) = (reader.alloc, reader.text);
+    let (value, next) = match expr_at(alloc, text, ExprKind::Step, place.room - 1, place.at + 4)? {
         Some(sent) => sent,
         None => return Ok(None),
     };
     let (receiver, variable) = match receiver_at(alloc, text, next) {
         Ok(Some(names)) => names,
-        Ok(None) => return Ok(refused(value)),
-        Err(fault) => return lost(value, fault),
+        Ok(None) => return Ok(nothing_found(value)),
+        Err(fault) => return give_up(value, fault),
     };
     Ok(Some(FoundChoreo {
         choreo: Choreo::Com {
             index: Index {
                 epoch: 0,
-                place: earlier,
+                place: place.earlier,
             },
             op: operation,
             from: Role(sender),
@@ -91,43 +89,38 @@ fn interaction_at(
         },
         depth: 1,
         at: next + 6,
-        next: earlier + 1,
+        next: place.earlier + 1,
     }))
 }
 
 /// ```text
 /// name "@" name "=" "input" "(" ")"
 /// ```
-fn input_at(
-    text: &Lexed<'_>,
-    room: usize,
-    at: usize,
-    earlier: u32,
-    variable: Name,
-    owner: Name,
-) -> Option<FoundChoreo>
-    requires head { drop at text.now ≡ set_by variable owner (drop (at + 4) text.now) }
-    requires within { at + 4 ≤ length text.now }
-    requires input { sort_of (drop (at + 4) text.now) ≡ Sort.Reserved Word.Input }
-    requires small { length text.now < 2 ^ 63 }
-    requires few { earlier + (length text.now - at) ≤ 4294967295 }
-    ensures { LeafFoundAt room earlier text.now at result }
+fn input_at(reader: &Reader<'_>, place: Place, variable: Name, owner: Name) -> Option<FoundChoreo>
+    requires head { drop place.at reader.now.text.now
+        ≡ set_by variable owner (drop (place.at + 4) reader.now.text.now) }
+    requires within { place.at + 4 ≤ length reader.now.text.now }
+    requires input { sort_of (drop (place.at + 4) reader.now.text.now) ≡ Sort.Reserved Word.Input }
+    requires small { length reader.now.text.now < 2 ^ 63 }
+    requires some { 0 < place.deep }
+    requires few { place.earlier + (length reader.now.text.now - place.at) ≤ greatest_place }
+    ensures { StandsAt reader.now Step place result }
 {
-    if room == 0 || !text.begins(at + 5, &BRACKETS) {
+    if place.room == 0 || !reader.text.begins(place.at + 5, &BRACKETS) {
         return None;
     }
     Some(FoundChoreo {
         choreo: Choreo::Input {
             index: Index {
                 epoch: 0,
-                place: earlier,
+                place: place.earlier,
             },
             var: variable,
             role: Role(owner),
         },
         depth: 1,
-        at: at + 7,
-        next: earlier + 1,
+        at: place.at + 7,
+        next: place.earlier + 1,
     })
 }
 
@@ -135,27 +128,27 @@ fn input_at(
 /// name "@" name "=" expr
 /// ```
 fn assignment_at(
-    alloc: Global,
-    text: &Lexed<'_>,
-    room: usize,
-    at: usize,
-    earlier: u32,
+    reader: &Reader<'_>,
+    place: Place,
     variable: Name,
     owner: Name,
 ) -> Result<Option<FoundChoreo>, Memory>
-    requires head { drop at text.now ≡ set_by variable owner (drop (at + 4) text.now) }
-    requires within { at + 4 ≤ length text.now }
-    requires other { sort_of (drop (at + 4) text.now) ≢ Sort.Reserved Word.Input }
-    requires small { length text.now < 2 ^ 63 }
-    requires few { earlier + (length text.now - at) ≤ 4294967295 }
-    ensures { IfOk result (λ found. LeafFoundAt room earlier text.now at found) }
+    requires head { drop place.at reader.now.text.now
+        ≡ set_by variable owner (drop (place.at + 4) reader.now.text.now) }
+    requires within { place.at + 4 ≤ length reader.now.text.now }
+    requires other { sort_of (drop (place.at + 4) reader.now.text.now) ≢ Sort.Reserved Word.Input }
+    requires small { length reader.now.text.now < 2 ^ 63 }
+    requires some { 0 < place.deep }
+    requires few { place.earlier + (length reader.now.text.now - place.at) ≤ greatest_place }
+    ensures { IfOk result (λ found. StandsAt reader.now Step place found) }
 {
-    match expr_at(alloc, text, ExprKind::Step, room, at + 4)? {
+    let (alloc, text) = (reader.alloc, reader.text);
+    match expr_at(alloc, text, ExprKind::Step, place.room, place.at + 4)? {
         Some((expr, next)) => Ok(Some(FoundChoreo {
             choreo: Choreo::Set {
                 index: Index {
                     epoch: 0,
-                    place: earlier,
+                    place: place.earlier,
                 },
                 var: variable,
                 role: Role(owner),
@@ -163,7 +156,7 @@ fn assignment_at(
             },
             depth: 1,
             at: next,
-            next: earlier + 1,
+            next: place.earlier + 1,
         })),
         None => Ok(None),
     }

@@ -5,6 +5,7 @@ pub mod Shorter
 pub mod Compare
 pub mod Fronts
 pub mod Ranks
+pub mod PlaceFacts
 pub mod Findings
 pub mod ReadFormed
 pub mod Spells

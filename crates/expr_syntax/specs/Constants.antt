@@ -14,9 +14,11 @@ greatest = 9223372036854775807
 abbrev pub greatest_negated : ℕ
 greatest_negated = 9223372036854775808
 
--- the number that the digits stand for, unless it is greater than this one; leading zeros don't matter
+-- the number that the digits stand for, unless it is greater than this one; leading zeros don't
+-- matter
 abbrev pub number_up_to : ℕ → List ℕ → Option ℕ
-number_up_to most digits = if nat_le (digits_value 10 digits) most then Some (digits_value 10 digits) else None
+number_up_to most digits =
+    if nat_le (digits_value 10 digits) most then Some (digits_value 10 digits) else None
 
 -- a number at the front
 abbrev pub number : ℕ → List Lexeme → Option ℕ
@@ -40,12 +42,16 @@ constant (Reserved word.Nil ∷ others) = Some (before others value.Nil)
 constant (Reserved word.True ∷ others) = Some (before others (value.Bool true))
 constant (Reserved word.False ∷ others) = Some (before others (value.Bool false))
 constant (Text bytes ∷ others) = Some (before others (value.Text bytes))
-constant (Number digits ∷ others) = option_map (λ n. before others (positive n)) (number_up_to greatest digits)
-constant (Symbol punctuator.Minus ∷ Number digits ∷ others) = option_map (λ n. before others (negative n)) (number_up_to greatest_negated digits)
+constant (Number digits ∷ others) =
+    option_map (λ n. before others (positive n)) (number_up_to greatest digits)
+constant (Symbol punctuator.Minus ∷ Number digits ∷ others) =
+    option_map (λ n. before others (negative n)) (number_up_to greatest_negated digits)
 constant _ = None
 
--- what a reader found is what stands at this place of the list, and the place behind it is a later one within the list
+-- what a reader found is what stands at this place of the list, and the place behind it is a later
+-- one within the list
 abbrev pub ConstantAt : List Lexeme → ℕ → Option (Value × ℕ) → Type 0
 ConstantAt text at found =
-    (constant (drop at text) ≡ option_map (λ (read : Value × ℕ). before (drop read.1 text) read.0) found) ×
+    (constant (drop at text)
+    ≡ option_map (λ (read : Value × ℕ). before (drop read.1 text) read.0) found) ×
     MatchOption found (Unit {0}) (λ read. (at < read.1) × (read.1 ≤ length text))

@@ -3,7 +3,7 @@
 ghost use Rattle.std.specs.Prelude.{◌≡◌, ◌≤◌, ◌<◌, ◌^◌, drop, IfOk, IsTrue, length, pos, neg_ℤ};
 ghost use Rattle.std.specs.Char.{is_ascii_digit};
 ghost use Rattle.std.specs.List.{list_all};
-ghost use Rattle.expr_syntax.specs.Constants.{number_up_to, number, ConstantAt};
+ghost use Rattle.expr_syntax.specs.Constants.{greatest_negated, number_up_to, number, ConstantAt};
 ghost use Rattle.aioc_tokens.specs.declared.words.Sort.{Sort};
 ghost use Rattle.aioc_tokens.specs.declared.words.Punctuator.{Punctuator};
 ghost use Rattle.aioc_tokens.specs.Lexemes.{sort_of};
@@ -33,7 +33,8 @@ fn number_of(digits: &[u8], most: u64) -> Option<u64>
     }
 }
 
-/// The number at a place of the text, unless it is greater than `most`. Leading zeros don't matter, however many.
+/// The number at a place of the text, unless it is greater than `most`. Leading zeros don't matter,
+/// however many.
 pub fn number_at(text: &Lexed<'_>, at: usize, most: u64) -> Option<u64>
     ensures { result ≡ number most (drop at text.now) }
 {
@@ -44,20 +45,22 @@ pub fn number_at(text: &Lexed<'_>, at: usize, most: u64) -> Option<u64>
 }
 
 /// Minus a number that has 64 bits with its sign.
-fn negated(number: u64) -> i64
-    requires { number ≤ 9223372036854775808 }
+fn negative(number: u64) -> i64
+    requires { number ≤ greatest_negated }
     ensures { result ≡ neg_ℤ (pos number) }
 {
     (-i128::from(number)) as i64
 }
 
-/// The constant at a place of the text, and the place behind it, or `None` where no constant stands there:
+/// The constant at a place of the text, and the place behind it, or `None` where no constant stands
+/// there:
 ///
 /// ```text
 /// value = "nil" | "true" | "false" | [ "-" ] number | text
 /// ```
 ///
-/// A number is at most [`GREATEST`], directly after a `-` at most [`GREATEST_NEGATED`]. The error says that memory ran out.
+/// A number is at most [`GREATEST`], directly after a `-` at most [`GREATEST_NEGATED`]. The error
+/// says that memory ran out.
 pub fn constant_at(
     alloc: Global,
     text: &Lexed<'_>,
@@ -109,7 +112,7 @@ fn negative_at(text: &Lexed<'_>, at: usize) -> Option<(Value, usize)>
     ensures { ConstantAt text.now at result }
 {
     match number_at(text, at + 1, GREATEST_NEGATED) {
-        Some(number) => Some((Value::Int(negated(number)), at + 2)),
+        Some(number) => Some((Value::Int(negative(number)), at + 2)),
         None => None,
     }
 }

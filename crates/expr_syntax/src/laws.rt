@@ -16,7 +16,8 @@ pub fn one_longest()
     ensures { OneLongest }
 {}
 
-/// What is read from a text is formed: a step's expression is one of a step, a condition one of a condition.
+/// What is read from a text is formed: a step's expression is one of a step, a condition one of a
+/// condition.
 pub fn read_is_formed()
     ensures { ReadIsFormed }
 {}

@@ -15,10 +15,12 @@ use aioc_tokens::{Lexed, Punctuator, Sort, Word};
 use dioc_terms::{Expr, Memory, Name, NameFault};
 use std::alloc::Global;
 
-/// The name at a place of the text, which the caller knows to be one. The error says that memory ran out.
+/// The name at a place of the text, which the caller knows to be one. The error says that memory ran
+/// out.
 pub fn name_at(alloc: Global, text: &Lexed<'_>, at: usize) -> Result<Name, Memory>
     requires { sort_of (drop at text.now) ≡ Sort.Name }
-    ensures value { IfOk result (λ name. drop at text.now ≡ Lexeme.Name name ∷ drop (at + 1) text.now) }
+    ensures value { IfOk result (λ name. drop at text.now
+        ≡ Lexeme.Name name ∷ drop (at + 1) text.now) }
     ensures valid { IfOk result (λ name. HasSpelling (Lexeme.Name name)) }
 {
     match Name::read(alloc, text.name(at)) {
@@ -50,7 +52,8 @@ fn variable_at(
     Ok(Some((Expr::Var(name), at + 1)))
 }
 
-/// Behind `N` or `E`: the name at a place of the text with a `.` before it, and the place behind it.
+/// Behind `N` or `E`: the name at a place of the text with a `.` before it, and the place behind
+/// it.
 fn member_at(alloc: Global, text: &Lexed<'_>, at: usize) -> Result<Option<(Name, usize)>, Memory>
     requires { at < 2 ^ 63 }
     ensures { IfOk result (λ found. MemberAt text.now at found) }

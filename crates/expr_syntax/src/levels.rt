@@ -11,7 +11,8 @@ use dioc_terms::Oper;
 pub enum ExprKind {
     /// In a step of a choreography: over the variables of the acting role alone.
     Step,
-    /// In the condition of a rule: also over properties (`N.x`) and the environment (`E.x`), but without `++`.
+    /// In the condition of a rule: also over properties (`N.x`) and the environment (`E.x`), but
+    /// without `++`.
     Condition,
 }
 

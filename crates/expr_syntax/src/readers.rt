@@ -1,19 +1,20 @@
 //! The readers of the levels.
 
-ghost use Rattle.std.specs.Prelude.{◌≡◌, ◌≢◌, ℕ, ◌≤◌, ◌<◌, ◌^◌, ◌+◌, ◌-◌, suc, max, drop, length, true, None, Err, IfOk, IsTrue, ◌↔◌};
+ghost use Rattle.std.specs.Prelude.{◌≡◌, ◌≢◌, ◌≤◌, ◌<◌, ◌^◌, ◌+◌, ◌-◌, suc, max, drop, length, true, None, IfOk, IsTrue, ◌↔◌};
 ghost use Rattle.dioc_terms.specs.Expressions.{expression, Not, Neg, Bin};
 ghost use Rattle.aioc_tokens.specs.declared.words.Sort.{Sort};
 ghost use Rattle.aioc_tokens.specs.declared.words.Punctuator.{Punctuator};
 ghost use Rattle.aioc_tokens.specs.Lexemes.{sort_of};
 ghost use Rattle.expr_syntax.specs.Grammar.{begins_with_number};
 ghost use Rattle.expr_syntax.specs.Levels.{is_chain};
-ghost use Rattle.expr_syntax.specs.Readers.{FoundAt, IsNoted, Grows};
+ghost use Rattle.expr_syntax.specs.Readers.{LevelAt, IsNoted, Grows};
 ghost use Rattle.expr_syntax.specs.declared.levels.Level.{Level};
 
 use crate::leaves::{is_number, leaf_at};
-use crate::levels::{ExprKind, Level, operator, tighter};
+use crate::levels::{Level, operator, tighter};
+use crate::places::{Place, Reader};
 use aioc_tokens::{Lexed, Punctuator, Sort, Word};
-use dioc_terms::{Expr, Memory, Oper};
+use dioc_terms::{Expr, Memory, Oper, give_up, new_box};
 use std::alloc::Global;
 
 /// An expression that was read, its depth and the place behind it.
@@ -24,25 +25,19 @@ pub struct Found {
     pub at: usize,
 }
 
-/// The value in a box.
-fn boxed<T: Drop>(alloc: Global, value: T) -> Result<Box<T>, Memory>
-    ensures { IfOk result (λ made. made.value ≡ value) }
-{
-    Ok(Box::new(alloc, value)?)
-}
-
 /// Two operands with an operator between them.
-fn joined(alloc: Global, oper: Oper, left: Found, right: Found) -> Result<Found, Memory>
+fn two_sided(alloc: Global, oper: Oper, left: Found, right: Found) -> Result<Found, Memory>
     requires left { left.depth < 2 ^ 64 - 1 }
     requires right { right.depth < 2 ^ 64 - 1 }
-    ensures expr { IfOk result (λ found. expression found.expr ≡ Bin oper (expression left.expr) (expression right.expr)) }
+    ensures expr { IfOk result (λ found. expression found.expr ≡ Bin oper (expression left.expr)
+        (expression right.expr)) }
     ensures depth { IfOk result (λ found. found.depth ≡ suc (max left.depth right.depth)) }
     ensures at { IfOk result (λ found. found.at ≡ right.at) }
 {
     let depth = left.depth.max(right.depth) + 1;
     let at = right.at;
-    let left = boxed(alloc, left.expr)?;
-    let right = boxed(alloc, right.expr)?;
+    let left = new_box(alloc, left.expr)?;
+    let right = new_box(alloc, right.expr)?;
     Ok(Found {
         expr: Expr::Bin(oper, left, right),
         depth,
@@ -51,13 +46,13 @@ fn joined(alloc: Global, oper: Oper, left: Found, right: Found) -> Result<Found,
 }
 
 /// Behind a `not`.
-fn denied(alloc: Global, inner: Found) -> Result<Found, Memory>
+fn negation(alloc: Global, inner: Found) -> Result<Found, Memory>
     requires { inner.depth < 2 ^ 64 - 1 }
     ensures expr { IfOk result (λ found. expression found.expr ≡ Not (expression inner.expr)) }
     ensures depth { IfOk result (λ found. found.depth ≡ suc inner.depth) }
     ensures at { IfOk result (λ found. found.at ≡ inner.at) }
 {
-    let inside = boxed(alloc, inner.expr)?;
+    let inside = new_box(alloc, inner.expr)?;
     Ok(Found {
         expr: Expr::Not(inside),
         depth: inner.depth + 1,
@@ -66,13 +61,13 @@ fn denied(alloc: Global, inner: Found) -> Result<Found, Memory>
 }
 
 /// Behind a `-`.
-fn negated(alloc: Global, inner: Found) -> Result<Found, Memory>
+fn minus(alloc: Global, inner: Found) -> Result<Found, Memory>
     requires { inner.depth < 2 ^ 64 - 1 }
     ensures expr { IfOk result (λ found. expression found.expr ≡ Neg (expression inner.expr)) }
     ensures depth { IfOk result (λ found. found.depth ≡ suc inner.depth) }
     ensures at { IfOk result (λ found. found.at ≡ inner.at) }
 {
-    let inside = boxed(alloc, inner.expr)?;
+    let inside = new_box(alloc, inner.expr)?;
     Ok(Found {
         expr: Expr::Neg(inside),
         depth: inner.depth + 1,
@@ -90,36 +85,25 @@ fn stands(text: &Lexed<'_>, at: usize, sort: Sort) -> bool
     here == sort
 }
 
-/// Lets go of a value, for want of memory.
-fn lost<T: Drop, U: Drop>(_value: T, fault: Memory) -> Result<U, Memory>
-    ensures { result ≡ Err fault }
-{
-    Err(fault)
-}
-
 /// Lets go of an expression that is no part of one.
-fn refused(_inner: Found) -> Option<Found>
+fn nothing_found(_inner: Found) -> Option<Found>
     ensures { result ≡ None }
 {
     None
 }
 
 /// The leaf at a place of the text where no unary of another form stands.
-fn shallow_leaf_at(
-    alloc: Global,
-    text: &Lexed<'_>,
-    kind: ExprKind,
-    deep: usize,
-    at: usize,
-) -> Result<Option<Found>, Memory>
-    requires minus { sort_of (drop at text.now) ≡ Sort.Symbol Punctuator.Minus → begins_with_number (drop (at + 1) text.now) ≡ true }
-    requires bracket { sort_of (drop at text.now) ≢ Sort.Symbol Punctuator.LeftParen }
-    ensures { IfOk result (λ found. (room : ℕ) → FoundAt kind Level.Unary room deep text.now at found) }
+fn shallow_leaf_at(reader: &Reader<'_>, place: Place) -> Result<Option<Found>, Memory>
+    requires minus { sort_of (drop place.at reader.now.text.now) ≡ Sort.Symbol Punctuator.Minus
+        → begins_with_number (drop (place.at + 1) reader.now.text.now) ≡ true }
+    requires bracket { sort_of (drop place.at reader.now.text.now)
+        ≢ Sort.Symbol Punctuator.LeftParen }
+    ensures { IfOk result (λ found. LevelAt reader.now Level.Unary place found) }
 {
-    if deep == 0 {
+    if place.deep == 0 {
         return Ok(None);
     }
-    match leaf_at(alloc, text, kind, at)? {
+    match leaf_at(reader.alloc, reader.text, reader.kind, place.at)? {
         Some((expr, next)) => Ok(Some(Found {
             expr,
             depth: 1,
@@ -129,144 +113,98 @@ fn shallow_leaf_at(
     }
 }
 
-/// The longest expression of a level at a place of the text that is at most `deep` deep; as many brackets as `room` may be
-/// open in it at once.
+/// The longest expression of a level at a place of the text that goes no further than it may.
 #[cycle(reading)]
-pub fn level_at(
-    alloc: Global,
-    text: &Lexed<'_>,
-    kind: ExprKind,
-    level: Level,
-    room: usize,
-    deep: usize,
-    at: usize,
-) -> Result<Option<Found>, Memory>
-    ensures { IfOk result (λ found. FoundAt kind level room deep text.now at found) }
+pub fn level_at(reader: &Reader<'_>, level: Level, place: Place) -> Result<Option<Found>, Memory>
+    ensures { IfOk result (λ found. LevelAt reader.now level place found) }
 {
     match level {
-        Level::Negation => negation_at(alloc, text, kind, room, deep, at),
-        Level::Comparison => comparison_at(alloc, text, kind, room, deep, at),
-        Level::Unary => unary_at(alloc, text, kind, room, deep, at),
-        _ => chain_at(alloc, text, kind, level, room, deep, at),
+        Level::Negation => negation_at(reader, place),
+        Level::Comparison => comparison_at(reader, place),
+        Level::Unary => unary_at(reader, place),
+        _ => chain_at(reader, level, place),
     }
 }
 
 /// A level where any number of operators may follow one another.
 #[cycle(reading)]
-fn chain_at(
-    alloc: Global,
-    text: &Lexed<'_>,
-    kind: ExprKind,
-    level: Level,
-    room: usize,
-    deep: usize,
-    at: usize,
-) -> Result<Option<Found>, Memory>
+fn chain_at(reader: &Reader<'_>, level: Level, place: Place) -> Result<Option<Found>, Memory>
     requires { is_chain level ≡ true }
-    ensures { IfOk result (λ found. FoundAt kind level room deep text.now at found) }
+    ensures { IfOk result (λ found. LevelAt reader.now level place found) }
 {
-    match level_at(alloc, text, kind, tighter(level), room, deep, at)? {
+    match level_at(reader, tighter(level), place)? {
         Some(first) => {
-            let whole = follow(alloc, text, kind, level, room, deep, first)?;
+            let whole = follow(reader, level, place, first)?;
             Ok(Some(whole))
         }
         None => Ok(None),
     }
 }
 
-/// An expression with as many operators and operands behind it as follow.
+/// An expression that begins at a place, with as many operators and operands behind it as follow.
 #[cycle(reading)]
-fn follow(
-    alloc: Global,
-    text: &Lexed<'_>,
-    kind: ExprKind,
-    level: Level,
-    room: usize,
-    deep: usize,
-    first: Found,
-) -> Result<Found, Memory>
-    requires { IsNoted deep text.now first }
-    ensures { IfOk result (λ found. Grows kind level room deep text.now first found) }
+fn follow(reader: &Reader<'_>, level: Level, place: Place, first: Found) -> Result<Found, Memory>
+    requires { IsNoted place.deep reader.now.text.now first }
+    ensures { IfOk result (λ found. Grows reader.now.kind level place.room place.deep
+        reader.now.text.now first found) }
 {
-    let oper = match operator(kind, level, text.sort(first.at)) {
+    let oper = match operator(reader.kind, level, reader.text.sort(first.at)) {
         Some(oper) => oper,
         None => return Ok(first),
     };
-    if first.depth == deep {
+    if first.depth == place.deep {
         return Ok(first);
     }
-    match level_at(
-        alloc,
-        text,
-        kind,
-        tighter(level),
-        room,
-        deep - 1,
-        first.at + 1,
-    ) {
+    match level_at(reader, tighter(level), place.operand(first.at + 1)) {
         Ok(Some(second)) => {
-            let both = joined(alloc, oper, first, second)?;
-            follow(alloc, text, kind, level, room, deep, both)
+            let both = two_sided(reader.alloc, oper, first, second)?;
+            follow(reader, level, place, both)
         }
         Ok(None) => Ok(first),
-        Err(fault) => lost(first, fault),
+        Err(fault) => give_up(first, fault),
     }
 }
 
 /// A comparison, or one of its sides alone.
 #[cycle(reading)]
-fn comparison_at(
-    alloc: Global,
-    text: &Lexed<'_>,
-    kind: ExprKind,
-    room: usize,
-    deep: usize,
-    at: usize,
-) -> Result<Option<Found>, Memory>
-    ensures { IfOk result (λ found. FoundAt kind Level.Comparison room deep text.now at found) }
+fn comparison_at(reader: &Reader<'_>, place: Place) -> Result<Option<Found>, Memory>
+    ensures { IfOk result (λ found. LevelAt reader.now Level.Comparison place found) }
 {
-    let left = match level_at(alloc, text, kind, Level::Sum, room, deep, at)? {
+    let left = match level_at(reader, Level::Sum, place)? {
         Some(left) => left,
         None => return Ok(None),
     };
-    let oper = match operator(kind, Level::Comparison, text.sort(left.at)) {
+    let oper = match operator(reader.kind, Level::Comparison, reader.text.sort(left.at)) {
         Some(oper) => oper,
         None => return Ok(Some(left)),
     };
-    if left.depth == deep {
+    if left.depth == place.deep {
         return Ok(Some(left));
     }
-    match level_at(alloc, text, kind, Level::Sum, room, deep - 1, left.at + 1) {
+    match level_at(reader, Level::Sum, place.operand(left.at + 1)) {
         Ok(Some(right)) => {
-            let both = joined(alloc, oper, left, right)?;
+            let both = two_sided(reader.alloc, oper, left, right)?;
             Ok(Some(both))
         }
         Ok(None) => Ok(Some(left)),
-        Err(fault) => lost(left, fault),
+        Err(fault) => give_up(left, fault),
     }
 }
 
 /// A comparison with any number of `not` before it.
 #[cycle(reading)]
-fn negation_at(
-    alloc: Global,
-    text: &Lexed<'_>,
-    kind: ExprKind,
-    room: usize,
-    deep: usize,
-    at: usize,
-) -> Result<Option<Found>, Memory>
-    ensures { IfOk result (λ found. FoundAt kind Level.Negation room deep text.now at found) }
+fn negation_at(reader: &Reader<'_>, place: Place) -> Result<Option<Found>, Memory>
+    ensures { IfOk result (λ found. LevelAt reader.now Level.Negation place found) }
 {
-    if !stands(text, at, Sort::Reserved(Word::Not)) {
-        return comparison_at(alloc, text, kind, room, deep, at);
+    if !stands(reader.text, place.at, Sort::Reserved(Word::Not)) {
+        return comparison_at(reader, place);
     }
-    if deep == 0 {
+    if place.deep == 0 {
         return Ok(None);
     }
-    match negation_at(alloc, text, kind, room, deep - 1, at + 1)? {
+    match negation_at(reader, place.operand(place.at + 1))? {
         Some(inner) => {
-            let whole = denied(alloc, inner)?;
+            let whole = negation(reader.alloc, inner)?;
             Ok(Some(whole))
         }
         None => Ok(None),
@@ -275,47 +213,33 @@ fn negation_at(
 
 /// A leaf or a bracket with any number of `-` before it.
 #[cycle(reading)]
-fn unary_at(
-    alloc: Global,
-    text: &Lexed<'_>,
-    kind: ExprKind,
-    room: usize,
-    deep: usize,
-    at: usize,
-) -> Result<Option<Found>, Memory>
-    ensures { IfOk result (λ found. FoundAt kind Level.Unary room deep text.now at found) }
+fn unary_at(reader: &Reader<'_>, place: Place) -> Result<Option<Found>, Memory>
+    ensures { IfOk result (λ found. LevelAt reader.now Level.Unary place found) }
 {
-    match text.sort(at) {
-        Sort::Symbol(Punctuator::LeftParen) => bracket_at(alloc, text, kind, room, deep, at),
-        Sort::Symbol(Punctuator::Minus) => minus_at(alloc, text, kind, room, deep, at),
-        _ => shallow_leaf_at(alloc, text, kind, deep, at),
+    match reader.text.sort(place.at) {
+        Sort::Symbol(Punctuator::LeftParen) => bracket_at(reader, place),
+        Sort::Symbol(Punctuator::Minus) => minus_at(reader, place),
+        _ => shallow_leaf_at(reader, place),
     }
 }
 
 /// A negative constant, or a unary behind a `-`.
 #[cycle(reading)]
-fn minus_at(
-    alloc: Global,
-    text: &Lexed<'_>,
-    kind: ExprKind,
-    room: usize,
-    deep: usize,
-    at: usize,
-) -> Result<Option<Found>, Memory>
-    requires sort { sort_of (drop at text.now) ≡ Sort.Symbol Punctuator.Minus }
-    requires within { at < length text.now }
-    requires small { length text.now < 2 ^ 63 }
-    ensures { IfOk result (λ found. FoundAt kind Level.Unary room deep text.now at found) }
+fn minus_at(reader: &Reader<'_>, place: Place) -> Result<Option<Found>, Memory>
+    requires sort { sort_of (drop place.at reader.now.text.now) ≡ Sort.Symbol Punctuator.Minus }
+    requires within { place.at < length reader.now.text.now }
+    requires small { length reader.now.text.now < 2 ^ 63 }
+    ensures { IfOk result (λ found. LevelAt reader.now Level.Unary place found) }
 {
-    if is_number(text, at + 1) {
-        return shallow_leaf_at(alloc, text, kind, deep, at);
+    if is_number(reader.text, place.at + 1) {
+        return shallow_leaf_at(reader, place);
     }
-    if deep == 0 {
+    if place.deep == 0 {
         return Ok(None);
     }
-    match unary_at(alloc, text, kind, room, deep - 1, at + 1)? {
+    match unary_at(reader, place.operand(place.at + 1))? {
         Some(inner) => {
-            let whole = negated(alloc, inner)?;
+            let whole = minus(reader.alloc, inner)?;
             Ok(Some(whole))
         }
         None => Ok(None),
@@ -324,41 +248,27 @@ fn minus_at(
 
 /// An expression in brackets.
 #[cycle(reading)]
-fn bracket_at(
-    alloc: Global,
-    text: &Lexed<'_>,
-    kind: ExprKind,
-    room: usize,
-    deep: usize,
-    at: usize,
-) -> Result<Option<Found>, Memory>
-    requires sort { sort_of (drop at text.now) ≡ Sort.Symbol Punctuator.LeftParen }
-    requires within { at < length text.now }
-    requires small { length text.now < 2 ^ 63 }
-    ensures { IfOk result (λ found. FoundAt kind Level.Unary room deep text.now at found) }
+fn bracket_at(reader: &Reader<'_>, place: Place) -> Result<Option<Found>, Memory>
+    requires sort { sort_of (drop place.at reader.now.text.now)
+        ≡ Sort.Symbol Punctuator.LeftParen }
+    requires within { place.at < length reader.now.text.now }
+    requires small { length reader.now.text.now < 2 ^ 63 }
+    ensures { IfOk result (λ found. LevelAt reader.now Level.Unary place found) }
 {
-    if room == 0 {
+    if place.room == 0 {
         return Ok(None);
     }
-    let inner = match level_at(
-        alloc,
-        text,
-        kind,
-        Level::Disjunction,
-        room - 1,
-        deep,
-        at + 1,
-    )? {
+    let inner = match level_at(reader, Level::Disjunction, place.inside())? {
         Some(inner) => inner,
         None => return Ok(None),
     };
-    if stands(text, inner.at, Sort::Symbol(Punctuator::RightParen)) {
+    if stands(reader.text, inner.at, Sort::Symbol(Punctuator::RightParen)) {
         Ok(Some(Found {
             expr: inner.expr,
             depth: inner.depth,
             at: inner.at + 1,
         }))
     } else {
-        Ok(refused(inner))
+        Ok(nothing_found(inner))
     }
 }

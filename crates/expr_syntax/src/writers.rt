@@ -10,13 +10,14 @@ ghost use Rattle.expr_syntax.specs.Pieces.{integer_text, value_text, opening_tex
 use dioc_terms::{Expr, Memory, Oper, Value};
 use text_pieces::{write_bytes, write_number, write_quoted, write_truth};
 
-/// Appends the text of an expression: its tokens with one space between two. A `-` stands before an operand in brackets. An
-/// operand of `not` and of an operator between two is in brackets where it has an operator itself. A negative constant is `-`
-/// and its digits.
+/// Appends the text of an expression: its tokens with one space between two. A `-` stands before an
+/// operand in brackets. An operand of `not` and of an operator between two is in brackets where it
+/// has an operator itself. A negative constant is `-` and its digits.
 ///
 /// Where memory runs out, `out` is as it was.
 pub fn write_expr(expr: &Expr, out: &mut Vec<u8>) -> Result<(), Memory>
-    ensures ok { OnOk result (out.new.items ≡ out.old.items ++ spelled (written (expression expr.now) [])) }
+    ensures ok { OnOk result (out.new.items ≡ out.old.items
+        ++ spelled (written (expression expr.now) [])) }
     ensures memory { OnErr result (out.new.items ≡ out.old.items) }
 {
     let start = out.len();
@@ -31,7 +32,8 @@ pub fn write_expr(expr: &Expr, out: &mut Vec<u8>) -> Result<(), Memory>
 ///
 /// Where memory runs out, `out` is as it was.
 pub fn write_value(value: &Value, out: &mut Vec<u8>) -> Result<(), Memory>
-    ensures ok { OnOk result (out.new.items ≡ out.old.items ++ spelled (written_value value.now [])) }
+    ensures ok { OnOk result (out.new.items ≡ out.old.items
+        ++ spelled (written_value value.now [])) }
     ensures memory { OnErr result (out.new.items ≡ out.old.items) }
 {
     let start = out.len();
@@ -43,7 +45,8 @@ pub fn write_value(value: &Value, out: &mut Vec<u8>) -> Result<(), Memory>
 }
 
 fn write_part(expr: &Expr, out: &mut Vec<u8>) -> Result<(), Memory>
-    ensures ok { OnOk result (out.new.items ≡ out.old.items ++ expression_text (expression expr.now)) }
+    ensures ok { OnOk result (out.new.items ≡ out.old.items
+        ++ expression_text (expression expr.now)) }
     ensures memory { OnErr result (KeepsFront out.old.items out.new.items) }
 {
     match expr {
@@ -138,7 +141,9 @@ fn write_between(
     right_compound: bool,
     out: &mut Vec<u8>,
 ) -> Result<(), Memory>
-    ensures ok { OnOk result (out.new.items ≡ out.old.items ++ (closing_text left_compound ++ codes " " ++ spelling (operator_lexeme oper) ++ codes " " ++ opening_text right_compound)) }
+    ensures ok { OnOk result (out.new.items ≡ out.old.items ++ (closing_text left_compound
+        ++ codes " " ++ spelling (operator_lexeme oper) ++ codes " "
+        ++ opening_text right_compound)) }
     ensures memory { OnErr result (KeepsFront out.old.items out.new.items) }
 {
     write_closing(left_compound, out)?;
