@@ -51,6 +51,10 @@ fn append_times(bytes: &[u8], count: usize, out: &mut Vec<u8>) -> Result<(), Pro
     if bytes.is_empty() {
         return Ok(());
     }
+    // (before any of them is appended)
+    if count.saturating_mul(bytes.len()) > TEXT_LIMIT {
+        return Err(Problem::Bad("the text is too long"));
+    }
     for _ in 0..count {
         append(bytes, out)?;
     }
