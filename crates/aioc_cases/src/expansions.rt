@@ -1,7 +1,8 @@
 //! The bytes that a written text of the table stands for.
 //!
-//! A byte stands for itself, but for the backtick. Between two backticks stand either bytes in hexadecimal digits, as `0A`
-//! or `C3A9`, or a number, a `*` and bytes that are repeated so often, as `512*(`.
+//! A byte stands for itself, but for the backtick. Between two backticks stand either bytes in
+//! hexadecimal digits, as `0A` or `C3A9`, or a number, a `*` and bytes that are repeated so often,
+//! as `512*(`.
 
 ghost use Rattle.std.specs.Prelude.{◌<◌, IfOk};
 

@@ -1,7 +1,8 @@
-//! The cases program: it reads a table of cases from its standard input, and prints it again with the answers of the
-//! libraries between its lines.
+//! The cases program: it reads a table of cases from its standard input, and prints it again with
+//! the answers of the libraries between its lines.
 //!
-//! The file `stdout` has what must come. Its answers are taken from the rules of the language, never from this program.
+//! The file `stdout` has what must come. Its answers are taken from the rules of the language,
+//! never from this program.
 #![tactic(auto)]
 
 mod calls;

@@ -1,7 +1,7 @@
 //! A table of cases, and its answers.
 //!
-//! An empty line and a line that begins with `#` are for the reader. A line that begins with `|` adds a line to the text of
-//! the case above it. Every other line begins a case.
+//! An empty line and a line that begins with `#` are for the reader. A line that begins with `|`
+//! adds a line to the text of the case above it. Every other line begins a case.
 
 use crate::calls::answer;
 use crate::cases::Case;
@@ -87,7 +87,8 @@ fn write_problem(problem: Problem, out: &mut Vec<u8>) -> Result<(), Memory> {
     }
 }
 
-/// Appends the lines of a text, each with a head before it. A last line that has no line feed is marked.
+/// Appends the lines of a text, each with a head before it. A last line that has no line feed is
+/// marked.
 pub fn write_lines(head: &[u8], text: &[u8], out: &mut Vec<u8>) -> Result<(), Memory> {
     if text.is_empty() {
         return Ok(());

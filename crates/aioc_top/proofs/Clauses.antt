@@ -182,9 +182,11 @@ module _ (one : OneBundle) (call : Call) (all_built : (found : Command) → call
     where
       only : s ≡ wanted → (found : Command) × (call.asked ≡ Some found) × IfSome call.source.left (Cause found wanted)
       only e =
-          let its = told call wanted tells (subst (Happens call) e h) in
-          (its.1.command, its.1.asked,
-          mapped (λ left read. subst (Cause its.1.command wanted) (sym read) (its.0, its.1.comes, its.2)) call.source.left its.1.read)
+          let its = told call wanted tells (subst (Happens call) e h) in (
+            its.1.command,
+            its.1.asked,
+            mapped (λ left read. subst (Cause its.1.command wanted) (sym read) (its.0, its.1.comes, its.2)) call.source.left its.1.read,
+          )
 
       same_status : (found : Command) → call.asked ≡ Some found → (its : Told call s) → IfSome call.source.left (λ bytes. Cause found wanted bytes → s ≡ wanted)
       same_status found is its =
@@ -269,22 +271,24 @@ module _ (formed : SpelledAreFormed) (every : EveryRun) (sound : RunsAreSound) (
       let N = arrives.network in
       let finished : is_finished b H ≡ network_ended b.cast N = end_is b H N arrives.runs in
       let status_is : s ≡ status_of_end (if network_ended b.cast N then end.Done else end.Limit) =
-      is ∙ ap (λ (r : Reply). status_of_end r.end) h.replies ∙ ap (λ t. status_of_end (if t then end.Done else end.Limit)) finished in
-      (record {
-        bytes = bytes;
-        read = read;
-        bundle = b;
-        spells = h.spells;
-        accepted = accepted;
-        history = H;
-        network = N;
-        printed = subst (λ (r : Reply). Appends out.taken out_after.taken r.text) h.replies wrote;
-        headline = every b H N accepted arrives.runs;
-        within = arrives.within;
-        done = subst (λ t. (t ≡ status.Done) ↔ (network_ended b.cast N ≡ true)) (sym status_is) (ends_done (network_ended b.cast N));
-        limit = subst (λ t. (t ≡ status.Limit) ↔ ((length H ≡ options.steps) × (network_ended b.cast N ≡ false))) (sym status_is)
-        (ends_limit (network_ended b.cast N) arrives.finished);
-      }, refl)
+      is ∙ ap (λ (r : Reply). status_of_end r.end) h.replies ∙ ap (λ t. status_of_end (if t then end.Done else end.Limit)) finished in (
+        record {
+          bytes = bytes;
+          read = read;
+          bundle = b;
+          spells = h.spells;
+          accepted = accepted;
+          history = H;
+          network = N;
+          printed = subst (λ (r : Reply). Appends out.taken out_after.taken r.text) h.replies wrote;
+          headline = every b H N accepted arrives.runs;
+          within = arrives.within;
+          done = subst (λ t. (t ≡ status.Done) ↔ (network_ended b.cast N ≡ true)) (sym status_is) (ends_done (network_ended b.cast N));
+          limit = subst (λ t. (t ≡ status.Limit) ↔ ((length H ≡ options.steps) × (network_ended b.cast N ≡ false))) (sym status_is)
+              (ends_limit (network_ended b.cast N) arrives.finished);
+        },
+        refl,
+      )
 
   pub step_text : (call : Call) (s : Status) → Happens call s → call.asked ≡ Some (command.Step options) → has_printed s ≡ true
       → (run : RunPrinted options s call.source call.out call.out_after) × (run.history ≡ step_history options run.bundle)

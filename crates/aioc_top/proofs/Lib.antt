@@ -1,6 +1,7 @@
 pub mod Asked
 pub mod Causes
 pub mod Clauses
+mod Examples
 pub mod FaultLemmas
 pub mod Pieces
 pub mod Printing

@@ -28,7 +28,8 @@ IsRead source bytes = IfSome source.left (λ told. told ≡ bytes)
 -- a sink took the line, or its count of faults rose and it took a part of it
 abbrev pub SaysLine : SinkState → SinkState → List ℕ → Type 0
 SaysLine err err_after line =
-    Appends err.taken err_after.taken line ⊎ (Rose err.faults err_after.faults × TakesPart err.taken err_after.taken line)
+    Appends err.taken err_after.taken line
+    ⊎ (Rose err.faults err_after.faults × TakesPart err.taken err_after.taken line)
 
 -- a text that is too long isn't read to its end
 abbrev pub ReadsTo : Verdict → SourceState → Type 0
@@ -58,13 +59,19 @@ pub record Judges (call : Call) (verdict : Verdict) : Type 0 where
 
 -- the table: what each status says of a call
 abbrev pub Happens : Call → Status → Type 0
-Happens call status.Usage = (call.asked ≡ None) × (call.source_after ≡ call.source) × (call.out_after ≡ call.out)
+Happens call status.Usage =
+    (call.asked ≡ None) × (call.source_after ≡ call.source) × (call.out_after ≡ call.out)
     × SaysLine call.err call.err_after usage_line
-Happens call status.Memory = (call.out_after ≡ call.out) × SaysLine call.err call.err_after memory_line
-Happens call status.ReadFault = IsSome call.asked × Rose call.source.faults call.source_after.faults × (call.out_after ≡ call.out)
+Happens call status.Memory =
+    (call.out_after ≡ call.out) × SaysLine call.err call.err_after memory_line
+Happens call status.ReadFault =
+    IsSome call.asked × Rose call.source.faults call.source_after.faults
+    × (call.out_after ≡ call.out)
     × SaysLine call.err call.err_after read_fault_line
-Happens call status.WriteFault = (reply : Reply) × Judges call (Replied reply) × Rose call.out.faults call.out_after.faults
-    × TakesPart call.out.taken call.out_after.taken reply.text × SaysLine call.err call.err_after write_fault_line
+Happens call status.WriteFault =
+    (reply : Reply) × Judges call (Replied reply) × Rose call.out.faults call.out_after.faults
+    × TakesPart call.out.taken call.out_after.taken reply.text × SaysLine call.err call.err_after
+    write_fault_line
 Happens call result = (verdict : Verdict) × Judges call verdict × (result ≡ status_of verdict)
     × Writes verdict call.out call.out_after × Says verdict call.err call.err_after
 

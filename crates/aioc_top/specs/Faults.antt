@@ -47,31 +47,37 @@ IsRefusalFault why _ = ⊥
 
 -- the fault of the first refusal of a bundle, with its line; memory may run out
 abbrev pub IsRefusedSo : Command → PlainBundle → Fault → Type 0
-IsRefusedSo asked b (fault.Refused line) = (why : Refusal) × (refusal_of asked b ≡ Some why) × (line.items ≡ refusal_line why)
+IsRefusedSo asked b (fault.Refused line) =
+    (why : Refusal) × (refusal_of asked b ≡ Some why) × (line.items ≡ refusal_line why)
 IsRefusedSo asked b fault.Memory = Unit {0}
 IsRefusedSo asked b _ = ⊥
 
 -- the fault of some verdict on bytes, with its line; memory may run out
 abbrev pub IsJudgedSo : Command → List ℕ → Fault → Type 0
-IsJudgedSo asked bytes (fault.Syntax line) = (byte : ℕ) × Comes asked bytes (Unspelled byte) × (line.items ≡ syntax_line byte)
-IsJudgedSo asked bytes (fault.Refused line) = (why : Refusal) × Comes asked bytes (Refused why) × (line.items ≡ refusal_line why)
+IsJudgedSo asked bytes (fault.Syntax line) =
+    (byte : ℕ) × Comes asked bytes (Unspelled byte) × (line.items ≡ syntax_line byte)
+IsJudgedSo asked bytes (fault.Refused line) =
+    (why : Refusal) × Comes asked bytes (Refused why) × (line.items ≡ refusal_line why)
 IsJudgedSo asked bytes fault.Memory = Unit {0}
 IsJudgedSo asked bytes _ = ⊥
 
 -- the verdict of the bytes that were read from a source
-pub record ReadSo (asked : Command) (source source_after : SourceState) (verdict : Verdict) : Type 0 where
-  pub bytes : List ℕ
-  pub read : IsRead source bytes
-  pub to_end : ReadsTo verdict source_after
-  pub comes : Comes asked bytes verdict
+pub record ReadSo (asked : Command) (source source_after : SourceState) (verdict : Verdict) : Type 0
+  where
+    pub bytes : List ℕ
+    pub read : IsRead source bytes
+    pub to_end : ReadsTo verdict source_after
+    pub comes : Comes asked bytes verdict
 
 -- why a command has no reply to what a source has
 abbrev pub Stops : Command → SourceState → SourceState → Fault → Type 0
 Stops asked source source_after fault.ReadFault = Rose source.faults source_after.faults
 Stops asked source source_after fault.TooLong = ReadSo asked source source_after TooLong
-Stops asked source source_after (fault.Syntax line) = (byte : ℕ) × ReadSo asked source source_after (Unspelled byte)
+Stops asked source source_after (fault.Syntax line) =
+    (byte : ℕ) × ReadSo asked source source_after (Unspelled byte)
     × (line.items ≡ syntax_line byte)
-Stops asked source source_after (fault.Refused line) = (why : Refusal) × ReadSo asked source source_after (Refused why)
+Stops asked source source_after (fault.Refused line) =
+    (why : Refusal) × ReadSo asked source source_after (Refused why)
     × (line.items ≡ refusal_line why)
 Stops asked source source_after fault.Memory = Unit {0}
 Stops asked source source_after fault.Usage = ⊥

@@ -23,7 +23,9 @@ abbrev pub refusal_text : Refusal → List ℕ
 refusal_text (refusal.TooMany which) = which_text which
 refusal_text (refusal.UnknownRole at r) = where_text at ++ codes "unknown role " ++ r.0
 refusal_text (refusal.SelfMessage at i) = where_text at ++ codes "self message " ++ index_text i
-refusal_text (refusal.Unlinked at i j r) = where_text at ++ codes "unlinked " ++ index_text i ++ codes " then " ++ index_text j ++ codes ": " ++ r.0
+refusal_text (refusal.Unlinked at i j r) =
+    where_text at ++ codes "unlinked " ++ index_text i ++ codes " then " ++ index_text j
+    ++ codes ": " ++ r.0
 refusal_text (refusal.BodyTooBig n) = where_text (place.Rule n) ++ codes "body too big"
 refusal_text refusal.Memory = codes "out of memory"
 

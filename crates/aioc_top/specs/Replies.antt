@@ -45,7 +45,8 @@ abbrev pub last_of : Bool → ℕ → Last
 last_of finished n = if finished then last.Ended n else last.Stopped n
 
 abbrev pub run_text : Options → List Entry → Last → List ℕ
-run_text options H last_line = if options.json then json_text (shown options H) last_line else text (shown options H) last_line
+run_text options H last_line =
+    if options.json then json_text (shown options H) last_line else text (shown options H) last_line
 
 -- the reply that prints a history
 abbrev pub run_reply : Options → PlainBundle → List Entry → Reply
@@ -58,7 +59,8 @@ run_reply options b H = record {
 abbrev pub step_history : Options → PlainBundle → List Entry
 step_history options b = sched b options.seed options.steps
 
--- a history of the threads: a prompt run with at most so many entries, and fewer only where the network has ended
+-- a history of the threads: a prompt run with at most so many entries, and fewer only where the
+-- network has ended
 pub record IsThreadRun (b : PlainBundle) (limit : ℕ) (H : List Entry) : Type 0 where
   pub network : Network
   pub runs : network_run b H ≡ Some network
@@ -75,8 +77,11 @@ abbrev pub done : List ℕ → Reply
 done bytes = record { end = end.Done; text = line_of_text bytes }
 
 abbrev pub check_line : PlainBundle → List ℕ
-check_line b = codes "accepted: roles " ++ decimal (length b.cast) ++ codes ", nodes " ++ decimal (nodes b.choreo)
-    ++ codes ", rules " ++ decimal (length b.rules) ++ codes ", changes " ++ decimal (length b.script)
+check_line b =
+    codes "accepted: roles " ++ decimal (length b.cast) ++ codes ",
+    nodes " ++ decimal (nodes b.choreo)
+    ++ codes ", rules " ++ decimal (length b.rules) ++ codes ", changes "
+        ++ decimal (length b.script)
 
 abbrev pub yes : ℕ → Reply
 yes n = done (codes "yes " ++ decimal n)
@@ -93,8 +98,9 @@ abbrev pub is_too_short : PlainBundle → Option Last → List Entry → Bool
 is_too_short b (Some (last.Ended n)) trace = if is_over b trace then false else true
 is_too_short b _ trace = false
 
--- The judgement of the trace section: the number of the first entry that isn't played, one past the last where the section says
--- `ended` too soon, and else how many entries were judged. Auxiliary entries are passed over, and have numbers all the same.
+-- The judgement of the trace section: the number of the first entry that isn't played, one past the
+-- last where the section says `ended` too soon, and else how many entries were judged. Auxiliary
+-- entries are passed over, and have numbers all the same.
 abbrev pub replay_reply : PlainBundle → Reply
 replay_reply b = by_stray (stray b b.trace.entries)
   where
@@ -103,11 +109,13 @@ replay_reply b = by_stray (stray b b.trace.entries)
     by_stray None = if is_too_short b b.trace.last (visible b.trace.entries)
         then no (suc (length b.trace.entries)) else yes (length (visible b.trace.entries))
 
--- the line of `gen`, for the made bundle and its run: the follower never refuses, so the words at its end are always true
+-- the line of `gen`, for the made bundle and its run: the follower never refuses, so the words at
+-- its end are always true
 abbrev pub gen_line : ℕ → ℕ → PlainBundle → List Entry → ℕ → List ℕ
 gen_line number size b H updates = codes "gen " ++ decimal number ++ codes " " ++ decimal size
     ++ codes ": roles " ++ decimal (length b.cast) ++ codes ", nodes " ++ decimal (nodes b.choreo)
-    ++ codes ", entries " ++ decimal (length H) ++ codes ", visible " ++ decimal (length (visible H))
+    ++ codes ", entries " ++ decimal (length H) ++ codes ", visible "
+        ++ decimal (length (visible H))
     ++ codes ", updates " ++ decimal updates ++ codes ", played yes"
 
 -- ---- all commands

@@ -28,9 +28,11 @@ has_printed status.Limit = true
 has_printed status.No = true
 has_printed _ = false
 
--- The text of a run was printed: that of some history of an accepted bundle which the bytes spell, and these are the source's where
--- it tells them. The headline holds of this very history. It is no longer than the options allow; the status tells how it ended.
-pub record RunPrinted (options : Options) (result : Status) (source : SourceState) (out out_after : SinkState) : Type 0 where
+-- The text of a run was printed: that of some history of an accepted bundle which the bytes spell,
+-- and these are the source's where it tells them. The headline holds of this very history. It is no
+-- longer than the options allow; the status tells how it ended.
+pub record RunPrinted (options : Options) (result : Status) (source : SourceState)
+    (out out_after : SinkState) : Type 0 where
   pub bytes : List ℕ
   pub read : IsRead source bytes
   pub bundle : PlainBundle
@@ -42,16 +44,20 @@ pub record RunPrinted (options : Options) (result : Status) (source : SourceStat
   pub headline : Headline bundle history network
   pub within : length history ≤ options.steps
   pub done : (result ≡ status.Done) ↔ (network_ended bundle.cast network ≡ true)
-  pub limit : (result ≡ status.Limit) ↔ ((length history ≡ options.steps) × (network_ended bundle.cast network ≡ false))
+  pub limit : (result ≡ status.Limit) ↔ ((length history ≡ options.steps)
+      × (network_ended bundle.cast network ≡ false))
 
 -- with `step` the printed history is the one that the schedule takes
 abbrev pub StepText : Option Command → Status → SourceState → SinkState → SinkState → Type 0
-StepText asked result source out out_after = (options : Options) → asked ≡ Some (command.Step options) → has_printed result ≡ true
-    → (run : RunPrinted options result source out out_after) × (run.history ≡ step_history options run.bundle)
+StepText asked result source out out_after =
+    (options : Options) → asked ≡ Some (command.Step options) → has_printed result ≡ true
+    → (run : RunPrinted options result source out out_after)
+    × (run.history ≡ step_history options run.bundle)
 
 -- the headline, of the very history behind the text
 abbrev pub HeadlineHolds : Option Command → Status → SourceState → SinkState → SinkState → Type 0
-HeadlineHolds asked result source out out_after = (options : Options) → asked ≡ Some (command.Step options) → has_printed result ≡ true
+HeadlineHolds asked result source out out_after =
+    (options : Options) → asked ≡ Some (command.Step options) → has_printed result ≡ true
     → RunPrinted options result source out out_after
 
 -- memory ran out, or a device failed: nothing in the bytes makes it come
@@ -61,24 +67,30 @@ GivesUp status.ReadFault = Unit {0}
 GivesUp status.WriteFault = Unit {0}
 GivesUp _ = ⊥
 
--- A status comes exactly where its cause is in the bytes of the source, where the source tells them; only want of memory and a fault
--- of a device stand before it.
-pub record ComesExactly (wanted result : Status) (asked : Option Command) (source : SourceState) : Type 0 where
-  pub only : result ≡ wanted → (found : Command) × (asked ≡ Some found) × IfSome source.left (Cause found wanted)
+-- A status comes exactly where its cause is in the bytes of the source, where the source tells
+-- them; only want of memory and a fault of a device stand before it.
+pub record ComesExactly (wanted result : Status) (asked : Option Command) (source : SourceState) :
+    Type 0 where
+  pub only : result ≡ wanted → (found : Command) × (asked ≡ Some found)
+      × IfSome source.left (Cause found wanted)
   pub always : (found : Command) → asked ≡ Some found
       → IfSome source.left (λ bytes. Cause found wanted bytes → (result ≡ wanted) ⊎ GivesUp result)
 
--- words that ask for no command get no other answer, but for want of memory; and nothing else gets it
+-- words that ask for no command get no other answer, but for want of memory; and nothing else gets
+-- it
 pub record UsageComes (result : Status) (asked : Option Command) : Type 0 where
   pub only : result ≡ status.Usage → asked ≡ None
   pub always : asked ≡ None → (result ≡ status.Usage) ⊎ (result ≡ status.Memory)
 
--- a bundle that is spelled and not refused gets an answer of its command, or want of memory, where no device failed
-abbrev pub Complete : Status → Option Command → SourceState → SourceState → SinkState → SinkState → Type 0
+-- a bundle that is spelled and not refused gets an answer of its command, or want of memory, where
+-- no device failed
+abbrev pub Complete : Status → Option Command → SourceState → SourceState → SinkState → SinkState
+    → Type 0
 Complete result asked source source_after out out_after = (found : Command) → asked ≡ Some found
     → (Rose source.faults source_after.faults → ⊥) → (Rose out.faults out_after.faults → ⊥)
     → IfSome source.left (λ bytes. (b : PlainBundle) → Spells bytes b → refusal_of found b ≡ None
-        → ((reply : Reply) × Replies found b reply × (result ≡ status_of_end reply.end)) ⊎ (result ≡ status.Memory))
+    → ((reply : Reply) × Replies found b reply × (result ≡ status_of_end reply.end))
+    ⊎ (result ≡ status.Memory))
 
 -- words that ask for no command read nothing; what a text was read for comes after its end
 abbrev pub ReadsAll : Status → SourceState → SourceState → Type 0
@@ -92,7 +104,8 @@ ReadsAll status.WriteFault source source_after = IsAtEnd source_after.left
 ReadsAll _ source source_after = Unit {0}
 
 -- a part of a text that the command may write for the bytes
-pub record PartPrinted (asked : Option Command) (source : SourceState) (out out_after : SinkState) : Type 0 where
+pub record PartPrinted (asked : Option Command) (source : SourceState) (out out_after : SinkState) :
+    Type 0 where
   pub command : Command
   pub asked_for : asked ≡ Some command
   pub bytes : List ℕ
@@ -101,7 +114,8 @@ pub record PartPrinted (asked : Option Command) (source : SourceState) (out out_
   pub comes : Answers command bytes reply
   pub part : TakesPart out.taken out_after.taken reply.text
 
--- `out` isn't called before a refusal; with a fault of `out` it took a part of a text that it might have taken whole
+-- `out` isn't called before a refusal; with a fault of `out` it took a part of a text that it might
+-- have taken whole
 abbrev pub Silent : Status → Option Command → SourceState → SinkState → SinkState → Type 0
 Silent status.Done asked source out out_after = Unit {0}
 Silent status.Limit asked source out out_after = Unit {0}
@@ -109,7 +123,8 @@ Silent status.No asked source out out_after = Unit {0}
 Silent status.WriteFault asked source out out_after = PartPrinted asked source out out_after
 Silent _ asked source out out_after = out_after ≡ out
 
--- `err` isn't called where `out` took the whole text, and else it took the line of the status, or a part of it where it failed
+-- `err` isn't called where `out` took the whole text, and else it took the line of the status, or a
+-- part of it where it failed
 abbrev pub SaysWhy : Status → Option Command → SourceState → SinkState → SinkState → Type 0
 SaysWhy status.Done asked source err err_after = err_after ≡ err
 SaysWhy status.Limit asked source err err_after = err_after ≡ err
@@ -118,7 +133,10 @@ SaysWhy status.Usage asked source err err_after = SaysLine err err_after usage_l
 SaysWhy status.ReadFault asked source err err_after = SaysLine err err_after read_fault_line
 SaysWhy status.WriteFault asked source err err_after = SaysLine err err_after write_fault_line
 SaysWhy status.TooLong asked source err err_after = SaysLine err err_after too_long_line
-SaysWhy status.Syntax asked source err err_after = (byte : ℕ) × SaysLine err err_after (syntax_line byte)
-SaysWhy status.Refused asked source err err_after = (found : Command) × (asked ≡ Some found) × ((why : Refusal)
-    × SaysLine err err_after (refusal_line why) × IfSome source.left (λ bytes. Refuses found bytes why))
+SaysWhy status.Syntax asked source err err_after =
+    (byte : ℕ) × SaysLine err err_after (syntax_line byte)
+SaysWhy status.Refused asked source err err_after =
+    (found : Command) × (asked ≡ Some found) × ((why : Refusal)
+    × SaysLine err err_after (refusal_line why)
+    × IfSome source.left (λ bytes. Refuses found bytes why))
 SaysWhy status.Memory asked source err err_after = SaysLine err err_after memory_line

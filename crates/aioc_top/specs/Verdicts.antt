@@ -56,4 +56,5 @@ status_of (Replied reply) = status_of_end reply.end
 
 -- what of the bytes makes a status come
 abbrev pub Cause : Command → Status → List ℕ → Type 0
-Cause asked wanted bytes = (verdict : Verdict) × Comes asked bytes verdict × (wanted ≡ status_of verdict)
+Cause asked wanted bytes =
+    (verdict : Verdict) × Comes asked bytes verdict × (wanted ≡ status_of verdict)

@@ -11,4 +11,5 @@ is_built _ = false
 
 -- the command that the words ask for, where it is built
 abbrev pub asked : List (List ℕ) → Option Command
-asked words = option_and_then (λ found. if is_built found then Some found else None) (command_of words)
+asked words =
+    option_and_then (λ found. if is_built found then Some found else None) (command_of words)

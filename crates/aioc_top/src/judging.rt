@@ -24,7 +24,8 @@ use std::alloc::Global;
 pub fn judge(alloc: Global, command: &Command, bytes: &[u8]) -> Result<Written, Fault>
     requires built { is_built command.now ≡ true }
     requires small { length bytes.now ≤ most_bytes }
-    ensures reply { IfOk result (λ written. Comes command.now bytes.now (Replied (reply_of written))) }
+    ensures reply { IfOk result
+        (λ written. Comes command.now bytes.now (Replied (reply_of written))) }
     ensures fault { IfErr result (IsJudgedSo command.now bytes.now) }
 {
     match read_bundle(alloc, bytes) {

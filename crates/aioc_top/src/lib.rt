@@ -1,4 +1,5 @@
-//! The program behind `main`: from the words of the command line and the bytes of a source to the trace in a sink.
+//! The program behind `main`: from the words of the command line and the bytes of a source to the
+//! trace in a sink.
 #![tactic(auto)]
 
 mod commands;

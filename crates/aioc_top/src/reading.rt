@@ -15,11 +15,7 @@ use dioc_terms::MOST_BYTES;
 use std::alloc::Global;
 
 /// What the command replies to all the bytes of the source, or why it doesn't.
-pub fn answer<S: Source>(
-    alloc: Global,
-    command: &Command,
-    source: &mut S,
-) -> Result<Written, Fault>
+pub fn answer<S: Source>(alloc: Global, command: &Command, source: &mut S) -> Result<Written, Fault>
     requires built { is_built command.now ≡ true }
     ensures reply { IfOk result (λ written.
         ReadSo command.now (S.state source.old) (S.state source.new) (Replied (reply_of written))) }

@@ -24,12 +24,13 @@ use dioc_terms::Memory;
 use net_core::{every_run, runs_are_sound};
 use std::alloc::Global;
 
-/// Does what the words after the program's name say: reads a bundle from the source, and writes the text of the command to `out`.
-/// Where it can't, it writes one line to `err`, and nothing to `out`; only a fault of `out` leaves a part of the text there. It waits
-/// for nobody.
+/// Does what the words after the program's name say: reads a bundle from the source, and writes the
+/// text of the command to `out`. Where it can't, it writes one line to `err`, and nothing to `out`;
+/// only a fault of `out` leaves a part of the text there. It waits for nobody.
 ///
-/// Its status tells how it went. What a clause says of the source's bytes holds where the source tells them, and what it says of
-/// bytes that were taken holds where the sink tells them; that what was printed is the text of some accepted bundle holds anyway.
+/// Its status tells how it went. What a clause says of the source's bytes holds where the source
+/// tells them, and what it says of bytes that were taken holds where the sink tells them; that what
+/// was printed is the text of some accepted bundle holds anyway.
 pub fn serve_alone<S: Source, O: Sink, E: Sink>(
     alloc: Global,
     words: &[Vec<u8>],
@@ -41,8 +42,9 @@ pub fn serve_alone<S: Source, O: Sink, E: Sink>(
     ensures step_text { StepText (asked (spelled words.now)) result (S.state source.old)
         (O.state out.old) (O.state out.new) }
 
-    // The headline of the history behind that text: the choreography itself plays it, with the same changes at the same
-    // places; no two pending messages can be confused; nothing gets stuck. And so it is of every run of an accepted bundle.
+    // The headline of the history behind that text: the choreography itself plays it, with the same
+    // changes at the same places; no two pending messages can be confused; nothing gets stuck. And
+    // so it is of every run of an accepted bundle.
     ensures headline { HeadlineHolds (asked (spelled words.now)) result (S.state source.old)
         (O.state out.old) (O.state out.new) }
     ensures every_run { EveryRun }
@@ -50,11 +52,15 @@ pub fn serve_alone<S: Source, O: Sink, E: Sink>(
     // When each status comes.
     ensures usage { UsageComes result (asked (spelled words.now)) }
     ensures done { ComesExactly Status.Done result (asked (spelled words.now)) (S.state source.old) }
-    ensures limit { ComesExactly Status.Limit result (asked (spelled words.now)) (S.state source.old) }
+    ensures limit { ComesExactly Status.Limit result (asked (spelled words.now))
+        (S.state source.old) }
     ensures no { ComesExactly Status.No result (asked (spelled words.now)) (S.state source.old) }
-    ensures too_long { ComesExactly Status.TooLong result (asked (spelled words.now)) (S.state source.old) }
-    ensures syntax { ComesExactly Status.Syntax result (asked (spelled words.now)) (S.state source.old) }
-    ensures refused { ComesExactly Status.Refused result (asked (spelled words.now)) (S.state source.old) }
+    ensures too_long { ComesExactly Status.TooLong result (asked (spelled words.now))
+        (S.state source.old) }
+    ensures syntax { ComesExactly Status.Syntax result (asked (spelled words.now))
+        (S.state source.old) }
+    ensures refused { ComesExactly Status.Refused result (asked (spelled words.now))
+        (S.state source.old) }
     ensures read_fault { result ≡ Status.ReadFault
         → Rose (S.state source.old).faults (S.state source.new).faults }
     ensures write_fault { result ≡ Status.WriteFault
@@ -95,13 +101,13 @@ fn do_words<S: Source, O: Sink, E: Sink>(
     err: &mut E,
 ) -> Status
     ensures { Happens (record {
-        asked = asked (spelled words.now);
-        source = S.state source.old;
-        source_after = S.state source.new;
-        out = O.state out.old;
-        out_after = O.state out.new;
-        err = E.state err.old;
-        err_after = E.state err.new;
+      asked = asked (spelled words.now);
+      source = S.state source.old;
+      source_after = S.state source.new;
+      out = O.state out.old;
+      out_after = O.state out.new;
+      err = E.state err.old;
+      err_after = E.state err.new;
     }) result }
 {
     match ask(alloc, words) {
@@ -121,13 +127,13 @@ fn do_command<S: Source, O: Sink, E: Sink>(
 ) -> Status
     requires built { is_built command.now ≡ true }
     ensures { Happens (record {
-        asked = Some command.now;
-        source = S.state source.old;
-        source_after = S.state source.new;
-        out = O.state out.old;
-        out_after = O.state out.new;
-        err = E.state err.old;
-        err_after = E.state err.new;
+      asked = Some command.now;
+      source = S.state source.old;
+      source_after = S.state source.new;
+      out = O.state out.old;
+      out_after = O.state out.new;
+      err = E.state err.old;
+      err_after = E.state err.new;
     }) result }
 {
     match answer(alloc, command, source) {
@@ -147,7 +153,8 @@ fn print<O: Sink, E: Sink>(written: &Written, out: &mut O, err: &mut E) -> Statu
     }
 }
 
-// Tells a person why a command did not do its work. A fault of `err` changes nothing: the rest of the line is dropped.
+// Tells a person why a command did not do its work. A fault of `err` changes nothing: the rest of
+// the line is dropped.
 fn report<E: Sink>(fault: &Fault, err: &mut E) -> Status
     ensures status { result ≡ status_of fault.now }
     ensures line { SaysLine (E.state err.old) (E.state err.new) (line_of fault.now) }

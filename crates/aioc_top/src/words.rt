@@ -8,7 +8,8 @@ use command_words::{Command, read_words};
 use dioc_terms::Memory;
 use std::alloc::Global;
 
-/// The command that the words after the program's name ask for; none where they spell no command, or one that isn't built.
+/// The command that the words after the program's name ask for; none where they spell no command,
+/// or one that isn't built.
 pub fn ask(alloc: Global, words: &[Vec<u8>]) -> Result<Option<Command>, Memory>
     ensures { IfOk result (λ found. found ≡ asked (spelled words.now)) }
 {

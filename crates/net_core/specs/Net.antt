@@ -26,7 +26,8 @@ use Rattle.net_core.specs.declared.network.Offer.{Offer}
 use Rattle.net_core.specs.declared.network.Offer.TheVariants.{Put, Take, Waiting, Nothing}
 use Rattle.net_core.specs.Schedule.{is_ready}
 
--- what a net holds: the one interaction of its bundle, how far it has come, the entries so far, and how many there may be
+-- what a net holds: the one interaction of its bundle, how far it has come, the entries so far, and
+-- how many there may be
 pub record NetState : Type 0 where
   pub key : Key
   pub variable : List ℕ
@@ -57,7 +58,8 @@ pub record IsNetOf (b : PlainBundle) (net : NetState) : Type 0 where
   pub supported : IsSupported b
   pub operation : List ℕ
   pub tag : net.key.tag ≡ Op operation
-  pub choreo : b.choreo ≡ Com net.key.index operation net.key.from (Const net.value) net.key.to net.variable
+  pub choreo : b.choreo ≡ Com net.key.index operation net.key.from (Const net.value) net.key.to
+      net.variable
   pub apart : role_eq net.key.from net.key.to ≡ false
   pub history : net.history ≡ entries_at net net.phase
   pub within : length net.history ≤ net.limit
@@ -75,10 +77,12 @@ offer_at key Ready q (act.Take k) = if role_eq q key.to && key_eq k key then Wai
 offer_at key Flying q (act.Take k) = if role_eq q key.to && key_eq k key then Take else Nothing
 offer_at key _ q _ = Nothing
 
--- the first fault of a step: the network has ended, the history is full, the act isn't offered, its message isn't there
+-- the first fault of a step: the network has ended, the history is full, the act isn't offered, its
+-- message isn't there
 abbrev pub first_fault : Bool → Bool → Bool → Bool → Option StepFault
 first_fault ended full offered ready =
-    if ended then Some Ended else if full then Some Full else if not offered then Some NoAct else if not ready then Some NotYet else None
+    if ended then Some Ended else if full then Some Full else if not offered then Some NoAct else if
+    not ready then Some NotYet else None
 
 -- a role of the cast offers the act
 abbrev pub is_offered_by : PlainBundle → Network → Role → Act → Bool
@@ -86,11 +90,13 @@ is_offered_by b N q a = member q b.cast && is_offered a (offers q (N.processes q
 
 -- the first fault of a step, none where it can be done
 abbrev pub step_fault : PlainBundle → NetState → Role → Act → Option StepFault
-step_fault b net q a = first_fault (network_ended b.cast (network_of b net)) (nat_le net.limit (length net.history))
+step_fault b net q a =
+    first_fault (network_ended b.cast (network_of b net)) (nat_le net.limit (length net.history))
     (is_offered_by b (network_of b net) q a) (is_ready (network_of b net) a)
 
 -- the net has made the step of this act of this role
-pub record IsStepOf (b : PlainBundle) (old : NetState) (q : Role) (a : Act) (new : NetState) : Type 0 where
+pub record IsStepOf (b : PlainBundle) (old : NetState) (q : Role) (a : Act) (new : NetState) : Type
+    0 where
   pub outcome : NextNetwork
   pub no_fault : step_fault b old q a ≡ None
   pub steps : act_step (setting b) (network_of b old) q a ≡ Some outcome

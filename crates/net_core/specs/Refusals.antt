@@ -30,7 +30,8 @@ too_many which most count = if nat_lt most count then Some (TooMany which) else 
 -- the greatest number of rules in the book, at its start and after each change of the script
 abbrev pub most_alive : List PlainRule → Book → List Timed → ℕ
 most_alive rules book [] = length book.order
-most_alive rules book (timed ∷ rest) = max (length book.order) (most_alive rules (apply rules book timed.change) rest)
+most_alive rules book (timed ∷ rest) =
+    max (length book.order) (most_alive rules (apply rules book timed.change) rest)
 
 -- the first of these roles that the cast lacks
 abbrev pub unknown_role : Where → List Role → List Role → Option Refusal
@@ -58,7 +59,9 @@ unlinked at cast I = refused (first_gap cast I)
 
 -- more nodes than a body may have, or deeper than it may be
 abbrev pub body_too_big : ℕ → Term → Option Refusal
-body_too_big n I = if nat_lt most_body_nodes (nodes I) || nat_lt most_body_depth (depth I) then Some (BodyTooBig n) else None
+body_too_big n I =
+    if nat_lt most_body_nodes (nodes I) || nat_lt most_body_depth (depth I) then Some (BodyTooBig n)
+    else None
 
 -- the first refusal of rule n
 abbrev pub rule_refusal : List Role → ℕ → Term → Option Refusal
@@ -71,7 +74,8 @@ rule_refusal cast n body = first_refusal (
 -- the first refusal of the rules from number n on
 abbrev pub rules_refusal : List Role → ℕ → List PlainRule → Option Refusal
 rules_refusal cast n [] = None
-rules_refusal cast n (rule ∷ rest) = first_refusal (rule_refusal cast n rule.body ∷ rules_refusal cast (suc n) rest ∷ [])
+rules_refusal cast n (rule ∷ rest) =
+    first_refusal (rule_refusal cast n rule.body ∷ rules_refusal cast (suc n) rest ∷ [])
 
 -- the first refusal of a bundle
 abbrev pub refusal : PlainBundle → Option Refusal

@@ -25,7 +25,8 @@ pub record Advances (b : PlainBundle) (old new : NetState) : Type 0 where
 pub record Finishes (b : PlainBundle) (old new : NetState) (finish : Finish) : Type 0 where
   pub history : new.history ≡ old.history ++ run_of b old
   pub ended : (finish ≡ Ended) ↔ (network_ended b.cast (network_of b new) ≡ true)
-  pub limit : (finish ≡ Limit) ↔ ((length new.history ≡ new.limit) × (network_ended b.cast (network_of b new) ≡ false))
+  pub limit : (finish ≡ Limit) ↔ ((length new.history ≡ new.limit)
+      × (network_ended b.cast (network_of b new) ≡ false))
   pub same_limit : new.limit ≡ old.limit
   pub net : IsNetOf b new
 

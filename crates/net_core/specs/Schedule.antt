@@ -15,7 +15,9 @@ use Rattle.net_core.specs.declared.moves.Move.TheVariants as move
 
 -- whether the script's next change, after so many, may stand after so many visible entries
 abbrev pub change_due : List Timed → ℕ → ℕ → Bool
-change_due script changes visible_entries = option_map_or (λ (timed : Timed). nat_le timed.after visible_entries) (slice_get script changes) false
+change_due script changes visible_entries =
+    option_map_or (λ (timed : Timed). nat_le timed.after visible_entries) (slice_get script changes)
+    false
 
 -- every act but a take whose message isn't pending
 abbrev pub is_ready : Network → Act → Bool
@@ -26,10 +28,12 @@ is_ready N _ = true
 abbrev pub role_moves : Network → Role → List Move
 role_moves N q = map (move.Act q) (filter (is_ready N) (offers q (N.processes q)))
 
--- the script's next change first, where it is due and the network has not ended, and then the acts, role by role in the cast's order
+-- the script's next change first, where it is due and the network has not ended, and then the acts,
+-- role by role in the cast's order
 abbrev pub moves : Setting → Network → List Move
 moves b N =
-    (if change_due b.script N.changes N.visible && not (network_ended b.cast N) then move.Change ∷ [] else []) ++ flat_map (role_moves N) b.cast
+    (if change_due b.script N.changes N.visible && not (network_ended b.cast N) then move.Change
+    ∷ [] else []) ++ flat_map (role_moves N) b.cast
 
 abbrev pub move_step : Setting → Network → Move → Option NextNetwork
 move_step b N move.Change = change_step b N
@@ -39,7 +43,8 @@ move_step b N (move.Act q a) = act_step b N q a
 abbrev pub next_number : ℕ → ℕ
 next_number x = (x * 6364136223846793005 + 1442695040888963407) % 2 ^ 64
 
--- the place, among so many moves, of the move that a schedule takes: the first, or with a seed by the next number
+-- the place, among so many moves, of the move that a schedule takes: the first, or with a seed by
+-- the next number
 abbrev pub move_place : Option ℕ → ℕ → ℕ
 move_place None count = 0
 move_place (Some x) count = (next_number x / 2 ^ 33) % count
@@ -49,18 +54,21 @@ next_seed seed = option_map next_number seed
 
 -- what a schedule takes next
 abbrev pub scheduled : Setting → Network → Option ℕ → Option NextNetwork
-scheduled b N seed = option_and_then (move_step b N) (slice_get (moves b N) (move_place seed (length (moves b N))))
+scheduled b N seed =
+    option_and_then (move_step b N) (slice_get (moves b N) (move_place seed (length (moves b N))))
 
 -- the entries that a schedule takes from a network on: until it has ended, and at most so many
 abbrev pub continued : Setting → Option ℕ → ℕ → Network → List Entry
 continued b seed zero N = []
 continued b seed (suc count) N =
     if network_ended b.cast N then [] else
-    option_map_or (λ (outcome : NextNetwork). outcome.entry ∷ continued b (next_seed seed) count outcome.network) (scheduled b N seed) []
+    option_map_or (λ (outcome : NextNetwork). outcome.entry ∷ continued b (next_seed seed) count
+    outcome.network) (scheduled b N seed) []
 
 -- a history continued by the schedule, to at most limit entries
 abbrev pub sched_from : PlainBundle → List Entry → Option ℕ → ℕ → List Entry
-sched_from b H seed limit = H ++ option_map_or (continued (setting b) seed (limit - length H)) (network_run b H) []
+sched_from b H seed limit =
+    H ++ option_map_or (continued (setting b) seed (limit - length H)) (network_run b H) []
 
 -- the run that the schedule takes from the start
 abbrev pub sched : PlainBundle → Option ℕ → ℕ → List Entry
@@ -76,4 +84,6 @@ due_after b H = change_due b.script (changes_in H) (length (visible H))
 
 -- no entry of a role stands directly after a part of the history after which the next change is due
 abbrev pub IsPrompt : PlainBundle → List Entry → Type 0
-IsPrompt b H = (before : List Entry) (e : Entry) (rest : List Entry) → H ≡ before ++ e ∷ rest → is_some (doer e) ≡ true → due_after b before ≡ false
+IsPrompt b H =
+    (before : List Entry) (e : Entry) (rest : List Entry) → H ≡ before ++ e ∷ rest
+    → is_some (doer e) ≡ true → due_after b before ≡ false

@@ -1,6 +1,7 @@
 //! The network of a bundle, stepped entry by entry.
 //!
-//! Today a bundle has one interaction that sends a constant, so a net holds that interaction and how far it has come.
+//! Today a bundle has one interaction that sends a constant, so a net holds that interaction and
+//! how far it has come.
 
 ghost use Rattle.std.specs.Prelude.{◌≡◌, ◌≢◌, ◌≤◌, ◌++◌, [], ◌∷◌, Some, None, IfOk, IfErr, OnOk, OnErr};
 ghost use Rattle.dioc_terms.specs.Supported.{IsSupported};
@@ -53,7 +54,14 @@ impl Model for Net {
 
     ghost Value = { NetState };
 
-    ghost view = { λ net. record { key = net.key; variable = net.variable; value = net.value; phase = net.phase; history = net.history.items; limit = net.limit } };
+    ghost view = { λ net. record {
+      key = net.key;
+      variable = net.variable;
+      value = net.value;
+      phase = net.phase;
+      history = net.history.items;
+      limit = net.limit;
+    } };
 }
 
 impl Net {
@@ -111,12 +119,13 @@ impl Net {
     }
 
     #[tactic(auto, using(crate::proofs::NetLemmas::moves_are))]
-    /// The moves of the network, in the order in which a schedule numbers them: the acts that the roles offer, role by
-    /// role in the cast's order, without takes whose message isn't pending.
+    /// The moves of the network, in the order in which a schedule numbers them: the acts that the
+    /// roles offer, role by role in the cast's order, without takes whose message isn't pending.
     pub fn moves(&self) -> Result<Vec<Move>, Memory>
         ghost bundle: { PlainBundle }
         requires { IsNetOf bundle self.now }
-        ensures { IfOk result (λ found. found.items ≡ moves (setting bundle) (network_of bundle self.now)) }
+        ensures { IfOk result
+            (λ found. found.items ≡ moves (setting bundle) (network_of bundle self.now)) }
     {
         let mut moves = Vec::new(self.alloc);
         if let Some(next) = self.next_move()? {
@@ -126,13 +135,14 @@ impl Net {
     }
 
     #[tactic(auto, using(crate::proofs::NetLemmas::put_steps, crate::proofs::NetLemmas::take_steps, crate::proofs::NetLemmas::nothing_fault))]
-    /// The step of a role by an act. The refusals come in the order of their variants; after any of them the net is
-    /// unchanged.
+    /// The step of a role by an act. The refusals come in the order of their variants; after any of
+    /// them the net is unchanged.
     pub fn step(&mut self, role: &Role, act: &Act) -> Result<(), StepFault>
         ghost bundle: { PlainBundle }
         requires { IsNetOf bundle self.old }
         ensures stepped { OnOk result (IsStepOf bundle self.old role.now act.now self.new) }
-        ensures refused { IfErr result (λ fault. fault ≢ StepFault.Memory → step_fault bundle self.old role.now act.now ≡ Some fault) }
+        ensures refused { IfErr result (λ fault. fault ≢ StepFault.Memory
+            → step_fault bundle self.old role.now act.now ≡ Some fault) }
         ensures err { OnErr result (self.new ≡ self.old) }
     {
         if self.phase == Phase::Landed {
@@ -183,7 +193,12 @@ impl Net {
 
     // The message is put: it flies from now on.
     fn put(&mut self) -> Result<(), StepFault>
-        ensures ok { OnOk result (self.new ≡ record self.old { phase = Phase.Flying; history = self.old.history ++ put_entry self.old ∷ [] }) }
+        ensures ok { OnOk result
+            (self.new ≡ record self.old {
+              phase = Phase.Flying;
+              history = self.old.history
+                  ++ put_entry self.old ∷ [];
+            }) }
         ensures memory { IfErr result (λ fault. fault ≡ StepFault.Memory) }
         ensures err { OnErr result (self.new ≡ self.old) }
     {
@@ -198,7 +213,12 @@ impl Net {
 
     // The message is taken: nothing is left to do.
     fn take(&mut self) -> Result<(), StepFault>
-        ensures ok { OnOk result (self.new ≡ record self.old { phase = Phase.Landed; history = self.old.history ++ take_entry self.old ∷ [] }) }
+        ensures ok { OnOk result
+            (self.new ≡ record self.old {
+              phase = Phase.Landed;
+              history = self.old.history
+                  ++ take_entry self.old ∷ [];
+            }) }
         ensures memory { IfErr result (λ fault. fault ≡ StepFault.Memory) }
         ensures err { OnErr result (self.new ≡ self.old) }
     {

@@ -46,13 +46,14 @@ impl From<Memory> for Refusal {
 }
 
 #[tactic(auto, using(crate::proofs::RefusalLemmas::refusals))]
-/// Whether a formed bundle may run; else its first refusal. Of the bundles that are read today the only one is an
-/// interaction of a role with itself.
+/// Whether a formed bundle may run; else its first refusal. Of the bundles that are read today the
+/// only one is an interaction of a role with itself.
 pub fn accept(bundle: &Bundle) -> Result<(), Refusal>
     requires formed { IsFormed (plain bundle.now) }
     requires supported { IsSupported (plain bundle.now) }
     ensures accepted { OnOk result (IsAccepted (plain bundle.now)) }
-    ensures refused { IfErr result (λ first. first ≢ Refusal.Memory → refusal (plain bundle.now) ≡ Some first) }
+    ensures refused { IfErr result (λ first. first ≢ Refusal.Memory → refusal (plain bundle.now)
+        ≡ Some first) }
 {
     match &bundle.choreo {
         Choreo::Com {

@@ -10,8 +10,8 @@ use crate::network::Net;
 use dioc_terms::Memory;
 
 #[tactic(auto, using(crate::proofs::RunLemmas::run_steps))]
-/// Takes the first move each time, until the network has ended or its history is full. After `Memory` the net has made
-/// the first moves of that run, possibly none.
+/// Takes the first move each time, until the network has ended or its history is full. After
+/// `Memory` the net has made the first moves of that run, possibly none.
 pub fn run_first(net: &mut Net) -> Result<Finish, Memory>
     ghost bundle: { PlainBundle }
     requires { IsNetOf bundle net.old }
@@ -30,8 +30,10 @@ pub fn run_first(net: &mut Net) -> Result<Finish, Memory>
 fn advance(net: &mut Net) -> Result<Option<Finish>, Memory>
     ghost bundle: { PlainBundle }
     requires { IsNetOf bundle net.old }
-    ensures advanced { IfOk result (λ done. MatchOption done (Advances bundle net.old net.new) (λ finish. Finishes bundle net.old net.new finish)) }
-    ensures finished { IfOk result (λ done. MatchOption done (Advances bundle net.old net.new) (λ finish. net.new ≡ net.old)) }
+    ensures advanced { IfOk result (λ done. MatchOption done (Advances bundle net.old net.new)
+        (λ finish. Finishes bundle net.old net.new finish)) }
+    ensures finished { IfOk result (λ done. MatchOption done (Advances bundle net.old net.new)
+        (λ finish. net.new ≡ net.old)) }
     ensures memory { OnErr result (net.new ≡ net.old) }
 {
     if net.is_ended() {

@@ -21,7 +21,8 @@ pub(crate) fn keep_opening(
 ) -> Result<IndexMap<Name, KeptRule>, Memory>
     requires formed { All IsFormedRule (map plain_rule rules.now) }
     requires there { opening ≤ length rules.now }
-    ensures order { IfOk result (λ kept. order_of kept.entries ≡ opening_order (map plain_rule rules.now) opening) }
+    ensures order { IfOk result (λ kept. order_of kept.entries
+        ≡ opening_order (map plain_rule rules.now) opening) }
     ensures kept { IfOk result (λ kept. AreKept (map plain_rule rules.now) kept.entries) }
 {
     let mut kept = IndexMap::new(alloc);
@@ -40,8 +41,10 @@ pub(crate) fn keep_script(
 ) -> Result<VecDeque<KeptChange>, Memory>
     requires formed { All IsFormedRule (map plain_rule rules.now) }
     requires there { AllByRecursion (λ m. m < length rules.now) (adds script.now) }
-    ensures changes { IfOk result (λ kept. map change_of kept.items ≡ map (λ timed. timed.change) script.now) }
-    ensures kept { IfOk result (λ kept. AllByRecursion (IsKeptChange (map plain_rule rules.now)) kept.items) }
+    ensures changes { IfOk result (λ kept. map change_of kept.items ≡ map (λ timed. timed.change)
+        script.now) }
+    ensures kept { IfOk result (λ kept. AllByRecursion (IsKeptChange (map plain_rule rules.now))
+        kept.items) }
 {
     let mut kept = Vec::with_capacity(alloc, script.len())?;
     for timed in script {

@@ -1,4 +1,5 @@
-//! What a book keeps of rules and of changes: copies, so that a change takes no memory and no body is walked again.
+//! What a book keeps of rules and of changes: copies, so that a change takes no memory and no body
+//! is walked again.
 
 ghost use Rattle.std.specs.Prelude.{◌≡◌, ◌&&◌, true, nat_lt, int_lt};
 ghost use Rattle.std.specs.List.{list_all};
@@ -41,18 +42,21 @@ pub enum KeptChange {
 }
 
 impl KeptRule {
-    /// Whether the rule fits a scope: its condition holds, the roles of its body are among the scope's roles, and the scope's
-    /// level is below the limit.
+    /// Whether the rule fits a scope: its condition holds, the roles of its body are among the
+    /// scope's roles, and the scope's level is below the limit.
     pub(crate) fn fits(&self, head: &ScopeHead, store: &Store, env: &[(Name, Value)]) -> bool
-        ensures { result ≡ (holds (expression self.now.cond) (store_of store.now) (bound head.now.props) (bound env.now)
-            && list_all (λ q. member q head.now.roles) self.now.roles && nat_lt head.now.level top_level) }
+        ensures { result ≡ (holds (expression self.now.cond) (store_of store.now)
+            (bound head.now.props) (bound env.now)
+            && list_all (λ q. member q head.now.roles) self.now.roles
+            && nat_lt head.now.level top_level) }
     {
         test(&self.cond, store, head.props.as_slice(), env)
             && are_among(self.roles.as_slice(), head.roles.as_slice())
             && head.level < LEVEL_LIMIT
     }
 
-    /// Whether the rule has a greater priority than the best so far, whose number and priority are given.
+    /// Whether the rule has a greater priority than the best so far, whose number and priority are
+    /// given.
     pub(crate) fn is_above(&self, best: Option<(u32, i32)>) -> bool
         ensures { result ≡ option_map_or (λ b. int_lt b.1 self.now.priority) best true }
     {

@@ -1,4 +1,5 @@
-//! The rule book: which rules may replace scopes, in which order, and the environment of their conditions.
+//! The rule book: which rules may replace scopes, in which order, and the environment of their
+//! conditions.
 #![tactic(auto)]
 
 mod book;

@@ -19,8 +19,8 @@ use std::test::Fail;
 
 const FIRST: Index = Index { epoch: 0, place: 0 };
 
-/// Name, priority, whether the condition is `E.k` and not `true`, and the role of the body. The first four are in the book
-/// from the start.
+/// Name, priority, whether the condition is `E.k` and not `true`, and the role of the body. The
+/// first four are in the book from the start.
 const RULES: [(u8, u8, bool, u8); 6] = [
     (b'p', 0, false, b'a'),
     (b'q', 0, false, b'a'),
@@ -30,11 +30,12 @@ const RULES: [(u8, u8, bool, u8); 6] = [
     (b'p', 0, false, b'a'),
 ];
 
-/// What the book chooses for a scope of level 15 and for one of level 16, and the rules of the names `p` and `s`.
+/// What the book chooses for a scope of level 15 and for one of level 16, and the rules of the
+/// names `p` and `s`.
 type State = (Option<u32>, Option<u32>, Option<u32>, Option<u32>);
 
-/// From the start, and after the adds of the rules 4 and 5, `k` set to true and to false, the drop of `s`, and that of `z`,
-/// which is absent.
+/// From the start, and after the adds of the rules 4 and 5, `k` set to true and to false, the drop
+/// of `s`, and that of `z`, which is absent.
 const STATES: [State; 7] = [
     (Some(0), None, Some(0), None),
     (Some(4), None, Some(0), Some(4)),
@@ -70,7 +71,8 @@ fn condition(alloc: Global, is_key: bool) -> Result<Expr, NameFault>
 
 /// `x` at the role is set to nil.
 fn body(alloc: Global, letter: u8) -> Result<Choreo, NameFault>
-    ensures { IfOk result (λ body. term body ≡ Set (index_at 0) (120 ∷ []) (record { 0 = letter ∷ [] }) (Const Nil)) }
+    ensures { IfOk result (λ body. term body ≡ Set (index_at 0) (120 ∷ [])
+        (record { 0 = letter ∷ [] }) (Const Nil)) }
 {
     let var = name(alloc, b'x')?;
     let role = role(alloc, letter)?;

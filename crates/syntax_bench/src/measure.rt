@@ -14,7 +14,8 @@ const LEAST: u32 = 8;
 // How often each text is read; the shortest time counts.
 const TRIES: u32 = 5;
 
-/// Prints a line for each text of each kind: its bytes, its time, and how many times longer it took than the one before.
+/// Prints a line for each text of each kind: its bytes, its time, and how many times longer it took
+/// than the one before.
 pub fn measure_all(rt: &HostRuntime) -> io::Result<()> {
     for statement in &STATEMENTS {
         measure_statement(rt, statement)?;

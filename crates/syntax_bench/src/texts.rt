@@ -2,7 +2,8 @@
 
 use std::alloc::{AllocError, Global};
 
-/// A statement that is repeated in a text: a head, a piece that is repeated, a middle, and another piece that is repeated.
+/// A statement that is repeated in a text: a head, a piece that is repeated, a middle, and another
+/// piece that is repeated.
 pub struct Statement {
     pub name: &'static str,
     /// How many of them stand in a group.

@@ -1,4 +1,5 @@
-//! `read_expr step: TEXT` and `read_expr condition: TEXT`: the longest expression at the front of a text.
+//! `read_expr step: TEXT` and `read_expr condition: TEXT`: the longest expression at the front of a
+//! text.
 
 use crate::cases::Case;
 use crate::problems::Problem;

@@ -7,7 +7,8 @@ use aioc_tokens::{Lexed, Sort, TokenFault, place, tokens};
 use std::alloc::Global;
 use text_pieces::write_bytes;
 
-/// Appends `at N SORT VALUE` for each lexeme that begins at byte N, and `at N end`; or `bad byte N`.
+/// Appends `at N SORT VALUE` for each lexeme that begins at byte N, and `at N end`; or `bad byte
+/// N`.
 pub fn answer(alloc: Global, case: &Case, out: &mut Vec<u8>) -> Result<(), Problem> {
     let found = match tokens(alloc, &case.text) {
         Ok(found) => found,

@@ -9,7 +9,8 @@ use std::alloc::Global;
 use text_pieces::write_bytes;
 use trace_text::write_index;
 
-/// Appends `connected`; or `unlinked I then J: R`, where the sequence of the constructs I and J isn't linked by role R.
+/// Appends `connected`; or `unlinked I then J: R`, where the sequence of the constructs I and J
+/// isn't linked by role R.
 pub fn answer(alloc: Global, case: &Case, out: &mut Vec<u8>) -> Result<(), Problem> {
     let choreo = whole_choreo(alloc, case)?;
     casts_are_roles();

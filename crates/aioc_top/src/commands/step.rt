@@ -19,8 +19,9 @@ use std::alloc::Global;
 use text_pieces::write_bytes;
 use trace_text::{write_last, write_line};
 
-/// The text of the run that the schedule takes from the start of the bundle's network, to at most as many entries as the options
-/// say, and how it ended. Auxiliary entries are printed with `--aux` alone.
+/// The text of the run that the schedule takes from the start of the bundle's network, to at most
+/// as many entries as the options say, and how it ended. Auxiliary entries are printed with `--aux`
+/// alone.
 pub fn step(alloc: Global, options: &Options, bundle: &Bundle) -> Result<Written, Memory>
     requires accepted { IsAccepted (plain bundle.now) }
     requires supported { IsSupported (plain bundle.now) }
@@ -72,13 +73,9 @@ fn last_of(finish: Finish, entries: u64) -> Last
 }
 
 // Appends the lines of the entries, of the visible ones alone or of all, and the last line.
-fn write_history(
-    entries: &[Entry],
-    aux: bool,
-    last: &Last,
-    out: &mut Vec<u8>,
-) -> Result<(), Memory>
-    ensures ok { OnOk result (out.new.items ≡ out.old.items ++ text (printed aux entries.now) last.now) }
+fn write_history(entries: &[Entry], aux: bool, last: &Last, out: &mut Vec<u8>) -> Result<(), Memory>
+    ensures ok { OnOk result (out.new.items ≡ out.old.items ++ text (printed aux entries.now)
+        last.now) }
 {
     for entry in entries {
         if aux || !entry.is_aux() {

@@ -1,0 +1,76 @@
+-- Worked rows: what each command that has a definition replies to a small bundle.
+use Rattle.std.proofs.Common.{◌≡◌, ℕ, List, [], ◌∷◌, ◌++◌, Bool, true, false, Option, Some, None, refl}
+use Rattle.std.specs.Prelude.{codes}
+use Rattle.dioc_terms.specs.declared.entries.Entry.{Entry}
+use Rattle.dioc_terms.specs.declared.bundles.Last.{Last}
+use Rattle.dioc_terms.specs.declared.bundles.Last.TheVariants as last
+use Rattle.dioc_terms.specs.declared.processes.Tag.TheVariants.{Op}
+use Rattle.dioc_terms.specs.Plain.{PlainBundle}
+use Rattle.net_core.proofs.Examples.{program, hello, hello_run, put, take_op, at, val}
+use Rattle.command_words.specs.declared.commands.Options.{Options}
+use Rattle.aioc_top.specs.declared.replies.End.TheVariants as end
+use Rattle.aioc_top.specs.Replies.{Reply, run_reply, step_history, check_line, replay_reply, gen_line, line_of_text}
+
+-- `aioc { hi: a(1) -> b(x) }`
+abbrev greeting : PlainBundle
+greeting = program hello
+
+-- the same with a trace to be judged
+abbrev judged : List Entry → Option Last → PlainBundle
+judged entries said = record greeting { trace = record { entries = entries; last = said } }
+
+-- at most so many entries, printed as lines or as JSON
+abbrev options : ℕ → Bool → Options
+options steps json = record { seed = None; steps = steps; workers = 4; aux = false; json = json }
+
+abbrev steps : ℕ → Bool → Reply
+steps n json = run_reply (options n json) greeting (step_history (options n json) greeting)
+
+abbrev lines_of : List (List ℕ) → List ℕ
+lines_of [] = []
+lines_of (l ∷ ls) = line_of_text l ++ lines_of ls
+
+step-ends : steps 2 false ≡ record {
+  end = end.Done;
+  text = lines_of (codes "put a -> b hi#0.0 = 1" ∷ codes "take a -> b hi#0.0 x" ∷ codes "ended 2" ∷ []);
+}
+step-ends = refl
+
+step-stops : steps 1 false ≡ record {
+  end = end.Limit;
+  text = lines_of (codes "put a -> b hi#0.0 = 1" ∷ codes "stopped 1" ∷ []);
+}
+step-stops = refl
+
+step-json : steps 2 true ≡ record {
+  end = end.Done;
+  text = lines_of (codes "{\"from\":\"a\",\"index\":\"0.0\",\"kind\":\"put\",\"name\":\"hi\",\"to\":\"b\",\"value\":1}"
+      ∷ codes "{\"from\":\"a\",\"index\":\"0.0\",\"kind\":\"take\",\"name\":\"hi\",\"to\":\"b\",\"var\":\"x\"}"
+      ∷ codes "{\"entries\":2,\"kind\":\"ended\"}" ∷ []);
+}
+step-json = refl
+
+check-accepts : check_line greeting ≡ codes "accepted: roles 2, nodes 1, rules 0, changes 0"
+check-accepts = refl
+
+-- a whole trace, one entry too few where the section says that it has ended, one that isn't played, and none at all
+replay-yes : replay_reply (judged hello_run (Some (last.Ended 2))) ≡ record { end = end.Done; text = line_of_text (codes "yes 2") }
+replay-yes = refl
+
+replay-short : replay_reply (judged (put (codes "a") (codes "b") (Op (codes "hi")) (at 0 0) (val 1) ∷ []) (Some (last.Ended 1)))
+    ≡ record { end = end.No; text = line_of_text (codes "no 2") }
+replay-short = refl
+
+replay-stopped : replay_reply (judged (put (codes "a") (codes "b") (Op (codes "hi")) (at 0 0) (val 1) ∷ []) (Some (last.Stopped 7)))
+    ≡ record { end = end.Done; text = line_of_text (codes "yes 1") }
+replay-stopped = refl
+
+replay-no : replay_reply (judged (put (codes "a") (codes "b") (Op (codes "hi")) (at 0 0) (val 2) ∷ []) None)
+    ≡ record { end = end.No; text = line_of_text (codes "no 1") }
+replay-no = refl
+
+replay-nothing : replay_reply greeting ≡ record { end = end.Done; text = line_of_text (codes "yes 0") }
+replay-nothing = refl
+
+gen-line : gen_line 1 3 greeting hello_run 0 ≡ codes "gen 1 3: roles 2, nodes 1, entries 2, visible 2, updates 0, played yes"
+gen-line = refl
