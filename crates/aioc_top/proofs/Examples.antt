@@ -1,5 +1,6 @@
 -- Worked rows: what each command that has a definition replies to a small bundle.
 use Rattle.std.proofs.Common.{◌≡◌, ℕ, List, [], ◌∷◌, ◌++◌, Bool, true, false, Option, Some, None, refl}
+use Rattle.std.specs.Fmt.{digits}
 use Rattle.std.specs.Prelude.{codes}
 use Rattle.dioc_terms.specs.declared.entries.Entry.{Entry}
 use Rattle.dioc_terms.specs.declared.bundles.Last.{Last}
@@ -34,12 +35,14 @@ step-ends : steps 2 false ≡ record {
   end = end.Done;
   text = lines_of (codes "put a -> b hi#0.0 = 1" ∷ codes "take a -> b hi#0.0 x" ∷ codes "ended 2" ∷ []);
 }
+unfolding digits
 step-ends = refl
 
 step-stops : steps 1 false ≡ record {
   end = end.Limit;
   text = lines_of (codes "put a -> b hi#0.0 = 1" ∷ codes "stopped 1" ∷ []);
 }
+unfolding digits
 step-stops = refl
 
 step-json : steps 2 true ≡ record {
@@ -48,29 +51,37 @@ step-json : steps 2 true ≡ record {
       ∷ codes "{\"from\":\"a\",\"index\":\"0.0\",\"kind\":\"take\",\"name\":\"hi\",\"to\":\"b\",\"var\":\"x\"}"
       ∷ codes "{\"entries\":2,\"kind\":\"ended\"}" ∷ []);
 }
+unfolding digits
 step-json = refl
 
 check-accepts : check_line greeting ≡ codes "accepted: roles 2, nodes 1, rules 0, changes 0"
+unfolding digits
 check-accepts = refl
 
 -- a whole trace, one entry too few where the section says that it has ended, one that isn't played, and none at all
 replay-yes : replay_reply (judged hello_run (Some (last.Ended 2))) ≡ record { end = end.Done; text = line_of_text (codes "yes 2") }
+unfolding digits
 replay-yes = refl
 
 replay-short : replay_reply (judged (put (codes "a") (codes "b") (Op (codes "hi")) (at 0 0) (val 1) ∷ []) (Some (last.Ended 1)))
     ≡ record { end = end.No; text = line_of_text (codes "no 2") }
+unfolding digits
 replay-short = refl
 
 replay-stopped : replay_reply (judged (put (codes "a") (codes "b") (Op (codes "hi")) (at 0 0) (val 1) ∷ []) (Some (last.Stopped 7)))
     ≡ record { end = end.Done; text = line_of_text (codes "yes 1") }
+unfolding digits
 replay-stopped = refl
 
 replay-no : replay_reply (judged (put (codes "a") (codes "b") (Op (codes "hi")) (at 0 0) (val 2) ∷ []) None)
     ≡ record { end = end.No; text = line_of_text (codes "no 1") }
+unfolding digits
 replay-no = refl
 
 replay-nothing : replay_reply greeting ≡ record { end = end.Done; text = line_of_text (codes "yes 0") }
+unfolding digits
 replay-nothing = refl
 
 gen-line : gen_line 1 3 greeting hello_run 0 ≡ codes "gen 1 3: roles 2, nodes 1, entries 2, visible 2, updates 0, played yes"
+unfolding digits
 gen-line = refl

@@ -78,10 +78,10 @@ done bytes = record { end = end.Done; text = line_of_text bytes }
 
 abbrev pub check_line : PlainBundle → List ℕ
 check_line b =
-    codes "accepted: roles " ++ decimal (length b.cast) ++ codes ",
-    nodes " ++ decimal (nodes b.choreo)
-    ++ codes ", rules " ++ decimal (length b.rules) ++ codes ", changes "
-        ++ decimal (length b.script)
+    codes "accepted: roles " ++ decimal (length b.cast)
+    ++ codes ", nodes " ++ decimal (nodes b.choreo)
+    ++ codes ", rules " ++ decimal (length b.rules)
+    ++ codes ", changes " ++ decimal (length b.script)
 
 abbrev pub yes : ℕ → Reply
 yes n = done (codes "yes " ++ decimal n)
