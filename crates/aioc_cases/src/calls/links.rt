@@ -4,7 +4,7 @@ use crate::cases::Case;
 use crate::problems::Problem;
 use crate::wholes::whole_choreo;
 use connectedness::{CheckFault, check};
-use dioc_terms::{Index, Memory, Role, casts_are_roles, roles};
+use dioc_terms::{Choreo, Index, Memory, Role, casts_are_roles, roles};
 use std::alloc::Global;
 use text_pieces::write_bytes;
 use trace_text::write_index;
@@ -13,20 +13,29 @@ use trace_text::write_index;
 /// isn't linked by role R.
 pub fn answer(alloc: Global, case: &Case, out: &mut Vec<u8>) -> Result<(), Problem> {
     let choreo = whole_choreo(alloc, case)?;
+    let checked = check_links(alloc, &choreo)?;
+    write_checked(checked, out)
+}
+
+// What the check says of a choreography with its own cast.
+fn check_links(alloc: Global, choreo: &Choreo) -> Result<Result<(), CheckFault>, Memory> {
     casts_are_roles();
-    let cast = roles(alloc, &choreo)?;
-    match check(alloc, &choreo, cast.as_slice()) {
-        Ok(()) => write_bytes(b"connected", out)?,
+    let cast = roles(alloc, choreo)?;
+    Ok(check(alloc, choreo, cast.as_slice()))
+}
+
+fn write_checked(checked: Result<(), CheckFault>, out: &mut Vec<u8>) -> Result<(), Problem> {
+    match checked {
+        Ok(()) => Ok(write_bytes(b"connected", out)?),
         Err(
             CheckFault::Unlinked {
                 first,
                 second,
                 role,
             },
-        ) => write_gap(first, second, &role, out)?,
-        Err(CheckFault::Memory) => return Err(Problem::Memory),
+        ) => Ok(write_gap(first, second, &role, out)?),
+        Err(CheckFault::Memory) => Err(Problem::Memory),
     }
-    Ok(())
 }
 
 fn write_gap(first: Index, second: Index, role: &Role, out: &mut Vec<u8>) -> Result<(), Memory> {
