@@ -115,7 +115,7 @@ abbrev pub gen_line : ℕ → ℕ → PlainBundle → List Entry → ℕ → Lis
 gen_line number size b H updates = codes "gen " ++ decimal number ++ codes " " ++ decimal size
     ++ codes ": roles " ++ decimal (length b.cast) ++ codes ", nodes " ++ decimal (nodes b.choreo)
     ++ codes ", entries " ++ decimal (length H) ++ codes ", visible "
-        ++ decimal (length (visible H))
+    ++ decimal (length (visible H))
     ++ codes ", updates " ++ decimal updates ++ codes ", played yes"
 
 -- ---- all commands
