@@ -32,7 +32,7 @@ pub fn answer(alloc: Global, case: &Case) -> Result<Vec<u8>, Problem> {
         b"roles" => casts::answer(alloc, case, &mut out)?,
         b"check" => links::answer(alloc, case, &mut out)?,
         b"read_bundle" => bundles::answer(alloc, case, &mut out)?,
-        b"serve" => services::answer(alloc, case, &mut out)?,
+        b"serve_alone" => services::answer(alloc, case, &mut out)?,
         _ => return Err(Problem::Bad("there is no such call")),
     }
     Ok(out)

@@ -3,6 +3,8 @@
 //! A byte stands for itself, but for the backtick. Between two backticks stand either bytes in hexadecimal digits, as `0A`
 //! or `C3A9`, or a number, a `*` and bytes that are repeated so often, as `512*(`.
 
+ghost use Rattle.std.specs.Prelude.{◌<◌, IfOk};
+
 use crate::problems::Problem;
 use std::alloc::Global;
 
@@ -56,24 +58,18 @@ fn append_times(bytes: &[u8], count: usize, out: &mut Vec<u8>) -> Result<(), Pro
 }
 
 fn append_hexadecimal(digits: &[u8], out: &mut Vec<u8>) -> Result<(), Problem> {
-    let mut high = None;
-    for digit in digits {
-        let value = hexadecimal(*digit)?;
-        high = match high {
-            None => Some(value),
-            Some(high) => {
-                append(&[16 * high + value], out)?;
-                None
-            }
-        };
+    for pair in digits.chunks(2) {
+        match pair {
+            [high, low] => append(&[16 * hexadecimal(*high)? + hexadecimal(*low)?], out)?,
+            _ => return Err(Problem::Bad("a byte has two hexadecimal digits")),
+        }
     }
-    match high {
-        None => Ok(()),
-        Some(_) => Err(Problem::Bad("a byte has two hexadecimal digits")),
-    }
+    Ok(())
 }
 
-fn hexadecimal(digit: u8) -> Result<u8, Problem> {
+fn hexadecimal(digit: u8) -> Result<u8, Problem>
+    ensures { IfOk result (λ value. value < 16) }
+{
     match digit {
         b'0'..=b'9' => Ok(digit - b'0'),
         b'A'..=b'F' => Ok(digit - b'A' + 10),

@@ -66,8 +66,8 @@ abbrev pub WordsAreSpelled : Type 0
 WordsAreSpelled =
     (bytes : List ℕ) (word : Word) → (word_of bytes ≡ Some word) ↔ (bytes ≡ word_spelling word)
 
-abbrev pub MarksAreSpelled : Type 0
-MarksAreSpelled =
+abbrev pub PunctuatorsAreSpelled : Type 0
+PunctuatorsAreSpelled =
     (bytes : List ℕ) (punctuator : Punctuator) → (punctuator_of bytes ≡ Some punctuator) ↔
     (bytes ≡ punctuator_spelling punctuator)
 

@@ -1,5 +1,5 @@
 // What holds of every text, as contracts of functions that do nothing.
-ghost use Rattle.aioc_tokens.specs.Laws.{EveryText, TokensOrBadByte, OneLexing, OneBadByte, TokensInOrder, EachIsLongest, OneReading, ReadHasSpelling, SpelledIsRead, WordsAreSpelled, MarksAreSpelled, NamesAreRead};
+ghost use Rattle.aioc_tokens.specs.Laws.{EveryText, TokensOrBadByte, OneLexing, OneBadByte, TokensInOrder, EachIsLongest, OneReading, ReadHasSpelling, SpelledIsRead, WordsAreSpelled, PunctuatorsAreSpelled, NamesAreRead};
 
 /// A text has tokens, or some byte of it is in none.
 pub fn every_text()
@@ -53,7 +53,7 @@ pub fn words_are_spelled()
 
 /// A symbol is found by its spelling, and by no other.
 pub fn punctuators_are_spelled()
-    ensures { MarksAreSpelled }
+    ensures { PunctuatorsAreSpelled }
 {}
 
 /// The text of a name is read as that name exactly where it isn't a reserved word.

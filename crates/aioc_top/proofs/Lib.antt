@@ -1,7 +1,7 @@
 pub mod Asked
 pub mod Causes
 pub mod Clauses
-pub mod Judging
+pub mod FaultLemmas
 pub mod Pieces
 pub mod Printing
 pub mod Table

@@ -10,3 +10,5 @@ pub mod Defaults
 pub mod Splitting
 pub mod Grammars
 pub mod Readings
+pub mod OnLiterals
+mod Examples

@@ -1,12 +1,12 @@
 -- The walk gives what the definition of the words gives.
-use Rattle.std.proofs.Common.{◌≡◌, ◌∙◌, ℕ, ◌+◌, min, Bool, true, false, not, cond, List, [], ◌∷◌, map, Option, Some, None, refl, sym, ap, inl, inr}
+use Rattle.std.proofs.Common.{◌≡◌, ◌∙◌, ℕ, ◌+◌, min, true, false, cond, List, [], ◌∷◌, map, Option, Some, None, refl, sym, ap, inl, inr}
 use Rattle.std.specs.Prelude.{option_map, option_and_then}
-use Rattle.std.specs.Str.{IsUtf8, bytes_eq}
+use Rattle.std.specs.Str.{bytes_eq}
 use Rattle.std.proofs.lemmas.Slice.Eq.{bytes_eq-Decides}
 use Rattle.clap.specs.Lexer.{long_of, short_of, usize_max}
-use Rattle.clap.specs.Walk.{Row, Rule, Text, arg_by_id, arg_by_index, has_row, idle, option, settled_rows, used}
+use Rattle.clap.specs.Walk.{Row, Rule, Text, arg_by_id, arg_by_index, idle, option, settled_rows, used}
 use Rattle.clap.specs.Faults.{settle_fault, use_fault}
-use Rattle.command_words.specs.Words.{Choices, Given, Item, named, word, is_plain, look, items, before, first, added, placed, ends, whole, opens, wrong}
+use Rattle.command_words.specs.Words.{KnownOptions, Given, Item, named, word, is_plain, look, items, before, first, added, placed}
 use Rattle.command_words.proofs.Rules.{Uses, passes, option_rule, word_rule, rows_for, option_uses, flag_uses, word_uses, use_given}
 use Rattle.command_words.proofs.Walking.{IsPlace, dashes, hold, run, state, run_ends, run_flag, run_flag_joined, run_joined, run_last, run_opens, run_plain, run_short, run_stray, run_trailing, run_unknown, open_nil, open_trailing, open_ends, open_unknown, open_long, open_short, open_plain}
 use Rattle.command_words.proofs.Sights.{Reads, Seen, seen, end, unknown, joined, flag, flag_joined, opening, short, plain}
@@ -39,7 +39,7 @@ same_after : (next : List Row → Option (List Row)) (names : List Text) (found 
 same_after next names found None by = refl
 same_after next names found (Some given) by = by given
 
-module _ (choices : Choices) (c : List Rule) (reads : Reads choices c) where
+module _ (known : KnownOptions) (c : List Rule) (reads : Reads known c) where
   -- a use, and then the rest of the words
   use_then : (rule : Rule) (values : List Text) (name text : Text) (given : Given) (names next_names : List Text) (item : Item)
       (found : Option (List Item)) (next : List Row → Option (List Row)) → Uses rule values name text
@@ -72,7 +72,7 @@ module _ (choices : Choices) (c : List Rule) (reads : Reads choices c) where
       let later = min (place + 1) usize_max in
       let next : List Row → Option (List Row) = λ rows. run c (state idle (hold rows None) later true) rest in
       run_trailing c (rows_for given) None place text rest name place at_place.0
-      ∙ trailing_settles choices c reads (rows_for given) (Some (name, text ∷ [])) later rest (place_of c later names at_place.2)
+      ∙ trailing_settles known c reads (rows_for given) (Some (name, text ∷ [])) later rest (place_of c later names at_place.2)
       ∙ pending_is name (text ∷ []) (word_rule name place) (rows_for given) next at_place.1
       ∙ use_then (word_rule name place) (text ∷ []) name text given (name ∷ names) names (word text) (Some (map word rest)) next
       (word_uses name text place) (λ others. refl) (λ more. trailing_given rest names more later at_place.2)
@@ -94,7 +94,7 @@ module _ (choices : Choices) (c : List Rule) (reads : Reads choices c) where
       let following = min (place + 1) usize_max in
       let next : List Row → Option (List Row) = λ rows. run c (state idle (hold rows None) following false) rest in
       run_plain c (rows_for given) None place text rest name place no_dashes no_long no_short at_place.0
-      ∙ settles_at_once choices c reads (rows_for given) (Some (name, text ∷ [])) following rest texts (place_of c following names at_place.2)
+      ∙ settles_at_once known c reads (rows_for given) (Some (name, text ∷ [])) following rest texts (place_of c following names at_place.2)
       ∙ pending_is name (text ∷ []) (word_rule name place) (rows_for given) next at_place.1
       ∙ use_then (word_rule name place) (text ∷ []) name text given (name ∷ names) names (word text) found next
       (word_uses name text place) (λ others. refl) (λ more. later more names following at_place.2)
@@ -119,14 +119,14 @@ module _ (choices : Choices) (c : List Rule) (reads : Reads choices c) where
 
   -- what the first word comes to, by what it is, where the rest is known
   first_given : (text : Text) (rest names : List Text) (given : Given) (place : ℕ) (found : Option (List Item))
-      (valued : Text → Option (List Item)) → Seen choices c text → AreTexts rest → Places c place names
+      (valued : Text → Option (List Item)) → Seen known c text → AreTexts rest → Places c place names
       → ((more : Given) (names : List Text) (place : ℕ) → Places c place names
       → run c (state idle (hold (rows_for more) None) place false) rest ≡ option_map rows_for (option_and_then (placed names more) found))
       → ((name : Text) → arg_by_id c name ≡ Some (option_rule name true)
       → run c (state (option name) (hold (rows_for given) (Some (name, []))) place false) rest
       ≡ option_map rows_for (option_and_then (placed names given) (valued name)))
       → run c (state idle (hold (rows_for given) None) place false) (text ∷ rest)
-      ≡ option_map rows_for (option_and_then (placed names given) (first (look choices text) rest found valued))
+      ≡ option_map rows_for (option_and_then (placed names given) (first (look known text) rest found valued))
   first_given text rest names given place found valued (end is sees no_plain) texts at_place later opened =
       rw sees (run_ends c (rows_for given) None place text rest is ∙ trailing_given rest names given place at_place)
   first_given text rest names given place found valued (unknown name value other_word is_long none sees no_plain) texts at_place later opened =
@@ -148,7 +148,7 @@ module _ (choices : Choices) (c : List Rule) (reads : Reads choices c) where
 
   -- the word behind an option that takes a value
   value_given : (value : Text) (rest names : List Text) (given : Given) (place : ℕ) (found : Option (List Item)) (name : Text)
-      → Seen choices c value → AreTexts rest → Places c place names → arg_by_id c name ≡ Some (option_rule name true)
+      → Seen known c value → AreTexts rest → Places c place names → arg_by_id c name ≡ Some (option_rule name true)
       → ((more : Given) (names : List Text) (place : ℕ) → Places c place names
       → run c (state idle (hold (rows_for more) None) place false) rest ≡ option_map rows_for (option_and_then (placed names more) found))
       → run c (state (option name) (hold (rows_for given) (Some (name, []))) place false) (value ∷ rest)
@@ -171,7 +171,7 @@ module _ (choices : Choices) (c : List Rule) (reads : Reads choices c) where
   value_given value rest names given place found name (plain other_word no_long no_short sees plain_word) texts at_place has later =
       let next : List Row → Option (List Row) = λ rows. run c (state idle (hold rows None) place false) rest in
       rw plain_word (open_plain c (rows_for given) name place value rest has ((bytes_eq-Decides name name).1 refl) other_word no_long no_short
-      ∙ settles_at_once choices c reads (rows_for given) (Some (name, value ∷ [])) place rest texts (place_of c place names at_place)
+      ∙ settles_at_once known c reads (rows_for given) (Some (name, value ∷ [])) place rest texts (place_of c place names at_place)
       ∙ pending_is name (value ∷ []) (option_rule name true) (rows_for given) next has
       ∙ named_given name value (option_rule name true) (value ∷ []) rest names given place found (option_uses name value) at_place later)
 
@@ -185,14 +185,14 @@ module _ (choices : Choices) (c : List Rule) (reads : Reads choices c) where
   -- all words
   pub words_given : (words : List Text) (given : Given) (names : List Text) (place : ℕ) → AreTexts words → Places c place names
       → run c (state idle (hold (rows_for given) None) place false) words
-      ≡ option_map rows_for (option_and_then (placed names given) (items choices words))
+      ≡ option_map rows_for (option_and_then (placed names given) (items known words))
   unfolding AreTexts
   words_given [] given names place texts at_place = no_words given names place at_place
   words_given (text ∷ []) given names place texts at_place =
-      first_given text [] names given place (Some []) (λ name. None) (seen choices c reads text texts.0) tt at_place
+      first_given text [] names given place (Some []) (λ name. None) (seen known c reads text texts.0) tt at_place
       no_words (λ name has. open_nil c (rows_for given) name place has false)
   words_given (text ∷ value ∷ rest) given names place texts at_place =
-      first_given text (value ∷ rest) names given place (items choices (value ∷ rest)) _ (seen choices c reads text texts.0) texts.1 at_place
+      first_given text (value ∷ rest) names given place (items known (value ∷ rest)) _ (seen known c reads text texts.0) texts.1 at_place
       (λ more names place at_place. words_given (value ∷ rest) more names place texts.1 at_place)
-      (λ name has. value_given value rest names given place (items choices rest) name (seen choices c reads value texts.1.0) texts.1.1 at_place has
+      (λ name has. value_given value rest names given place (items known rest) name (seen known c reads value texts.1.0) texts.1.1 at_place has
       (λ more names place at_place. words_given rest more names place texts.1.1 at_place))

@@ -1,15 +1,13 @@
 -- The faults and the matches of a whole parse.
 use Rattle.std.proofs.Common.{◌≡◌, ◌∙◌, ℕ, Bool, true, false, cond, ◌&&◌, ◌||◌, List, [], ◌∷◌, ◌++◌, map, fold, Option, Some, None, refl, sym, ap, ap₂, codes}
 use Rattle.std.specs.Prelude.{option_map, is_some}
-use Rattle.std.specs.List.{list_any}
-use Rattle.std.specs.Option.{option_map_or}
 use Rattle.clap.specs.Walk.{Held, Names, Row, Rule, Text, Walk, finished, nothing_held, settled, walk, walk_from, walked, with_default}
 use Rattle.clap.specs.Simple.{App, Shape, built, entered, matches_of, names_of}
 use Rattle.clap.specs.Kinds.{Kinds, or_else}
 use Rattle.clap.specs.Faults.{built_fault, check_fault, defaults_fault, entered_fault, fault_of, level_fault, settle_fault, turn_fault, walk_fault}
-use Rattle.command_words.specs.Words.{Choices, Given, given_by}
+use Rattle.command_words.specs.Words.{KnownOptions, Given, given_by}
 use Rattle.command_words.proofs.Rules.{or_else-nil, passes, rows_for}
-use Rattle.command_words.proofs.Walking.{hold, run, shape, state}
+use Rattle.command_words.proofs.Walking.{run, shape}
 use Rattle.command_words.proofs.Sights.{Reads}
 use Rattle.command_words.proofs.Settling.{AreTexts}
 use Rattle.command_words.proofs.Meaning.{Places, words_given}
@@ -68,7 +66,7 @@ app_is s words = go (walk s.rules [] nothing_held words).stopped
     go None = refl
     go (Some stop) = refl
 
-module _ (choices : Choices) (names : List Text) (app : App) (c : List Rule) (reads : Reads choices c) (places : Places c 1 names)
+module _ (known : KnownOptions) (names : List Text) (app : App) (c : List Rule) (reads : Reads known c) (places : Places c 1 names)
     (easy : IsEasy c) (is : IsBuilt app c) (words : List Text) (texts : AreTexts words) where
   whole_app : built app ≡ record { top = shape c; subs = [] }
   whole_app = ap₂ (λ top subs. record { top = top; subs = subs }) is.top is.subs
@@ -79,10 +77,10 @@ module _ (choices : Choices) (names : List Text) (app : App) (c : List Rule) (re
       ∙ ap (λ (a : App). built_fault a nothing_held words) whole_app ∙ app_is (shape c) words ∙ level_is c words easy
 
   given_is : cond (passes (fault_of app words)) (Some (settled c (end_of c (walk_from nothing_held) words)).rows) None
-      ≡ option_map rows_for (given_by choices names words)
+      ≡ option_map rows_for (given_by known names words)
   given_is =
       ap (λ kinds. cond (passes kinds) (Some (settled c (end_of c (walk_from nothing_held) words)).rows) None) fault_is
-      ∙ sym (run_is c (walk_from nothing_held) words) ∙ words_given choices c reads words [] names 1 texts places
+      ∙ sym (run_is c (walk_from nothing_held) words) ∙ words_given known c reads words [] names 1 texts places
 
   -- the matches, before the defaults
   matches_are : matches_of app words ≡ fold with_default (settled c (end_of c (walk_from nothing_held) words)).rows c
@@ -91,9 +89,9 @@ module _ (choices : Choices) (names : List Text) (app : App) (c : List Rule) (re
       ∙ ap (λ (a : App). Rattle.clap.specs.Walk.rows_after a.top.rules (names_of a) words) whole_app
 
   -- with no fault the words give something, and the matches are made from it
-  pub taken : fault_of app words ≡ [] → (given : Given) × (given_by choices names words ≡ Some given)
+  pub taken : fault_of app words ≡ [] → (given : Given) × (given_by known names words ≡ Some given)
       × (matches_of app words ≡ fold with_default (rows_for given) c)
-  taken none = go (given_by choices names words)
+  taken none = go (given_by known names words)
       (sym (ap (λ kinds. cond (passes kinds) (Some (settled c (end_of c (walk_from nothing_held) words)).rows) None) none) ∙ given_is)
     where
       go : (found : Option Given) → Some (settled c (end_of c (walk_from nothing_held) words)).rows ≡ option_map rows_for found
@@ -104,8 +102,8 @@ module _ (choices : Choices) (names : List Text) (app : App) (c : List Rule) (re
           (given, refl, matches_are ∙ ap (λ rows. fold with_default rows c) same)
 
   -- with a fault they give nothing
-  pub refused : passes (fault_of app words) ≡ false → given_by choices names words ≡ None
-  refused fails = go (given_by choices names words)
+  pub refused : passes (fault_of app words) ≡ false → given_by known names words ≡ None
+  refused fails = go (given_by known names words)
       (sym (ap (λ b. cond b (Some (settled c (end_of c (walk_from nothing_held) words)).rows) None) fails) ∙ given_is)
     where
       go : (found : Option Given) → None ≡ option_map rows_for found → found ≡ None

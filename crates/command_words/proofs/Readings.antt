@@ -1,5 +1,5 @@
 -- What the proofs of the functions that read a command cite.
-use Rattle.std.proofs.Common.{◌≡◌, ◌∙◌, ℕ, ◌+◌, ◌<◌, ◌≤◌, ◌^◌, ◌==◌, ◌&&◌, ◌||◌, not, Bool, true, false, cond, length, take, drop, List, [], ◌∷◌, ◌++◌, map, Option, Some, None, refl, sym, ap, codes, arith, nat_lt, zero, suc}
+use Rattle.std.proofs.Common.{◌≡◌, ◌∙◌, ℕ, ◌+◌, ◌<◌, ◌≤◌, ◌^◌, ◌==◌, ◌&&◌, ◌||◌, Bool, true, false, cond, length, take, List, [], ◌∷◌, ◌++◌, map, Some, None, refl, sym, ap, codes, arith, nat_lt, zero, suc}
 use Rattle.std.specs.Prelude.{Vec, option_map, nat_le, is_some}
 use Rattle.std.specs.List.{find, list_all, list_any, slice_index_or}
 use Rattle.std.specs.Str.{IsUtf8, is_utf8, bytes_eq}
@@ -15,8 +15,8 @@ use Rattle.dioc_terms.specs.Names.{is_digit, is_name, is_reserved, reserved_word
 use Rattle.aioc_tokens.specs.Words.{word_of, word_spelling, reserved_words as tokens_words}
 use Rattle.clap.specs.Matches.{first_value, found_of}
 use Rattle.clap.specs.declared.parser.matches.ArgMatches.{ArgMatches}
-use Rattle.command_words.specs.Words.{Text, Choices, Given, is_given, text_of}
-use Rattle.command_words.specs.Commands.{Texts, are_digits, choices_of, command_by, command_with, is_set, monitor_by, number_within, options_of, spelled}
+use Rattle.command_words.specs.Words.{Text, KnownOptions, Given, is_given, text_of}
+use Rattle.command_words.specs.Commands.{Texts, are_digits, known_options, command_by, command_with, is_set, monitor_by, number_within, options_of, spelled}
 use Rattle.command_words.specs.Splits.{Splits, is_flag, shown}
 use Rattle.command_words.specs.declared.commands.Command.TheVariants as command
 use Rattle.command_words.specs.declared.commands.Verb.{Verb}
@@ -148,16 +148,16 @@ text_of-missing (pair ∷ given) name none = go (bytes_eq pair.0 name) none (tex
     go false e later = later e
 
 -- what is shown of a name that is no flag, and of a flag
-text_shown : (choices : Choices) (given : Given) (name : Text) → is_flag choices name ≡ false → shown choices given name ≡ text_of given name
-text_shown choices given name no_flag = go (is_given given name) refl
+text_shown : (known : KnownOptions) (given : Given) (name : Text) → is_flag known name ≡ false → shown known given name ≡ text_of given name
+text_shown known given name no_flag = go (is_given given name) refl
   where
     go : (b : Bool) → is_given given name ≡ b
-        → cond b (text_of given name) (cond (is_flag choices name) (Some (codes "false")) None) ≡ text_of given name
+        → cond b (text_of given name) (cond (is_flag known name) (Some (codes "false")) None) ≡ text_of given name
     go true is = refl
     go false is = rw no_flag (sym (text_of-missing given name is))
 
-flag_shown : (choices : Choices) (given : Given) (name : Text) → is_set (shown choices given name) ≡ is_set (text_of given name)
-flag_shown choices given name = go (is_given given name) refl (is_flag choices name)
+flag_shown : (known : KnownOptions) (given : Given) (name : Text) → is_set (shown known given name) ≡ is_set (text_of given name)
+flag_shown known given name = go (is_given given name) refl (is_flag known name)
   where
     go : (b : Bool) → is_given given name ≡ b → (f : Bool)
         → is_set (cond b (text_of given name) (cond f (Some (codes "false")) None)) ≡ is_set (text_of given name)
@@ -166,20 +166,25 @@ flag_shown choices given name = go (is_given given name) refl (is_flag choices n
     go false is false = sym (ap is_set (text_of-missing given name is))
 
 module _ (given : Given) (texts : Texts) where
-  module _ (verb : Verb) (shows : (name : Text) → texts name ≡ shown (choices_of verb) given name) where
-    text_same : (name : Text) → is_flag (choices_of verb) name ≡ false → texts name ≡ text_of given name
-    text_same name no_flag = shows name ∙ text_shown (choices_of verb) given name no_flag
+  module _ (verb : Verb) (shows : (name : Text) → texts name ≡ shown (known_options verb) given name) where
+    text_same : (name : Text) → is_flag (known_options verb) name ≡ false → texts name ≡ text_of given name
+    text_same name no_flag = shows name ∙ text_shown (known_options verb) given name no_flag
 
     flag_same : (name : Text) → is_set (texts name) ≡ is_set (text_of given name)
-    flag_same name = ap is_set (shows name) ∙ flag_shown (choices_of verb) given name
+    flag_same name = ap is_set (shows name) ∙ flag_shown (known_options verb) given name
 
-    options_same : is_flag (choices_of verb) (codes "seed") ≡ false → is_flag (choices_of verb) (codes "steps") ≡ false
-        → is_flag (choices_of verb) (codes "workers") ≡ false → options_of verb texts ≡ options_of verb (text_of given)
+    options_same : is_flag (known_options verb) (codes "seed") ≡ false → is_flag (known_options verb) (codes "steps") ≡ false
+        → is_flag (known_options verb) (codes "workers") ≡ false → options_of verb texts ≡ options_of verb (text_of given)
     options_same seed steps workers =
-        rw (text_same (codes "seed") seed, text_same (codes "steps") steps, text_same (codes "workers") workers,
-        flag_same (codes "aux"), flag_same (codes "json")) refl
+        rw (
+          text_same (codes "seed") seed,
+          text_same (codes "steps") steps,
+          text_same (codes "workers") workers,
+          flag_same (codes "aux"),
+          flag_same (codes "json"),
+        ) refl
 
-  command_same : (verb : Verb) → ((name : Text) → texts name ≡ shown (choices_of verb) given name)
+  command_same : (verb : Verb) → ((name : Text) → texts name ≡ shown (known_options verb) given name)
       → command_with verb texts ≡ command_with verb (text_of given)
   command_same Run shows = ap (option_map command.Run) (options_same Run shows refl refl refl)
   command_same Step shows = ap (option_map command.Step) (options_same Step shows refl refl refl)

@@ -1,9 +1,7 @@
 -- The arguments of a built command, and what a use of one comes to.
-use Rattle.std.proofs.Common.{◌≡◌, ◌∙◌, ℕ, ◌+◌, min, Bool, true, false, not, ◌&&◌, cond, List, [], ◌∷◌, ◌++◌, map, Option, Some, None, refl, sym, ap, codes}
+use Rattle.std.proofs.Common.{◌≡◌, ◌∙◌, ℕ, Bool, true, false, not, ◌&&◌, cond, List, [], ◌∷◌, ◌++◌, map, Option, Some, None, refl, sym, ap, codes}
 use Rattle.std.specs.Prelude.{option_and_then}
-use Rattle.std.proofs.Math.Bool.{or-false, false-or}
 use Rattle.std.specs.Str.{bytes_eq}
-use Rattle.clap.specs.Lexer.{usize_max}
 use Rattle.clap.specs.Walk.{Row, Rule, Text, at_row, has_row, used, with_values, without, more_values}
 use Rattle.clap.specs.Simple.{new_rule}
 use Rattle.clap.specs.Kinds.{Kinds, or_else}
@@ -100,7 +98,7 @@ pub row_added-given : (given : Given) (name text : Text) → is_given given name
 row_added-given given name text new =
     let none : has_row name (rows_for given) ≡ false = has_row-given given name ∙ new in
     let kept : without name (rows_for given) ≡ rows_for given =
-        at_row-missing name (λ _. []) [] (rows_for given) none ∙ append-empty (rows_for given) in
+    at_row-missing name (λ _. []) [] (rows_for given) none ∙ append-empty (rows_for given) in
     ap (with_values name reading.AsWritten CommandLine (text ∷ [])) kept
     ∙ at_row-missing name (more_values CommandLine (text ∷ [])) (row_for (name, text) ∷ []) (rows_for given) none
     ∙ sym (map-append given ((name, text) ∷ []))

@@ -1,14 +1,14 @@
 -- `clap` uses a pending argument only when the next one comes. The walk is the same where it is used at once.
-use Rattle.std.proofs.Common.{◌≡◌, ◌∙◌, ℕ, ◌+◌, min, Bool, true, false, cond, List, [], ◌∷◌, Option, Some, None, refl, sym, ap, inl, inr}
+use Rattle.std.proofs.Common.{◌≡◌, ◌∙◌, ℕ, Bool, true, false, cond, List, [], ◌∷◌, Option, None, refl, sym, ap, inl, inr}
 use Rattle.std.specs.Str.{IsUtf8, bytes_eq}
-use Rattle.clap.specs.Lexer.{long_of, short_of, usize_max}
-use Rattle.clap.specs.Walk.{Row, Rule, Text, arg_by_id, arg_by_index, idle, option, settled_rows, used}
+use Rattle.clap.specs.Lexer.{long_of, short_of}
+use Rattle.clap.specs.Walk.{Row, Rule, Text, idle, settled_rows, used}
 use Rattle.clap.specs.Kinds.{Kinds, or_else}
 use Rattle.clap.specs.Faults.{settle_fault, use_fault}
-use Rattle.command_words.specs.Words.{Choices}
-use Rattle.command_words.proofs.Rules.{passes, cond-none, option_rule, word_rule}
+use Rattle.command_words.specs.Words.{KnownOptions}
+use Rattle.command_words.proofs.Rules.{passes, cond-none, option_rule}
 use Rattle.command_words.proofs.Walking.{IsPlace, dashes, hold, run, state, run_ends, run_flag, run_flag_joined, run_joined, run_last, run_opens, run_plain, run_short, run_stray, run_trailing, run_unknown}
-use Rattle.command_words.proofs.Sights.{Reads, Seen, seen, end, unknown, joined, flag, flag_joined, opening, short, plain}
+use Rattle.command_words.proofs.Sights.{Reads, seen, end, unknown, joined, flag, flag_joined, opening, short, plain}
 
 -- each word is a text
 unfoldable pub AreTexts : List Text → Type 0
@@ -21,7 +21,7 @@ glue : {X : Type 0} (a b : Kinds) (found : Option X)
 glue [] b found = refl
 glue (kind ∷ kinds) b found = refl
 
-module _ (choices : Choices) (c : List Rule) (reads : Reads choices c) (rows : List Row) (pending : Option (Text × List Text)) where
+module _ (known : KnownOptions) (c : List Rule) (reads : Reads known c) (rows : List Row) (pending : Option (Text × List Text)) where
   abbrev settles : Bool
   settles = passes (settle_fault c false (hold rows pending))
 
@@ -61,7 +61,7 @@ module _ (choices : Choices) (c : List Rule) (reads : Reads choices c) (rows : L
       ≡ cond settles (run c (state idle (hold then None) place false) words) None
   unfolding AreTexts
   settles_at_once place [] texts at_place = nothing_left place false
-  settles_at_once place (word ∷ rest) texts at_place = elim (seen choices c reads word texts.0) [
+  settles_at_once place (word ∷ rest) texts at_place = elim (seen known c reads word texts.0) [
     | end is sees no_plain ↦
         run_ends c rows pending place word rest is ∙ trailing_settles place rest at_place
         ∙ sym (ap (λ found. cond settles found None) (run_ends c then None place word rest is))

@@ -1,14 +1,13 @@
 -- `clap`'s walk over the words of a command with no subcommand, one word at a time.
-use Rattle.std.proofs.Common.{◌≡◌, ◌∙◌, ℕ, ◌+◌, min, Bool, true, false, cond, List, [], ◌∷◌, Option, Some, None, refl, sym, ap, codes, inl, inr, ◌⊎◌}
+use Rattle.std.proofs.Common.{◌≡◌, ℕ, ◌+◌, min, Bool, true, false, cond, List, [], ◌∷◌, Option, Some, None, refl, codes, inl, inr, ◌⊎◌}
 use Rattle.std.specs.Prelude.{slice_get}
 use Rattle.std.proofs.Math.Bool.{and-false}
 use Rattle.std.specs.Str.{bytes_eq, chars}
 use Rattle.clap.specs.Lexer.{long_of, short_of, usize_max}
 use Rattle.clap.specs.Walk.{Held, Row, Rule, Text, Waiting, Walk, arg_by_id, arg_by_index, arg_by_long, arg_by_short, bundle_met, idle, option, reacted, settled, settled_rows, takes_values, walked}
 use Rattle.clap.specs.Simple.{Shape, new_shape}
-use Rattle.clap.specs.Kinds.{or_else}
 use Rattle.clap.specs.Faults.{flags_fault, react_fault, settle_fault, turn_fault}
-use Rattle.command_words.proofs.Rules.{passes, or_else-nil, cond-none, option_rule, word_rule}
+use Rattle.command_words.proofs.Rules.{passes, or_else-nil, option_rule, word_rule}
 
 -- the built command of these arguments
 abbrev pub shape : List Rule → Shape

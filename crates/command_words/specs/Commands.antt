@@ -7,7 +7,7 @@ use Rattle.std.specs.Str.Parse.{digits_value}
 use Rattle.std.specs.declared.alloc.Global.{Global}
 use Rattle.dioc_terms.specs.Names.{is_digit}
 use Rattle.dioc_terms.specs.Bundles.{is_identifier}
-use Rattle.command_words.specs.Words.{Text, Choices, text_of, given_by}
+use Rattle.command_words.specs.Words.{Text, KnownOptions, text_of, given_by}
 use Rattle.command_words.specs.declared.commands.Options.{Options}
 use Rattle.command_words.specs.declared.commands.Command.{Command}
 use Rattle.command_words.specs.declared.commands.Command.TheVariants as command
@@ -31,7 +31,9 @@ name_of Monitor = codes "monitor"
 name_of Sessions = codes "sessions"
 
 abbrev pub verbs : List Verb
-verbs = Run ∷ Step ∷ Check ∷ Project ∷ Replay ∷ Gen ∷ Upgrade ∷ Mend ∷ Drive ∷ Resume ∷ Monitor ∷ Sessions ∷ []
+verbs =
+    Run ∷ Step ∷ Check ∷ Project ∷ Replay ∷ Gen ∷ Upgrade ∷ Mend ∷ Drive ∷ Resume ∷ Monitor
+    ∷ Sessions ∷ []
 
 unfoldable pub verb_of : Text → Option Verb
 verb_of name = find (λ verb. bytes_eq name (name_of verb)) verbs
@@ -42,21 +44,25 @@ valued name = (name, true)
 abbrev pub flag : Text → Text × Bool
 flag name = (name, false)
 
-abbrev pub choices_of : Verb → Choices
-choices_of Run = valued (codes "steps") ∷ flag (codes "aux") ∷ flag (codes "json") ∷ []
-choices_of Step = valued (codes "seed") ∷ valued (codes "steps") ∷ flag (codes "aux") ∷ flag (codes "json") ∷ []
-choices_of Drive = valued (codes "steps") ∷ []
-choices_of Resume = valued (codes "seed") ∷ valued (codes "steps") ∷ flag (codes "aux") ∷ flag (codes "json") ∷ []
-choices_of Sessions = valued (codes "workers") ∷ valued (codes "seed") ∷ valued (codes "steps") ∷ []
-choices_of _ = []
+-- its options
+abbrev pub known_options : Verb → KnownOptions
+known_options Run = valued (codes "steps") ∷ flag (codes "aux") ∷ flag (codes "json") ∷ []
+known_options Step =
+    valued (codes "seed") ∷ valued (codes "steps") ∷ flag (codes "aux") ∷ flag (codes "json") ∷ []
+known_options Drive = valued (codes "steps") ∷ []
+known_options Resume =
+    valued (codes "seed") ∷ valued (codes "steps") ∷ flag (codes "aux") ∷ flag (codes "json") ∷ []
+known_options Sessions =
+    valued (codes "workers") ∷ valued (codes "seed") ∷ valued (codes "steps") ∷ []
+known_options _ = []
 
--- the names of its positional words, each of which it needs
-abbrev pub places_of : Verb → List Text
-places_of Gen = codes "number" ∷ codes "size" ∷ []
-places_of Monitor = codes "role" ∷ []
-places_of _ = []
+-- the names of its positional words, each of which it wants
+abbrev pub positional_names : Verb → List Text
+positional_names Gen = codes "number" ∷ codes "size" ∷ []
+positional_names Monitor = codes "role" ∷ []
+positional_names _ = []
 
--- the most entries that may be asked for, and how many it is where `--steps` is left out
+-- the most entries that may be asked for, and how many they are where `--steps` is left out
 abbrev pub most_steps : Verb → ℕ
 most_steps Sessions = 2000
 most_steps _ = 100000
@@ -85,7 +91,8 @@ optional_number least most None = Some None
 optional_number least most (Some text) = option_map Some (number_within least most text)
 
 abbrev pub number_or : ℕ → ℕ → ℕ → Option Text → Option ℕ
-number_or usual least most text = option_map (λ number. unwrap_or number usual) (optional_number least most text)
+number_or usual least most text =
+    option_map (λ number. unwrap_or number usual) (optional_number least most text)
 
 -- ---- commands
 
@@ -100,7 +107,8 @@ is_set text = option_map_or is_true text false
 abbrev pub Texts : Type 0
 Texts = Text → Option Text
 
--- the options, where each number lies in its bounds; what a command has no option for is left out
+-- the options, where each number lies in its bounds; an option that a command doesn't have has no
+-- text, and so is as if it were left out
 abbrev pub options_of : Verb → Texts → Option Options
 options_of verb texts =
     option_and_then (λ seed. option_and_then (λ steps. option_map (λ workers. record {
@@ -119,9 +127,11 @@ gen_of texts =
     (option_and_then (number_within 1 400) (texts (codes "size"))))
     (option_and_then (number_within 0 most_seed) (texts (codes "number")))
 
--- the role is a name of the grammar: at most 64 letters, digits and `_`, with a letter first, and not reserved
+-- the role is a name of the grammar: at most 64 letters, digits and `_`, with a letter first, and
+-- not reserved
 abbrev pub monitor_by : Text → Option Command
-monitor_by role = if is_identifier role then Some (command.Monitor (record { 0 = role })) else None
+monitor_by role =
+    if is_identifier role then Some (command.Monitor (record { 0 = role })) else None
 
 abbrev pub command_with : Verb → Texts → Option Command
 command_with Run texts = option_map command.Run (options_of Run texts)
@@ -140,7 +150,8 @@ command_with Sessions texts = option_map command.Sessions (options_of Sessions t
 -- the words behind the command's name
 abbrev pub command_by : List Text → Verb → Option Command
 command_by words verb =
-    option_and_then (λ given. command_with verb (text_of given)) (given_by (choices_of verb) (places_of verb) words)
+    option_and_then (λ given. command_with verb (text_of given))
+    (given_by (known_options verb) (positional_names verb) words)
 
 -- the first word is the command's name
 abbrev pub named_first : List Text → Option Command

@@ -7,12 +7,13 @@ abbrev pub Text : Type 0
 Text = List ℕ
 
 -- the names of a command's options, and whether each takes a value; one that takes none is a flag
-abbrev pub Choices : Type 0
-Choices = List (Text × Bool)
+abbrev pub KnownOptions : Type 0
+KnownOptions = List (Text × Bool)
 
 -- whether the option of this name takes a value; none where there is no such option
-abbrev pub takes_value : Choices → Text → Option Bool
-takes_value choices name = option_map (λ choice. choice.1) (find (λ choice. bytes_eq choice.0 name) choices)
+abbrev pub takes_value : KnownOptions → Text → Option Bool
+takes_value known name =
+    option_map (λ option. option.1) (find (λ option. bytes_eq option.0 name) known)
 
 -- what the words give: a name with its text, where a flag's text is `true`, or a positional word
 pub data Item : Type 0 where
@@ -21,7 +22,8 @@ pub data Item : Type 0 where
 
 -- ---- one word
 
--- a word by its hyphens: plain with none first, or as a hyphen alone; short with one; long with two, and what follows them
+-- a word by its hyphens: plain with none first, or as a hyphen alone; short with one; long with
+-- two, and what follows them
 pub data Form : Type 0 where
   plain : Form
   short : Form
@@ -53,8 +55,8 @@ name_in text = before_first is_equals text
 abbrev pub value_in : Text → Option Text
 value_in text = if list_any is_equals text then Some (after_first is_equals text) else None
 
--- what a word is, where options may stand: the end of the options, an item, the name of an option whose value is the next
--- word, or nothing of these
+-- what a word is, where options may stand: the end of the options, an item, the name of an option
+-- whose value is the next word, or none of these
 pub data Sight : Type 0 where
   ends : Sight
   whole : Item → Sight
@@ -68,15 +70,16 @@ long_sight name (Some true) None = opens name
 long_sight name (Some false) None = whole (named name (codes "true"))
 long_sight name _ _ = wrong
 
-abbrev pub sight_of : Choices → Text → Form → Sight
-sight_of choices text plain = whole (word text)
-sight_of choices text short = wrong
-sight_of choices text (long []) = ends
-sight_of choices text (long (byte ∷ rest)) =
-    long_sight (name_in (byte ∷ rest)) (takes_value choices (name_in (byte ∷ rest))) (value_in (byte ∷ rest))
+abbrev pub sight_of : KnownOptions → Text → Form → Sight
+sight_of known text plain = whole (word text)
+sight_of known text short = wrong
+sight_of known text (long []) = ends
+sight_of known text (long (byte ∷ rest)) =
+    let name = name_in (byte ∷ rest) in
+    long_sight name (takes_value known name) (value_in (byte ∷ rest))
 
-abbrev pub look : Choices → Text → Sight
-look choices text = sight_of choices text (form text)
+abbrev pub look : KnownOptions → Text → Sight
+look known text = sight_of known text (form text)
 
 -- ---- all words
 
@@ -84,19 +87,20 @@ abbrev pub before : Item → Option (List Item) → Option (List Item)
 before item = option_map (λ items. item ∷ items)
 
 -- by what a word is: all words behind `--` are positional
-abbrev pub first : Sight → List Text → Option (List Item) → (Text → Option (List Item)) → Option (List Item)
+abbrev pub first : Sight → List Text → Option (List Item) → (Text → Option (List Item))
+    → Option (List Item)
 first ends rest items valued = Some (map word rest)
 first (whole item) rest items valued = before item items
 first (opens name) rest items valued = valued name
 first wrong rest items valued = None
 
 -- the items that the words spell; a value that is a word of its own is plain
-abbrev pub items : Choices → List Text → Option (List Item)
-items choices [] = Some []
-items choices (text ∷ []) = first (look choices text) [] (Some []) (λ name. None)
-items choices (text ∷ value ∷ rest) =
-    first (look choices text) (value ∷ rest) (items choices (value ∷ rest))
-    (λ name. if is_plain value then before (named name value) (items choices rest) else None)
+abbrev pub items : KnownOptions → List Text → Option (List Item)
+items known [] = Some []
+items known (text ∷ []) = first (look known text) [] (Some []) (λ name. None)
+items known (text ∷ value ∷ rest) =
+    first (look known text) (value ∷ rest) (items known (value ∷ rest))
+    (λ name. if is_plain value then before (named name value) (items known rest) else None)
 
 -- ---- what is given
 
@@ -124,5 +128,5 @@ placed (name ∷ names) given (word text ∷ rest) =
     option_and_then (λ more. placed names more rest) (added name text given)
 
 -- what the words give, for these options and these names of positional words
-abbrev pub given_by : Choices → List Text → List Text → Option Given
-given_by choices names words = option_and_then (placed names []) (items choices words)
+abbrev pub given_by : KnownOptions → List Text → List Text → Option Given
+given_by known names words = option_and_then (placed names []) (items known words)

@@ -36,10 +36,10 @@ pub enum Verb {
 pub struct Options {
     /// `--seed`, where it is given.
     pub seed: Option<u64>,
-    /// `--steps`: the most entries, from 1 to 100,000 and 20,000 where it is left out; of each session from 1 to 2,000, and
-    /// 2,000 where it is left out.
+    /// `--steps`: the most entries, from 1 to 100,000, and 20,000 where it is left out. Of each
+    /// session they are from 1 to 2,000, and 2,000 where it is left out.
     pub steps: u64,
-    /// `--workers`, from 1 to 16 and 4 where it is left out.
+    /// `--workers`: how many, from 1 to 16, and 4 where it is left out.
     pub workers: u32,
     /// `--aux`: whether auxiliary entries are printed too.
     pub aux: bool,
@@ -77,6 +77,6 @@ pub enum Command {
     Resume(Options),
     /// Judges the entries of this role.
     Monitor(Role),
-    /// Runs many bundles on some workers. It has `--workers`, `--seed` and `--steps`.
+    /// Runs many bundles on a pool of workers. It has `--workers`, `--seed` and `--steps`.
     Sessions(Options),
 }

@@ -5,7 +5,7 @@ ghost use Rattle.std.specs.List.{list_all};
 ghost use Rattle.std.specs.Str.{is_utf8};
 ghost use Rattle.clap.specs.Words.{first_value, found_of};
 ghost use Rattle.command_words.specs.Grammar.{IsGrammar};
-ghost use Rattle.command_words.specs.Commands.{choices_of, command_of, command_by, command_with, options_of, gen_of};
+ghost use Rattle.command_words.specs.Commands.{known_options, command_of, command_by, command_with, options_of, gen_of};
 ghost use Rattle.command_words.specs.Commands.{monitor_by, is_set, optional_number, number_or, most_seed, most_steps};
 ghost use Rattle.command_words.specs.Commands.{usual_steps, named_first, spelled};
 ghost use Rattle.command_words.specs.declared.commands.Verb.{Verb};
@@ -21,12 +21,13 @@ use std::str;
 
 /// The command that the words after the program's name spell, `None` where they spell none.
 ///
-/// The first word is the command's name. Behind it stand its options, in any order and each at most once, as `--name value`,
-/// `--name=value` or, for a flag, `--name`; and its positional words. A word `--` ends the options. Help and version are no
-/// commands. The error comes only where memory runs out.
+/// The first word is the command's name. Behind it stand its options, in any order and each at most
+/// once, as `--name value`, `--name=value` or, for a flag, `--name`; and its positional words. A
+/// word `--` ends the options. A value that is a word of its own has no hyphen first. Help and
+/// version are no commands. The error comes only where memory runs out.
 pub fn read_words(alloc: Global, words: &[Vec<u8>]) -> Result<Option<Command>, Memory>
     ensures spelled { IfOk result (λ asked. asked ≡ command_of (spelled words.now)) }
-    ensures grammar { (verb : Verb) → IsGrammar (choices_of verb) }
+    ensures grammar { (verb : Verb) → IsGrammar (known_options verb) }
 {
     match texts(alloc, words)? {
         Some(texts) => command_named(alloc, texts.as_slice()),
@@ -36,9 +37,9 @@ pub fn read_words(alloc: Global, words: &[Vec<u8>]) -> Result<Option<Command>, M
 
 /// The words as texts, `None` where one isn't UTF-8.
 fn texts<'a>(alloc: Global, words: &'a [Vec<u8>]) -> Result<Option<Vec<&'a str>>, Memory>
-    ensures { IfOk result (λ read. MatchOption read (list_all is_utf8 (spelled words.entry.now) ≡ false)
-        (λ texts. (map (λ text. text.now) texts.items ≡ spelled words.entry.now)
-        × (list_all is_utf8 (spelled words.entry.now) ≡ true))) }
+    ensures { let bytes = spelled words.entry.now in
+        IfOk result (λ read. MatchOption read (list_all is_utf8 bytes ≡ false)
+        (λ texts. (map (λ text. text.now) texts.items ≡ bytes) × (list_all is_utf8 bytes ≡ true))) }
 {
     let mut texts = Vec::with_capacity(alloc, words.len())?;
     for word in words {
@@ -74,7 +75,8 @@ fn command_by(alloc: Global, verb: Verb, words: &[&str]) -> Result<Option<Comman
 }
 
 fn command_with(alloc: Global, verb: Verb, matches: &ArgMatches) -> Result<Option<Command>, Memory>
-    ensures { IfOk result (λ asked. asked ≡ command_with verb (first_value (found_of matches.now))) }
+    ensures { IfOk result (λ asked.
+        asked ≡ command_with verb (first_value (found_of matches.now))) }
 {
     Ok(match verb {
         Verb::Run => options(verb, matches).map(Command::Run),
@@ -120,7 +122,8 @@ fn seed(text: Option<&str>) -> Option<Option<u64>>
 }
 
 fn steps(verb: Verb, text: Option<&str>) -> Option<u64>
-    ensures { result ≡ number_or (usual_steps verb) 1 (most_steps verb) (option_map (λ read. read.now) text.entry) }
+    ensures { let read = option_map (λ read. read.now) text.entry in
+        result ≡ number_or (usual_steps verb) 1 (most_steps verb) read }
 {
     let (usual, most) = match verb {
         Verb::Sessions => (2_000, 2_000),

@@ -1,82 +1,82 @@
 //! What each command takes.
 
 ghost use Rattle.std.specs.Prelude.{◌≡◌, map};
-ghost use Rattle.command_words.specs.Commands.{verb_of, choices_of, places_of};
-ghost use Rattle.command_words.specs.Splits.{choices_in};
+ghost use Rattle.command_words.specs.Commands.{verb_of, known_options, positional_names};
+ghost use Rattle.command_words.specs.Splits.{known_in};
 
 use crate::commands::Verb;
 
 /// An option of a command. One that takes no value is a flag.
 #[derive(Clone, Copy, Debug)]
-pub struct Choice {
+pub struct KnownOption {
     /// The name, without the two hyphens.
     pub name: &'static str,
     /// Whether it takes a value.
     pub takes_value: bool,
 }
 
-static RUN: [Choice; 3] = [
-    Choice {
+static RUN: [KnownOption; 3] = [
+    KnownOption {
         name: "steps",
         takes_value: true,
     },
-    Choice {
+    KnownOption {
         name: "aux",
         takes_value: false,
     },
-    Choice {
+    KnownOption {
         name: "json",
         takes_value: false,
     },
 ];
 
 /// Of `step` and `resume`.
-static SEEDED: [Choice; 4] = [
-    Choice {
+static SEEDED: [KnownOption; 4] = [
+    KnownOption {
         name: "seed",
         takes_value: true,
     },
-    Choice {
+    KnownOption {
         name: "steps",
         takes_value: true,
     },
-    Choice {
+    KnownOption {
         name: "aux",
         takes_value: false,
     },
-    Choice {
+    KnownOption {
         name: "json",
         takes_value: false,
     },
 ];
 
-static DRIVE: [Choice; 1] = [Choice {
+static DRIVE: [KnownOption; 1] = [KnownOption {
     name: "steps",
     takes_value: true,
 }];
 
-static SESSIONS: [Choice; 3] = [
-    Choice {
+static SESSIONS: [KnownOption; 3] = [
+    KnownOption {
         name: "workers",
         takes_value: true,
     },
-    Choice {
+    KnownOption {
         name: "seed",
         takes_value: true,
     },
-    Choice {
+    KnownOption {
         name: "steps",
         takes_value: true,
     },
 ];
 
-static NO_CHOICES: [Choice; 0] = [];
+static NO_OPTIONS: [KnownOption; 0] = [];
 
 static GEN: [&str; 2] = ["number", "size"];
 
 static MONITOR: [&str; 1] = ["role"];
 
-static NO_PLACES: [&str; 0] = [];
+static NO_NAMES: [&str; 0] = [];
 
 impl Verb {
     /// The command of this name.
@@ -102,26 +102,26 @@ impl Verb {
     }
 
     /// The options that the command takes.
-    pub(crate) fn choices(self) -> &'static [Choice]
-        ensures { choices_in result.now ≡ choices_of self }
+    pub(crate) fn known_options(self) -> &'static [KnownOption]
+        ensures { known_in result.now ≡ known_options self }
     {
         match self {
             Verb::Run => RUN.as_slice(),
             Verb::Step | Verb::Resume => SEEDED.as_slice(),
             Verb::Drive => DRIVE.as_slice(),
             Verb::Sessions => SESSIONS.as_slice(),
-            _ => NO_CHOICES.as_slice(),
+            _ => NO_OPTIONS.as_slice(),
         }
     }
 
     /// The names of the positional words that the command wants.
-    pub(crate) fn places(self) -> &'static [&'static str]
-        ensures { map (λ place. place.now) result.now ≡ places_of self }
+    pub(crate) fn positional_names(self) -> &'static [&'static str]
+        ensures { map (λ name. name.now) result.now ≡ positional_names self }
     {
         match self {
             Verb::Gen => GEN.as_slice(),
             Verb::Monitor => MONITOR.as_slice(),
-            _ => NO_PLACES.as_slice(),
+            _ => NO_NAMES.as_slice(),
         }
     }
 }

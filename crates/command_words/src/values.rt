@@ -5,7 +5,8 @@ ghost use Rattle.std.specs.List.{list_all};
 ghost use Rattle.dioc_terms.specs.Names.{is_digit};
 ghost use Rattle.command_words.specs.Commands.{are_digits, number_within};
 
-/// The number that the digits write, where it lies in the bounds. There is no sign, and leading zeros don't matter.
+/// The number that the digits write, where it lies in the bounds. There is no sign, and leading
+/// zeros don't matter.
 pub(crate) fn number(text: &str, least: u64, most: u64) -> Option<u64>
     ensures { result ≡ number_within least most text.now }
 {

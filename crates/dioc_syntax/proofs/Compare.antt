@@ -17,7 +17,7 @@ use Rattle.expr_syntax.specs.declared.levels.Level.TheVariants.{Disjunction}
 use Rattle.expr_syntax.proofs.LeafFacts.{same_pair}
 use Rattle.expr_syntax.proofs.Tables as expressions
 use Rattle.expr_syntax.proofs.Compare as expression
-use Rattle.dioc_syntax.specs.Choreographies.{role, NamesRoles, last_role, more_roles, NamesRoles, no_roles, roles, GivesProperties, last_property, more_properties, HasProperties, no_properties, empty_properties, properties, Form, Choreography, Sequence, Step, Stands, one_part, beside, one_step, last_step, in_turn, nothing, interaction, input, assignment, choice, loop, scope, group, block, no_else, otherwise}
+use Rattle.dioc_syntax.specs.Choreographies.{role, NamesRoles, last_role, more_roles, HasExtraRoles, no_roles, roles, GivesProperties, last_property, more_properties, HasProperties, no_properties, empty_properties, properties, Form, Choreography, Sequence, Step, Stands, one_part, beside, one_step, last_step, in_turn, nothing, interaction, input, assignment, choice, loop, scope, group, block, no_else, otherwise}
 use Rattle.dioc_syntax.proofs.Shorter.{named_shorter, given_shorter, properties_shorter, stands_shorter}
 use Rattle.dioc_syntax.proofs.Tables.{is_else, is_prop, is_name, is_comma, begins_step, step_goes, sequence_goes, choreography_goes, goes, else_step, prop_step, name_step, operator_step, step_sequence, first_sequence, sequence_choreography}
 
@@ -97,7 +97,7 @@ named_compared (more_roles {others = others} {name = name} begins r) from2 end o
     let others_are : others ≡ others2 = cc in
     widen (λ sort is. is) (λ is i. role (names i) ∷ is i) (named_compared r others2 end rest2 others_are r2)
 
-pub roles_compared : {version : ℕ} {from to : List Lexeme} {extra : List Role} → NamesRoles version from extra to → (from2 end : List Lexeme) (other : List Role) → from ≡ from2 → NamesRoles version from2 other end
+pub roles_compared : {version : ℕ} {from to : List Lexeme} {extra : List Role} → HasExtraRoles version from extra to → (from2 end : List Lexeme) (other : List Role) → from ≡ from2 → HasExtraRoles version from2 other end
     → Compared is_name extra other to end
 roles_compared no_roles from2 end other from_is no_roles = same refl from_is
 roles_compared no_roles from2 end other from_is (roles two begins r ends) =
@@ -175,7 +175,7 @@ ends_there going (properties begins r ends) = absurd cc
 
 -- the two optional parts behind a scope
 scope_tail : {version : ℕ} {whole other : Term} {behind behind2 after after2 to end : List Lexeme} {extra extra2 : List Role} {props props2 : List (List ℕ × Value)} → behind ≡ behind2
-    → NamesRoles version behind extra after → HasProperties after props to → NamesRoles version behind2 extra2 after2 → HasProperties after2 props2 end → (extra ≡ extra2 → props ≡ props2 → whole ≡ other)
+    → HasExtraRoles version behind extra after → HasProperties after props to → HasExtraRoles version behind2 extra2 after2 → HasProperties after2 props2 end → (extra ≡ extra2 → props ≡ props2 → whole ≡ other)
     → Compared step_goes whole other to end
 scope_tail {whole = whole} {other = other} {behind2 = behind2} {after = after} {after2 = after2} {to = to} {end = end} {extra = extra} {extra2 = extra2} {props2 = props2} at named given named2 given2 parts = go (roles_compared named behind2 after2 extra2 at named2)
   where

@@ -9,7 +9,7 @@ use Rattle.aioc_tokens.specs.declared.words.Punctuator.TheVariants as punctuator
 use Rattle.aioc_tokens.specs.Lexemes.{Lexeme, Name, Reserved, Symbol, sort_of}
 use Rattle.expr_syntax.specs.Grammar.{IsExpression}
 use Rattle.expr_syntax.specs.declared.levels.ExprKind.TheVariants as kind
-use Rattle.dioc_syntax.specs.Choreographies.{role, last_role, NamesRoles, no_roles, roles, last_property, properties, Choreography, Stands, one_part, beside, one_step, last_step, in_turn, nothing, input, assignment, choice, scope, group, block, no_else}
+use Rattle.dioc_syntax.specs.Choreographies.{role, last_role, HasExtraRoles, no_roles, roles, last_property, properties, Choreography, Stands, one_part, beside, one_step, last_step, in_turn, nothing, input, assignment, choice, scope, group, block, no_else}
 use Rattle.dioc_syntax.proofs.RoundTrip.{quiet, expression_stands}
 
 -- `skip ; | skip ;`
@@ -46,6 +46,6 @@ scoped : Stands 2 Choreography 1 0
 scoped = one_part (one_step (scope refl (block refl refl (one_part (one_step (nothing refl))) refl) (roles refl refl (last_role refl) refl) (properties refl (last_property refl refl) refl)))
 
 -- version 1 names no further roles
-one_names_none : {from to : List Lexeme} {extra : List Role} → NamesRoles 1 from extra to → extra ≡ []
+one_names_none : {from to : List Lexeme} {extra : List Role} → HasExtraRoles 1 from extra to → extra ≡ []
 one_names_none no_roles = refl
 one_names_none (roles two begins r ends) = absurd cc

@@ -10,7 +10,7 @@ use Rattle.aioc_tokens.specs.Lexemes.{Lexeme, Name, HasLexemes}
 use Rattle.expr_syntax.specs.Grammar.{IsExpression}
 use Rattle.expr_syntax.specs.declared.levels.ExprKind.TheVariants as kind
 use Rattle.expr_syntax.proofs.ReadFormed.{CanBeWritten, identifier_valid, constant_valid, expression_formed, all_valid, valid_from}
-use Rattle.dioc_syntax.specs.Choreographies.{NamesRoles, last_role, more_roles, NamesRoles, no_roles, roles, GivesProperties, last_property, more_properties, HasProperties, no_properties, empty_properties, properties, Form, Stands, one_part, beside, one_step, last_step, in_turn, nothing, interaction, input, assignment, choice, loop, scope, group, block, no_else, otherwise, IsChoreography}
+use Rattle.dioc_syntax.specs.Choreographies.{NamesRoles, last_role, more_roles, HasExtraRoles, no_roles, roles, GivesProperties, last_property, more_properties, HasProperties, no_properties, empty_properties, properties, Form, Stands, one_part, beside, one_step, last_step, in_turn, nothing, interaction, input, assignment, choice, loop, scope, group, block, no_else, otherwise, IsChoreography}
 use Rattle.dioc_syntax.specs.Laws.{FitsVersion}
 use Rattle.dioc_syntax.proofs.Marks.{stands_marked}
 
@@ -36,7 +36,7 @@ named_valid (more_roles {name = name} begins r) all =
     let rest = named_valid r parts.1.1 in
     ((λ j. named j && rest.0 j), rest.1)
 
-roles_valid : {version : ℕ} {from to : List Lexeme} {extra : List Role} → NamesRoles version from extra to → CanAllBeWritten from → (list_all is_formed_role extra ≡ true) × CanAllBeWritten to
+roles_valid : {version : ℕ} {from to : List Lexeme} {extra : List Role} → HasExtraRoles version from extra to → CanAllBeWritten from → (list_all is_formed_role extra ≡ true) × CanAllBeWritten to
 roles_valid no_roles all = (refl, all)
 roles_valid (roles two begins r ends) all = let one = named_valid r (all_of begins all).1.1 in (one.0, (all_of ends one.1).1)
 

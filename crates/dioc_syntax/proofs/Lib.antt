@@ -12,6 +12,7 @@ pub mod Spells
 pub mod RoundTrip
 pub mod FormedTerms
 pub mod HeadSorts
+pub mod PlaceFacts
 pub mod StepFindings
 pub mod Lists
 pub mod Findings

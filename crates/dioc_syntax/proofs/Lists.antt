@@ -9,7 +9,7 @@ use Rattle.aioc_tokens.specs.declared.words.Punctuator.TheVariants as punctuator
 use Rattle.aioc_tokens.specs.Lexemes.{Lexeme, Name, Reserved, Symbol, sort_of, Begins}
 use Rattle.aioc_tokens.specs.Fronts.{Longest, NoFront}
 use Rattle.expr_syntax.specs.Constants.{constant}
-use Rattle.dioc_syntax.specs.Choreographies.{role, NamesRoles, last_role, more_roles, NamesRoles, GivesProperties, last_property, more_properties, HasProperties}
+use Rattle.dioc_syntax.specs.Choreographies.{role, NamesRoles, last_role, more_roles, HasExtraRoles, GivesProperties, last_property, more_properties, HasProperties}
 use Rattle.dioc_syntax.proofs.Shorter.{named_shorter, given_shorter}
 use Rattle.dioc_syntax.specs.Readers.{IsPair, NamesAt, RolesAt, PairsAt, PropertiesAt}
 use Rattle.dioc_syntax.proofs.Compare.{behind_is, constant_same}
@@ -107,7 +107,7 @@ module _ (text : List Lexeme) (at : ℕ) where
 
 -- what a scope may have behind its body
 module _ (version : ℕ) (text : List Lexeme) (at : ℕ) where
-  roles_none : (read : List Role × ℕ) → Longest (NamesRoles version (drop at text)) [] (drop at text) → at ≤ length text → read.0 ≡ [] → read.1 ≡ at → RolesAt version text at read
+  roles_none : (read : List Role × ℕ) → Longest (HasExtraRoles version (drop at text)) [] (drop at text) → at ≤ length text → read.0 ≡ [] → read.1 ≡ at → RolesAt version text at read
   roles_none read front inside none place = (rw (none, place) front, omega arith, omega arith)
 
   -- what follows the first lexeme

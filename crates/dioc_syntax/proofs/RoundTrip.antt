@@ -14,6 +14,7 @@ use Rattle.dioc_terms.specs.declared.names.Index.{Index}
 use Rattle.dioc_terms.specs.declared.values.Value.{Value}
 use Rattle.dioc_terms.specs.declared.values.Value.TheVariants as value
 use Rattle.dioc_terms.specs.Expressions.{Expression, Const, Var, expression_depth}
+use Rattle.dioc_terms.specs.Limits.{most_brackets}
 use Rattle.dioc_terms.specs.Terms.{Term, Skip, Com, Set, Input, Seq, Par, If, While, Scope, constructs, depth, indexed_from}
 use Rattle.dioc_terms.specs.Names as names
 use Rattle.dioc_terms.specs.Bundles.{is_identifier, is_constant, is_formed_step, is_step_expression, is_formed_role, is_formed_binding, has_formed_parts, names_no_roles, IsFormedTerm}
@@ -28,7 +29,7 @@ use Rattle.aioc_tokens.proofs.Written.{spelled_lexemes}
 use Rattle.aioc_tokens.proofs.Readings.{one_reading}
 use Rattle.expr_syntax.specs.Constants.{constant, before, greatest, greatest_negated, number_up_to, positive, negative}
 use Rattle.expr_syntax.specs.Levels.{operator}
-use Rattle.expr_syntax.specs.Grammar.{IsExpression, bracket_limit}
+use Rattle.expr_syntax.specs.Grammar.{IsExpression}
 use Rattle.expr_syntax.specs.Writing.{written_value, opened, closed}
 use Rattle.expr_syntax.specs.Writing.{written as written_expression}
 use Rattle.expr_syntax.specs.declared.levels.ExprKind.TheVariants as kind
@@ -36,7 +37,7 @@ use Rattle.expr_syntax.specs.declared.levels.Level.{Level}
 use Rattle.expr_syntax.specs.declared.levels.Level.TheVariants.{Disjunction, Conjunction, Negation, Comparison, Sum, Product, Unary}
 use Rattle.expr_syntax.proofs.RoundTrip.{written_all}
 use Rattle.expr_syntax.proofs.RoundTrip.{written_reads as expression_reads}
-use Rattle.dioc_syntax.specs.Choreographies.{NamesRoles, last_role, more_roles, NamesRoles, no_roles, roles, GivesProperties, last_property, more_properties, HasProperties, no_properties, properties, Choreography, Sequence, Step, Block, Otherwise, Stands, one_part, beside, one_step, in_turn, nothing, interaction, input, assignment, choice, loop, scope, group, block, otherwise, IsChoreography}
+use Rattle.dioc_syntax.specs.Choreographies.{NamesRoles, last_role, more_roles, HasExtraRoles, no_roles, roles, GivesProperties, last_property, more_properties, HasProperties, no_properties, properties, Choreography, Sequence, Step, Block, Otherwise, Stands, one_part, beside, one_step, in_turn, nothing, interaction, input, assignment, choice, loop, scope, group, block, otherwise, IsChoreography}
 use Rattle.dioc_syntax.specs.Writing.{is_joined, is_parallel, written_names, written_roles, written_property, written_list, written_properties, written}
 use Rattle.dioc_syntax.specs.Laws.{closes, FitsVersion}
 use Rattle.dioc_syntax.proofs.Tables.{choreography_goes}
@@ -133,7 +134,7 @@ names_stand : (first : Role) (rest : List Role) (others : List Lexeme) → Names
 names_stand first [] others = last_role {name = first.0} refl
 names_stand first (next ∷ rest) others = more_roles {name = first.0} refl (names_stand next rest others)
 
-roles_stand : (version : ℕ) (extra : List Role) (others : List Lexeme) → (version ≡ 2) ⊎ (extra ≡ []) → NamesRoles version (written_roles extra others) extra others
+roles_stand : (version : ℕ) (extra : List Role) (others : List Lexeme) → (version ≡ 2) ⊎ (extra ≡ []) → HasExtraRoles version (written_roles extra others) extra others
 roles_stand version [] others fits = no_roles
 roles_stand version (first ∷ rest) others (inl two) = roles two refl (names_stand first rest (Symbol punctuator.RightBrace ∷ others)) refl
 roles_stand version (first ∷ rest) others (inr none) = absurd cc
@@ -427,8 +428,8 @@ pub written_lexemes : (whole : Term) → has_formed_parts whole ≡ true → Has
 written_lexemes whole formed = spelled_lexemes (written whole []) (written_spellings whole [] formed tt)
 
 pub written_text : (version : ℕ) (whole : Term) (found : List Lexeme) → IsFormedTerm whole → FitsVersion version whole → HasLexemes (spelled (written whole [])) found
-    → Longest (IsChoreography version bracket_limit found) whole [] × ((other : Term) (to : List Lexeme) → Longest (IsChoreography version bracket_limit found) other to → other ≡ whole)
+    → Longest (IsChoreography version most_brackets found) whole [] × ((other : Term) (to : List Lexeme) → Longest (IsChoreography version most_brackets found) other to → other ≡ whole)
 written_text version whole found formed fits has =
     let same = one_reading (spelled (written whole [])) (written whole []) found (written_lexemes whole formed.parts) has in
-    let front = subst (λ list. Longest (IsChoreography version bracket_limit list) whole []) same (written_reads version whole bracket_limit [] formed fits (omega arith) refl) in
-    (front, λ other to read. sym (one_choreography version bracket_limit found [] to whole other front read).0)
+    let front = subst (λ list. Longest (IsChoreography version most_brackets list) whole []) same (written_reads version whole most_brackets [] formed fits (omega arith) refl) in
+    (front, λ other to read. sym (one_choreography version most_brackets found [] to whole other front read).0)

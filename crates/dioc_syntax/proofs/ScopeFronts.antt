@@ -9,14 +9,14 @@ use Rattle.aioc_tokens.specs.declared.words.Sort.TheVariants as sorts
 use Rattle.aioc_tokens.specs.Lexemes.{Lexeme, Name, Reserved, Symbol, sort_of, Begins}
 use Rattle.aioc_tokens.specs.Fronts.{Longest, NoFront}
 use Rattle.expr_syntax.specs.Constants.{constant}
-use Rattle.dioc_syntax.specs.Choreographies.{role, NamesRoles, last_role, more_roles, NamesRoles, no_roles, roles, GivesProperties, last_property, more_properties, HasProperties, no_properties, empty_properties, properties}
+use Rattle.dioc_syntax.specs.Choreographies.{role, NamesRoles, last_role, more_roles, HasExtraRoles, no_roles, roles, GivesProperties, last_property, more_properties, HasProperties, no_properties, empty_properties, properties}
 use Rattle.dioc_syntax.proofs.Shorter.{named_shorter, given_shorter, properties_shorter}
 use Rattle.dioc_syntax.proofs.Tables.{is_comma, is_name}
 use Rattle.dioc_syntax.proofs.Compare.{Compared, same, further, nearer, behind_is, named_compared, roles_compared, given_compared, given_begins, constant_same, ends_there}
 
 -- the two parts are the longest, each behind the other
-pub tail_longest : {version : ℕ} {behind after after2 to end : List Lexeme} {extra extra2 : List Role} {props props2 : List (List ℕ × Value)} → Longest (NamesRoles version behind) extra after → Longest (HasProperties after) props to
-    → NamesRoles version behind extra2 after2 → HasProperties after2 props2 end → length to ≤ length end
+pub tail_longest : {version : ℕ} {behind after after2 to end : List Lexeme} {extra extra2 : List Role} {props props2 : List (List ℕ × Value)} → Longest (HasExtraRoles version behind) extra after → Longest (HasProperties after) props to
+    → HasExtraRoles version behind extra2 after2 → HasProperties after2 props2 end → length to ≤ length end
 tail_longest {version} {behind} {after} {after2} {to} {end} {extra} {extra2} {props} {props2} named given named2 given2 = go (roles_compared named.reads behind after2 extra2 refl named2)
   where
     go : Compared is_name extra extra2 after after2 → length to ≤ length end
@@ -68,12 +68,12 @@ named_settled {from} {to} {end} {names} {other} front is stops = go (named_compa
 
 -- further roles of a scope
 roles_absent_go : {version : ℕ} {from end : List Lexeme} {other : List Role} → ((names behind : List Lexeme) (extra : List Role) → version ≡ 2 → from ≡ Name (codes "roles") ∷ Symbol punctuator.LeftBrace ∷ names → NamesRoles names extra behind
-    → sort_of behind ≡ sorts.Symbol punctuator.RightBrace → ⊥) → NamesRoles version from other end → length from ≤ length end
+    → sort_of behind ≡ sorts.Symbol punctuator.RightBrace → ⊥) → HasExtraRoles version from other end → length from ≤ length end
 roles_absent_go none no_roles = omega arith
 roles_absent_go {other = other} none (roles {names = names2} {behind = behind2} two begins2 r2 ends2) = absurd (none names2 behind2 other two begins2 r2 (ap sort_of ends2))
 
 roles_front_go : {version : ℕ} {from names behind to end : List Lexeme} {extra other : List Role} → from ≡ Name (codes "roles") ∷ Symbol punctuator.LeftBrace ∷ names → Longest (NamesRoles names) extra behind → behind ≡ Symbol punctuator.RightBrace ∷ to
-    → NamesRoles version from other end → length to ≤ length end
+    → HasExtraRoles version from other end → length to ≤ length end
 roles_front_go begins front ends no_roles = let less = named_shorter front.reads in omega (arith, ap length begins, ap length ends)
 roles_front_go {names = names} {other = other} begins front ends (roles {names = names2} {behind = behind2} two2 begins2 r2 ends2) =
     let rests : names2 ≡ names = ap (drop 2) (sym begins2 ∙ begins) in
@@ -82,14 +82,14 @@ roles_front_go {names = names} {other = other} begins front ends (roles {names =
 
 module _ {version : ℕ} {from : List Lexeme} where
   -- of version 1, or where `roles {` doesn't stand
-  pub roles_version : version ≢ 2 → Longest (NamesRoles version from) [] from
+  pub roles_version : version ≢ 2 → Longest (HasExtraRoles version from) [] from
   roles_version other = record { reads = no_roles; longest = λ extra end is. roles_absent_go (λ names behind extra two begins r ends. other two) is }
 
-  pub roles_missing : ((names : List Lexeme) → from ≡ Name (codes "roles") ∷ Symbol punctuator.LeftBrace ∷ names → ⊥) → Longest (NamesRoles version from) [] from
+  pub roles_missing : ((names : List Lexeme) → from ≡ Name (codes "roles") ∷ Symbol punctuator.LeftBrace ∷ names → ⊥) → Longest (HasExtraRoles version from) [] from
   roles_missing none = record { reads = no_roles; longest = λ extra end is. roles_absent_go (λ names behind extra two begins r ends. none names begins) is }
 
   -- no name stands behind `roles {`
-  pub roles_empty : {names : List Lexeme} → from ≡ Name (codes "roles") ∷ Symbol punctuator.LeftBrace ∷ names → NoFront (NamesRoles names) → Longest (NamesRoles version from) [] from
+  pub roles_empty : {names : List Lexeme} → from ≡ Name (codes "roles") ∷ Symbol punctuator.LeftBrace ∷ names → NoFront (NamesRoles names) → Longest (HasExtraRoles version from) [] from
   roles_empty {names} begins none = record {
     reads = no_roles;
     longest = λ extra end is. roles_absent_go (λ names2 behind extra two begins2 r ends. none extra behind (subst (λ list. NamesRoles list extra behind) (ap (drop 2) (sym begins2 ∙ begins)) r)) is;
@@ -97,7 +97,7 @@ module _ {version : ℕ} {from : List Lexeme} where
 
   -- the longest names behind `roles {` aren't followed by `}`
   pub roles_open : {names behind : List Lexeme} {extra : List Role} → from ≡ Name (codes "roles") ∷ Symbol punctuator.LeftBrace ∷ names → Longest (NamesRoles names) extra behind → sort_of behind ≢ sorts.Symbol punctuator.RightBrace
-      → Longest (NamesRoles version from) [] from
+      → Longest (HasExtraRoles version from) [] from
   roles_open {names} {behind} {extra} begins front unclosed = record {
     reads = no_roles;
     longest = λ extra end is.
@@ -109,7 +109,7 @@ module _ {version : ℕ} {from : List Lexeme} where
   }
 
   pub roles_front : {names behind to : List Lexeme} {extra : List Role} → version ≡ 2 → from ≡ Name (codes "roles") ∷ Symbol punctuator.LeftBrace ∷ names → Longest (NamesRoles names) extra behind → behind ≡ Symbol punctuator.RightBrace ∷ to
-      → Longest (NamesRoles version from) extra to
+      → Longest (HasExtraRoles version from) extra to
   roles_front two begins front ends = record { reads = roles two begins front.reads ends; longest = λ other end is. roles_front_go begins front ends is }
 
 -- what begins a property

@@ -6,13 +6,13 @@ use Rattle.dioc_terms.specs.Terms.{Term, constructs}
 use Rattle.aioc_tokens.specs.Lexemes.{Lexeme}
 use Rattle.expr_syntax.proofs.LeafFacts.{constant_shorter}
 use Rattle.expr_syntax.proofs.Shorter.{reads_shorter}
-use Rattle.dioc_syntax.specs.Choreographies.{NamesRoles, last_role, more_roles, NamesRoles, no_roles, roles, GivesProperties, last_property, more_properties, HasProperties, no_properties, empty_properties, properties, Form, Otherwise, Stands, one_part, beside, one_step, last_step, in_turn, nothing, interaction, input, assignment, choice, loop, scope, group, block, no_else, otherwise}
+use Rattle.dioc_syntax.specs.Choreographies.{NamesRoles, last_role, more_roles, HasExtraRoles, no_roles, roles, GivesProperties, last_property, more_properties, HasProperties, no_properties, empty_properties, properties, Form, Otherwise, Stands, one_part, beside, one_step, last_step, in_turn, nothing, interaction, input, assignment, choice, loop, scope, group, block, no_else, otherwise}
 
 pub named_shorter : {from to : List Lexeme} {names : List Role} → NamesRoles from names to → length to < length from
 named_shorter (last_role begins) = omega (arith, ap length begins)
 named_shorter (more_roles begins r) = let one = named_shorter r in omega (arith, ap length begins)
 
-pub roles_shorter : {version : ℕ} {from to : List Lexeme} {extra : List Role} → NamesRoles version from extra to → length to ≤ length from
+pub roles_shorter : {version : ℕ} {from to : List Lexeme} {extra : List Role} → HasExtraRoles version from extra to → length to ≤ length from
 roles_shorter no_roles = omega arith
 roles_shorter (roles two begins r ends) = let one = named_shorter r in omega (arith, ap length begins, ap length ends)
 

@@ -1,5 +1,5 @@
 -- What the readers of steps with no step inside find.
-use Rattle.std.proofs.Common.{◌≡◌, ◌≢◌, ℕ, ◌+◌, ◌-◌, ◌<◌, ◌≤◌, List, [], ◌∷◌, drop, length, Some, None, refl, sym, ap, ◌∙◌, arith, length-drop}
+use Rattle.std.proofs.Common.{◌≡◌, ◌≢◌, ℕ, ◌+◌, ◌-◌, ◌<◌, ◌≤◌, List, [], ◌∷◌, drop, length, Option, Some, None, refl, sym, ap, ◌∙◌, arith, length-drop}
 use Rattle.dioc_terms.specs.declared.expressions.Expr.{Expr}
 use Rattle.dioc_terms.specs.declared.choreographies.Choreo.{Choreo}
 use Rattle.dioc_terms.specs.declared.choreographies.Choreo as choreo
@@ -11,10 +11,15 @@ use Rattle.aioc_tokens.specs.Lexemes.{Lexeme, Name, Reserved, Symbol, sort_of, B
 use Rattle.aioc_tokens.specs.Fronts.{Longest}
 use Rattle.expr_syntax.specs.Grammar.{ExpressionAt}
 use Rattle.expr_syntax.specs.declared.levels.ExprKind.TheVariants as kind
+use Rattle.dioc_syntax.specs.declared.found.FoundChoreo.{FoundChoreo}
 use Rattle.dioc_syntax.specs.Choreographies.{role, Step, IsShallow}
-use Rattle.dioc_syntax.specs.Readers.{sent_by, received_by, set_by, HeadAt, Finds, LeafFoundAt}
+use Rattle.dioc_syntax.specs.Readers.{sent_by, received_by, set_by, HeadAt, Finds, FormAt}
 use Rattle.dioc_syntax.proofs.HeadSorts.{symbol_here, reserved_here, follows, sender_begins, receiver_begins, target_begins}
 use Rattle.dioc_syntax.proofs.StepFronts.{interaction_front, interaction_none, interaction_open, input_front, input_room, input_open, assignment_front, assignment_none, name_none}
+
+-- A step without a step inside is read whatever the version, wherever it may be 1 deep.
+abbrev pub LeafFoundAt : ℕ → ℕ → List Lexeme → ℕ → Option FoundChoreo → Type 0
+LeafFoundAt room earlier text at found = (version deep : ℕ) → 0 < deep → FormAt version Step room deep earlier text at found
 
 module _ (room earlier : ℕ) (text : List Lexeme) (at : ℕ) where
   leaf_finds : {version deep : ℕ} (whole : Choreo) (next : ℕ) → 0 < deep → Longest (IsShallow version Step room deep earlier (drop at text)) (term whole) (drop next text) → depth (term whole) ≡ 1

@@ -16,7 +16,7 @@ use Rattle.expr_syntax.specs.declared.levels.ExprKind.TheVariants as kind
 use Rattle.expr_syntax.specs.declared.levels.Level.TheVariants.{Disjunction}
 use Rattle.expr_syntax.proofs.Tables as tables
 use Rattle.expr_syntax.proofs.Fronts as expressions
-use Rattle.dioc_syntax.specs.Choreographies.{role, NamesRoles, HasProperties, Choreography, Block, Otherwise, Step, Stands, nothing, interaction, input, assignment, choice, loop, scope, group, IsShallow}
+use Rattle.dioc_syntax.specs.Choreographies.{role, HasExtraRoles, HasProperties, Choreography, Block, Otherwise, Step, Stands, nothing, interaction, input, assignment, choice, loop, scope, group, IsShallow}
 use Rattle.dioc_syntax.proofs.Tables.{choreography_goes}
 use Rattle.dioc_syntax.proofs.Compare.{behind_is, no_input, input_given}
 use Rattle.dioc_syntax.proofs.Fronts.{some_depth, settled, moved}
@@ -346,7 +346,7 @@ record AsScope (version room deep earlier : ℕ) (headed end : List Lexeme) : Ty
   props : List (List ℕ × Value)
   heads : headed ≡ Symbol punctuator.At ∷ Name leader ∷ body
   one : IsShallow version Block room (deep - 1) (suc earlier) body inner behind
-  named : NamesRoles version behind extra after
+  named : HasExtraRoles version behind extra after
   given : HasProperties after props end
 
 scope_depth : (index : Index) (leader : Role) (inner : Term) (extra : List Role) (props : List (List ℕ × Value)) (deep : ℕ) → depth (Scope index leader inner extra props 0) ≤ deep → depth inner ≤ deep - 1
@@ -377,7 +377,7 @@ as_scope begins shallow (group rooms2 begins2 r2 ends2) = absurd cc
 
 module _ {version room deep earlier : ℕ} {from headed : List Lexeme} (begins : from ≡ Reserved word.Scope ∷ headed) where
   pub scope_front : {body behind after to : List Lexeme} {leader : List ℕ} {inner : Term} {extra : List Role} {props : List (List ℕ × Value)} → headed ≡ Symbol punctuator.At ∷ Name leader ∷ body
-      → Longest (IsShallow version Block room (deep - 1) (suc earlier) body) inner behind → Longest (NamesRoles version behind) extra after → Longest (HasProperties after) props to
+      → Longest (IsShallow version Block room (deep - 1) (suc earlier) body) inner behind → Longest (HasExtraRoles version behind) extra after → Longest (HasProperties after) props to
       → Longest (IsShallow version Step room deep earlier from) (Scope (index_at earlier) (role leader) inner extra props 0) to
   scope_front {body} {behind} {after} {to} {leader} {inner} {extra} {props} heads one named given = record {
     reads = record {
@@ -387,7 +387,7 @@ module _ {version room deep earlier : ℕ} {from headed : List Lexeme} (begins :
     longest = λ other end is.
         let holds = as_scope begins is.shallow is.stands in
         let inners = settled one (moved refl refl (bodies_are refl heads holds.heads) holds.one) refl in
-        tail_longest named given (subst (λ list. NamesRoles version list holds.extra holds.after) (sym inners.1) holds.named) holds.given;
+        tail_longest named given (subst (λ list. HasExtraRoles version list holds.extra holds.after) (sym inners.1) holds.named) holds.given;
   }
 
   -- no leader stands there

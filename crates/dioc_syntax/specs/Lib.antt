@@ -1,4 +1,5 @@
 pub mod Choreographies
+pub mod Places
 pub mod Readers
 pub mod Writing
 pub mod Pieces

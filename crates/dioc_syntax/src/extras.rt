@@ -65,7 +65,8 @@ fn none_at<T: Drop>(alloc: Global, at: usize) -> (Items<T>, usize)
     (Items::new(Vec::new(alloc)), at)
 }
 
-/// As many roles as are named at a place of the text with a `,` between two, and the place behind them.
+/// As many roles as are named at a place of the text with a `,` between two, and the place behind
+/// them.
 fn names_at(alloc: Global, text: &Lexed<'_>, at: usize) -> Result<Option<(Roles, usize)>, Memory>
     ensures { IfOk result (λ found. NamesAt text.now at found) }
 {
@@ -112,7 +113,8 @@ pub fn properties_at(
     Ok((props, next + 1))
 }
 
-/// As many properties as stand at a place of the text with a `,` between two, and the place behind them.
+/// As many properties as stand at a place of the text with a `,` between two, and the place behind
+/// them.
 fn pairs_at(alloc: Global, text: &Lexed<'_>, at: usize) -> Result<Option<(Bindings, usize)>, Memory>
     requires { at < 2 ^ 63 }
     ensures { IfOk result (λ found. PairsAt text.now at found) }

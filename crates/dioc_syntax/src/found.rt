@@ -29,10 +29,15 @@ pub fn nothing_found<T: Drop>(_value: T) -> Option<FoundChoreo>
 }
 
 /// Two sequences side by side.
-pub fn parallel_of(alloc: Global, first: FoundChoreo, second: FoundChoreo) -> Result<FoundChoreo, Memory>
+pub fn parallel_of(
+    alloc: Global,
+    first: FoundChoreo,
+    second: FoundChoreo,
+) -> Result<FoundChoreo, Memory>
     requires first { first.depth < 2 ^ 64 - 1 }
     requires second { second.depth < 2 ^ 64 - 1 }
-    ensures choreo { IfOk result (λ found. term found.choreo ≡ Par (term first.choreo) (term second.choreo)) }
+    ensures choreo { IfOk result (λ found. term found.choreo
+        ≡ Par (term first.choreo) (term second.choreo)) }
     ensures depth { IfOk result (λ found. found.depth ≡ suc (max first.depth second.depth)) }
     ensures at { IfOk result (λ found. found.at ≡ second.at) }
     ensures next { IfOk result (λ found. found.next ≡ second.next) }
@@ -57,7 +62,8 @@ pub fn sequence_of(
 ) -> Result<FoundChoreo, Memory>
     requires first { first.depth < 2 ^ 64 - 1 }
     requires second { second.depth < 2 ^ 64 - 1 }
-    ensures choreo { IfOk result (λ found. term found.choreo ≡ Seq (term first.choreo) (term second.choreo)) }
+    ensures choreo { IfOk result (λ found. term found.choreo
+        ≡ Seq (term first.choreo) (term second.choreo)) }
     ensures depth { IfOk result (λ found. found.depth ≡ suc (max first.depth second.depth)) }
     ensures at { IfOk result (λ found. found.at ≡ second.at) }
     ensures next { IfOk result (λ found. found.next ≡ second.next) }
@@ -84,7 +90,9 @@ pub fn choice_of(
 ) -> Result<FoundChoreo, Memory>
     requires first { first.depth < 2 ^ 64 - 1 }
     requires second { second.depth < 2 ^ 64 - 1 }
-    ensures choreo { IfOk result (λ found. term found.choreo ≡ If (index_at earlier) guard.leader (expression guard.expr) (term first.choreo) (term second.choreo)) }
+    ensures choreo { IfOk result (λ found. term found.choreo
+        ≡ If (index_at earlier) guard.leader (expression guard.expr) (term first.choreo)
+        (term second.choreo)) }
     ensures depth { IfOk result (λ found. found.depth ≡ suc (max first.depth second.depth)) }
     ensures at { IfOk result (λ found. found.at ≡ second.at) }
     ensures next { IfOk result (λ found. found.next ≡ second.next) }
@@ -118,7 +126,8 @@ pub fn loop_of(
     inner: FoundChoreo,
 ) -> Result<FoundChoreo, Memory>
     requires { inner.depth < 2 ^ 64 - 1 }
-    ensures choreo { IfOk result (λ found. term found.choreo ≡ While (index_at earlier) guard.leader (expression guard.expr) (term inner.choreo)) }
+    ensures choreo { IfOk result (λ found. term found.choreo
+        ≡ While (index_at earlier) guard.leader (expression guard.expr) (term inner.choreo)) }
     ensures depth { IfOk result (λ found. found.depth ≡ suc inner.depth) }
     ensures at { IfOk result (λ found. found.at ≡ inner.at) }
     ensures next { IfOk result (λ found. found.next ≡ inner.next) }
@@ -159,7 +168,8 @@ pub fn scope_of(
     inner: FoundChoreo,
 ) -> Result<FoundChoreo, Memory>
     requires { inner.depth < 2 ^ 64 - 1 }
-    ensures choreo { IfOk result (λ found. term found.choreo ≡ Scope (index_at earlier) parts.leader (term inner.choreo) parts.extra parts.props 0) }
+    ensures choreo { IfOk result (λ found. term found.choreo
+        ≡ Scope (index_at earlier) parts.leader (term inner.choreo) parts.extra parts.props 0) }
     ensures depth { IfOk result (λ found. found.depth ≡ suc inner.depth) }
     ensures at { IfOk result (λ found. found.at ≡ parts.at) }
     ensures next { IfOk result (λ found. found.next ≡ inner.next) }

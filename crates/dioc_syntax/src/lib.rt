@@ -1,6 +1,7 @@
 //! From the bytes of a text to the bundle that it spells.
 //!
-//! Today a text has one `aioc` section with one interaction that sends a constant. Choreographies are read and written whole.
+//! Today a text has one `aioc` section with one interaction that sends a constant. Choreographies
+//! are read and written whole.
 #![tactic(auto)]
 
 mod bundle;

@@ -21,8 +21,8 @@ use crate::steps::named_step_at;
 use aioc_tokens::{Punctuator, Sort, Word};
 use dioc_terms::{Choreo, Memory, Role, give_up};
 
-/// The longest choreography at a place of the text that goes no further than it may, or `None` where
-/// none stands there. It is marked as its text is. The error says that memory ran out.
+/// The longest choreography at a place of the text that goes no further than it may, or `None`
+/// where none stands there. It is marked as its text is. The error says that memory ran out.
 ///
 /// ```text
 /// choreo = seq { "|" seq }
@@ -57,11 +57,12 @@ fn sequence_at(reader: &Reader<'_>, place: Place) -> Result<Option<FoundChoreo>,
     requires { place.earlier + (length reader.now.text.now - place.at) ≤ greatest_place }
     ensures { IfOk result (λ found. StandsAt reader.now Sequence place found) }
 {
+    let text = reader.text;
     let first = match step_at(reader, place)? {
         Some(first) => first,
         None => return Ok(None),
     };
-    if !reader.text.has(first.at, Sort::Symbol(Punctuator::Semicolon)) {
+    if !text.has(first.at, Sort::Symbol(Punctuator::Semicolon)) {
         return Ok(Some(first));
     }
     if first.depth == place.deep {
@@ -137,6 +138,7 @@ fn group_at(reader: &Reader<'_>, place: Place) -> Result<Option<FoundChoreo>, Me
     requires few { place.earlier + (length reader.now.text.now - place.at) ≤ greatest_place }
     ensures { IfOk result (λ found. StandsAt reader.now Step place found) }
 {
+    let text = reader.text;
     if place.room == 0 {
         return Ok(None);
     }
@@ -144,7 +146,7 @@ fn group_at(reader: &Reader<'_>, place: Place) -> Result<Option<FoundChoreo>, Me
         Some(inner) => inner,
         None => return Ok(None),
     };
-    if reader.text.has(inner.at, Sort::Symbol(Punctuator::RightParen)) {
+    if text.has(inner.at, Sort::Symbol(Punctuator::RightParen)) {
         Ok(Some(one_behind(inner)))
     } else {
         Ok(nothing_found(inner))
@@ -159,14 +161,15 @@ fn block_at(reader: &Reader<'_>, place: Place) -> Result<Option<FoundChoreo>, Me
     requires { place.earlier + (length reader.now.text.now - place.at) ≤ greatest_place }
     ensures { IfOk result (λ found. StandsAt reader.now Block place found) }
 {
-    if !reader.text.has(place.at, Sort::Symbol(Punctuator::LeftBrace)) || place.room == 0 {
+    let text = reader.text;
+    if !text.has(place.at, Sort::Symbol(Punctuator::LeftBrace)) || place.room == 0 {
         return Ok(None);
     }
     let inner = match choreo_at(reader, place.inside())? {
         Some(inner) => inner,
         None => return Ok(None),
     };
-    if reader.text.has(inner.at, Sort::Symbol(Punctuator::RightBrace)) {
+    if text.has(inner.at, Sort::Symbol(Punctuator::RightBrace)) {
         Ok(Some(one_behind(inner)))
     } else {
         Ok(nothing_found(inner))

@@ -96,12 +96,7 @@ fn interaction_at(
 /// ```text
 /// name "@" name "=" "input" "(" ")"
 /// ```
-fn input_at(
-    reader: &Reader<'_>,
-    place: Place,
-    variable: Name,
-    owner: Name,
-) -> Option<FoundChoreo>
+fn input_at(reader: &Reader<'_>, place: Place, variable: Name, owner: Name) -> Option<FoundChoreo>
     requires head { drop place.at reader.now.text.now
         ≡ set_by variable owner (drop (place.at + 4) reader.now.text.now) }
     requires within { place.at + 4 ≤ length reader.now.text.now }

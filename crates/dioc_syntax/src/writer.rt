@@ -14,13 +14,15 @@ use dioc_terms::{Choreo, Expr, Memory, Name, Role, Value};
 use expr_syntax::{write_expr, write_value};
 use text_pieces::write_bytes;
 
-/// Appends the text of a choreography: its tokens with one space between two. The left part of a sequence is in brackets where
-/// it is a sequence or a parallel, its right part where it is a parallel, and so is the left part of a parallel. An `if` always
-/// has its `else`; a scope without further roles has no `roles`, one without properties no `prop`.
+/// Appends the text of a choreography: its tokens with one space between two. The left part of a
+/// sequence is in brackets where it is a sequence or a parallel, its right part where it is a
+/// parallel, and so is the left part of a parallel. An `if` always has its `else`; a scope without
+/// further roles has no `roles`, one without properties no `prop`.
 ///
 /// Where memory runs out, `out` is as it was.
 pub fn write_choreo(choreo: &Choreo, out: &mut Vec<u8>) -> Result<(), Memory>
-    ensures ok { OnOk result (out.new.items ≡ out.old.items ++ spelled (written (term choreo.now) [])) }
+    ensures ok { OnOk result (out.new.items ≡ out.old.items
+        ++ spelled (written (term choreo.now) [])) }
     ensures memory { OnErr result (out.new.items ≡ out.old.items) }
 {
     let start = out.len();
@@ -32,7 +34,8 @@ pub fn write_choreo(choreo: &Choreo, out: &mut Vec<u8>) -> Result<(), Memory>
 }
 
 fn write_part(choreo: &Choreo, out: &mut Vec<u8>) -> Result<(), Memory>
-    ensures ok { OnOk result (out.new.items ≡ out.old.items ++ choreography_text (term choreo.now)) }
+    ensures ok { OnOk result (out.new.items ≡ out.old.items
+        ++ choreography_text (term choreo.now)) }
     ensures memory { OnErr result (KeepsFront out.old.items out.new.items) }
 {
     write_head(choreo, out)?;
@@ -134,7 +137,9 @@ fn write_interaction(
     var: &Name,
     out: &mut Vec<u8>,
 ) -> Result<(), Memory>
-    ensures ok { OnOk result (out.new.items ≡ out.old.items ++ (op.now ++ codes " : " ++ from.now.0 ++ codes " ( " ++ expression_text (expression expr.now) ++ receiver_text to.now var.now)) }
+    ensures ok { OnOk result (out.new.items ≡ out.old.items
+        ++ (op.now ++ codes " : " ++ from.now.0
+        ++ codes " ( " ++ expression_text (expression expr.now) ++ receiver_text to.now var.now)) }
     ensures memory { OnErr result (KeepsFront out.old.items out.new.items) }
 {
     write_bytes(op.bytes(), out)?;
@@ -179,7 +184,8 @@ fn write_leader(leader: &Role, out: &mut Vec<u8>) -> Result<(), Memory>
 
 /// A word, a guard and a leader.
 fn write_guarded(word: &[u8], guard: &Expr, leader: &Role, out: &mut Vec<u8>) -> Result<(), Memory>
-    ensures ok { OnOk result (out.new.items ≡ out.old.items ++ (word.now ++ expression_text (expression guard.now) ++ leader_text leader.now)) }
+    ensures ok { OnOk result (out.new.items ≡ out.old.items
+        ++ (word.now ++ expression_text (expression guard.now) ++ leader_text leader.now)) }
     ensures memory { OnErr result (KeepsFront out.old.items out.new.items) }
 {
     write_bytes(word, out)?;
@@ -238,7 +244,8 @@ fn write_properties(props: &[(Name, Value)], out: &mut Vec<u8>) -> Result<(), Me
 
 #[tactic(auto, using(text_pieces::proofs::KeptFronts::front_of_front))]
 fn write_next_properties(rest: &[(Name, Value)], out: &mut Vec<u8>) -> Result<(), Memory>
-    ensures ok { OnOk result (out.new.items ≡ out.old.items ++ flat_map next_property_text rest.now) }
+    ensures ok { OnOk result (out.new.items ≡ out.old.items
+        ++ flat_map next_property_text rest.now) }
     ensures memory { OnErr result (KeepsFront out.old.items out.new.items) }
 {
     for next in rest {
@@ -298,7 +305,8 @@ fn write_between(left: bool, sign: &[u8], right: bool, out: &mut Vec<u8>) -> Res
 }
 
 fn write_expression(expr: &Expr, out: &mut Vec<u8>) -> Result<(), Memory>
-    ensures ok { OnOk result (out.new.items ≡ out.old.items ++ expression_text (expression expr.now)) }
+    ensures ok { OnOk result (out.new.items ≡ out.old.items
+        ++ expression_text (expression expr.now)) }
     ensures memory { OnErr result (KeepsFront out.old.items out.new.items) }
 {
     write_expr(expr, out)

@@ -53,5 +53,5 @@ constant _ = None
 abbrev pub ConstantAt : List Lexeme → ℕ → Option (Value × ℕ) → Type 0
 ConstantAt text at found =
     (constant (drop at text)
-        ≡ option_map (λ (read : Value × ℕ). before (drop read.1 text) read.0) found) ×
+    ≡ option_map (λ (read : Value × ℕ). before (drop read.1 text) read.0) found) ×
     MatchOption found (Unit {0}) (λ read. (at < read.1) × (read.1 ≤ length text))

@@ -16,21 +16,21 @@ use Rattle.expr_syntax.specs.declared.readers.Found.{Found}
 abbrev pub LeafAt : ExprKind → List Lexeme → ℕ → Option (Expr × ℕ) → Type 0
 LeafAt kind text at found =
     (leaf kind (drop at text) ≡ option_map
-        (λ (read : Expr × ℕ). and_left (drop read.1 text) (expression read.0)) found) ×
+    (λ (read : Expr × ℕ). and_left (drop read.1 text) (expression read.0)) found) ×
     MatchOption found (Unit {0}) (λ read. (at < read.1) × (read.1 ≤ length text))
 
 -- what stands behind `N` or `E`, whatever is made of the name
 abbrev pub MemberAt : List Lexeme → ℕ → Option (List ℕ × ℕ) → Type 0
 MemberAt text at found =
     ((make : List ℕ → Expression) → member make (drop at text) ≡ option_map
-        (λ (read : List ℕ × ℕ). and_left (drop read.1 text) (make read.0)) found) ×
+    (λ (read : List ℕ × ℕ). and_left (drop read.1 text) (make read.0)) found) ×
     MatchOption found (Unit {0}) (λ read. (at < read.1) × (read.1 ≤ length text))
 
 -- a constant alone
 abbrev pub ConstantLeafAt : List Lexeme → ℕ → Option (Expr × ℕ) → Type 0
 ConstantLeafAt text at found =
     (option_map const_before (constant (drop at text)) ≡ option_map
-        (λ (read : Expr × ℕ). and_left (drop read.1 text) (expression read.0)) found) ×
+    (λ (read : Expr × ℕ). and_left (drop read.1 text) (expression read.0)) found) ×
     MatchOption found (Unit {0}) (λ read. (at < read.1) × (read.1 ≤ length text))
 
 -- the expression that was read ends within the list; its depth and the sort of the token behind it

@@ -131,11 +131,7 @@ fn shallow_leaf_at(reader: &Reader<'_>, place: Place) -> Result<Option<Found>, M
 
 /// The longest expression of a level at a place of the text that goes no further than it may.
 #[cycle(reading)]
-pub fn level_at(
-    reader: &Reader<'_>,
-    level: Level,
-    place: Place,
-) -> Result<Option<Found>, Memory>
+pub fn level_at(reader: &Reader<'_>, level: Level, place: Place) -> Result<Option<Found>, Memory>
     ensures { IfOk result (λ found. LevelAt reader.now level place found) }
 {
     match level {
@@ -163,12 +159,7 @@ fn chain_at(reader: &Reader<'_>, level: Level, place: Place) -> Result<Option<Fo
 
 /// An expression that begins at a place, with as many operators and operands behind it as follow.
 #[cycle(reading)]
-fn follow(
-    reader: &Reader<'_>,
-    level: Level,
-    place: Place,
-    first: Found,
-) -> Result<Found, Memory>
+fn follow(reader: &Reader<'_>, level: Level, place: Place, first: Found) -> Result<Found, Memory>
     requires { IsNoted place.deep reader.now.text.now first }
     ensures { IfOk result (λ found. Grows reader.now.kind level place.room place.deep
         reader.now.text.now first found) }

@@ -1,4 +1,4 @@
-//! `serve WORD..: BUNDLE`: the top call with these words, and the text as its input.
+//! `serve_alone WORD..: BUNDLE`: the top call with these words, and the text as its input.
 
 use crate::cases::Case;
 use crate::problems::Problem;

@@ -1,9 +1,8 @@
 //! `step`: the run of a bundle on one thread.
 
 ghost use Rattle.std.specs.Prelude.{◌≡◌, ◌++◌, false, None, not, if◌then◌else◌, IfOk, OnOk};
-ghost use Rattle.dioc_terms.specs.declared.bundles.Bundle.{Bundle};
 ghost use Rattle.dioc_terms.specs.Messages.{is_aux, visible};
-ghost use Rattle.dioc_terms.specs.Plain.{plain};
+ghost use Rattle.dioc_terms.specs.Plain.{PlainBundle, plain};
 ghost use Rattle.dioc_terms.specs.Supported.{IsSupported};
 ghost use Rattle.net_core.specs.Net.{IsNetOf};
 ghost use Rattle.net_core.specs.Refusals.{IsAccepted};
@@ -47,9 +46,9 @@ pub fn step(alloc: Global, options: &Options, bundle: &Bundle) -> Result<Written
 
 // The bundle only tells the contract whose network it is.
 fn run_to_end(net: &mut Net, _bundle: &Bundle) -> Result<Finish, Memory>
-    ghost owner: { Bundle }
-    requires { IsNetOf (plain owner) net.old }
-    ensures { IfOk result (Finishes (plain owner) net.old net.new) }
+    ghost owner: { PlainBundle }
+    requires { IsNetOf owner net.old }
+    ensures { IfOk result (Finishes owner net.old net.new) }
 {
     run_first(net)
 }

@@ -1,4 +1,4 @@
-use Rattle.std.proofs.Common.{◌≡◌, ◌∙◌, ap, sym, true, false}
+use Rattle.std.proofs.Common.{◌≡◌, ◌∙◌, ap, sym, false}
 use Rattle.std.specs.Prelude.{is_some}
 use Rattle.dioc_terms.specs.Names.{is_reserved}
 use Rattle.command_words.proofs.Readings.{reserved_word, role_reserved, role_named, is_not_refused}

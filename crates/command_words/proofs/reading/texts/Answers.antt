@@ -1,4 +1,4 @@
-use Rattle.std.proofs.Common.{◌≡◌, ◌∙◌, ap, sym, subst}
+use Rattle.std.proofs.Common.{◌∙◌, subst}
 use Rattle.std.specs.Str.{IsUtf8}
 use Rattle.command_words.proofs.Readings.{word_fails, texts_more, utf8_more}
 use Rattle.command_words.proofs.reading.texts.Goals as goal
