@@ -25,8 +25,8 @@ pub noted_depth : {deep : ℕ} {text : List Lexeme} {found : Found} → IsNoted 
 noted_depth noted = let depth = noted.depth in let shallow = noted.shallow in omega arith
 
 -- the sort of the token behind an expression that ends where another does
-moved_behind : (text : List Lexeme) {found other : Found} → found.behind ≡ other.behind → found.at ≡ other.at → other.behind ≡ sort_of (drop other.at text) → found.behind ≡ sort_of (drop found.at text)
-moved_behind text same place is = same ∙ is ∙ ap (λ at. sort_of (drop at text)) (sym place)
+moved_behind : (text : List Lexeme) (found other : Found) → found.behind ≡ other.behind → found.at ≡ other.at → other.behind ≡ sort_of (drop other.at text) → found.behind ≡ sort_of (drop found.at text)
+moved_behind text found other same place is = same ∙ is ∙ ap (λ at. sort_of (drop at text)) (sym place)
 
 module _ (kind : ExprKind) (room deep : ℕ) (text : List Lexeme) (at : ℕ) where
   pub leaf_found : (expr : Expr) (next : ℕ) (sort : Sort) → 0 < deep → length text < 2 ^ 63 → sort ≡ sort_of (drop next text) → LeafAt kind text at (Some (expr, next))
@@ -71,7 +71,7 @@ module _ (kind : ExprKind) (room deep : ℕ) (text : List Lexeme) (at : ℕ) whe
           shallow = omega arith;
           within = (let inside = two.noted.within in omega arith);
           small = (let bound = two.noted.small in omega arith);
-          behind = moved_behind text behind place two.noted.behind;
+          behind = moved_behind text both right behind place two.noted.behind;
         };
         after = (let before = one.after in let more = two.after in omega arith);
       }
@@ -88,7 +88,7 @@ module _ (kind : ExprKind) (room deep : ℕ) (text : List Lexeme) (at : ℕ) whe
           shallow = omega arith;
           within = (let inside = one.noted.within in omega arith);
           small = (let bound = one.noted.small in omega arith);
-          behind = moved_behind text behind place one.noted.behind;
+          behind = moved_behind text whole inner behind place one.noted.behind;
         };
         after = (let before = one.after in omega arith);
       }
@@ -110,7 +110,7 @@ module _ (kind : ExprKind) (room deep : ℕ) (text : List Lexeme) (at : ℕ) whe
           shallow = omega arith;
           within = (let inside = one.noted.within in omega arith);
           small = (let bound = one.noted.small in omega arith);
-          behind = moved_behind text behind place one.noted.behind;
+          behind = moved_behind text whole inner behind place one.noted.behind;
         };
         after = (let before = one.after in omega arith);
       }
@@ -151,5 +151,5 @@ module _ (kind : ExprKind) (level : Level) (room deep : ℕ) (text : List Lexeme
         shallow = omega arith;
         within = (let inside = two.noted.within in omega arith);
         small = (let bound = two.noted.small in omega arith);
-        behind = moved_behind text behind place two.noted.behind;
+        behind = moved_behind text both second behind place two.noted.behind;
       }
