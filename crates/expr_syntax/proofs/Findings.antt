@@ -1,8 +1,9 @@
 -- What the readers of the levels find, by what they find of the parts.
-use Rattle.std.proofs.Common.{◌≡◌, ◌≢◌, ℕ, suc, ◌+◌, ◌-◌, ◌<◌, ◌≤◌, true, false, List, ◌∷◌, length, drop, max, Option, Some, None, ap, sym, ◌∙◌, subst, arith}
+use Rattle.std.proofs.Common.{◌≡◌, ◌≢◌, ℕ, suc, ◌+◌, ◌-◌, ◌<◌, ◌≤◌, ◌^◌, true, false, List, ◌∷◌, length, drop, max, Option, Some, None, ap, sym, ◌∙◌, subst, arith, length-drop}
 use Rattle.dioc_terms.specs.declared.expressions.Oper.{Oper}
 use Rattle.dioc_terms.specs.declared.expressions.Expr.{Expr}
 use Rattle.dioc_terms.specs.Expressions.{Not, Neg, Bin, expression, expression_depth}
+use Rattle.aioc_tokens.specs.declared.words.Sort.{Sort}
 use Rattle.aioc_tokens.specs.declared.words.Word.TheVariants as word
 use Rattle.aioc_tokens.specs.declared.words.Punctuator.TheVariants as punctuator
 use Rattle.aioc_tokens.specs.declared.words.Sort.TheVariants as sorts
@@ -23,14 +24,19 @@ use Rattle.expr_syntax.proofs.Fronts.{NoOperand, chain_front, chain_none, follow
 pub noted_depth : {deep : ℕ} {text : List Lexeme} {found : Found} → IsNoted deep text found → expression_depth (expression found.expr) ≤ deep
 noted_depth noted = let depth = noted.depth in let shallow = noted.shallow in omega arith
 
+-- the sort of the token behind an expression that ends where another does
+moved_behind : (text : List Lexeme) (found other : Found) → found.behind ≡ other.behind → found.at ≡ other.at → other.behind ≡ sort_of (drop other.at text) → found.behind ≡ sort_of (drop found.at text)
+moved_behind text found other same place is = same ∙ is ∙ ap (λ at. sort_of (drop at text)) (sym place)
+
 module _ (kind : ExprKind) (room deep : ℕ) (text : List Lexeme) (at : ℕ) where
-  pub leaf_found : (expr : Expr) (next : ℕ) → 0 < deep → LeafAt kind text at (Some (expr, next)) → Finds kind Unary room deep text at (record { expr = expr; depth = 1; at = next })
-  leaf_found expr next some is =
+  pub leaf_found : (expr : Expr) (next : ℕ) (sort : Sort) → 0 < deep → length text < 2 ^ 63 → sort ≡ sort_of (drop next text) → LeafAt kind text at (Some (expr, next))
+      → Finds kind Unary room deep text at (record { expr = expr; depth = 1; at = next; behind = sort })
+  leaf_found expr next sort some small behind is =
       let one = leaf_depth kind (drop at text) (drop next text) (expression expr) is.0 in
       let bounds = is.1 in
       record {
         front = leaf_front (omega arith) is.0;
-        noted = record { depth = sym one; shallow = omega arith; within = omega arith };
+        noted = record { depth = sym one; shallow = omega arith; within = omega arith; small = omega arith; behind = behind };
         after = omega arith;
       }
 
@@ -52,26 +58,38 @@ module _ (kind : ExprKind) (room deep : ℕ) (text : List Lexeme) (at : ℕ) whe
   side_found left one none = record { front = comparison_alone one.front none; noted = one.noted; after = one.after }
 
   pub comparison_found : (oper : Oper) (left right both : Found) → Some oper ≡ operator kind Comparison (sort_of (drop left.at text)) → left.depth ≢ deep → Finds kind Sum room deep text at left → Finds kind Sum room (deep - 1) text (left.at + 1) right
-      → expression both.expr ≡ Bin oper (expression left.expr) (expression right.expr) → both.depth ≡ suc (max left.depth right.depth) → both.at ≡ right.at → Finds kind Comparison room deep text at both
-  comparison_found oper left right both found deeper one two joins depth place =
+      → expression both.expr ≡ Bin oper (expression left.expr) (expression right.expr) → both.depth ≡ suc (max left.depth right.depth) → both.at ≡ right.at → both.behind ≡ right.behind → Finds kind Comparison room deep text at both
+  comparison_found oper left right both found deeper one two joins depth place behind =
       let depth1 = one.noted.depth in
       let depth2 = two.noted.depth in
       let shallow1 = one.noted.shallow in
       let shallow2 = two.noted.shallow in
       record {
         front = rw (joins, place) (comparison_joined oper (sym found) (omega arith) one.front (subst (λ rest. Longest (IsShallow kind Sum room (deep - 1) rest) (expression right.expr) (drop right.at text)) (sym (one_more text left.at)) two.front));
-        noted = record { depth = depth ∙ omega arith ∙ sym (ap expression_depth joins); shallow = omega arith; within = (let inside = two.noted.within in omega arith) };
+        noted = record {
+          depth = depth ∙ omega arith ∙ sym (ap expression_depth joins);
+          shallow = omega arith;
+          within = (let inside = two.noted.within in omega arith);
+          small = (let bound = two.noted.small in omega arith);
+          behind = moved_behind text both right behind place two.noted.behind;
+        };
         after = (let before = one.after in let more = two.after in omega arith);
       }
 
   pub denied_found : (inner whole : Found) → 0 < deep → drop at text ≡ Reserved word.Not ∷ drop (at + 1) text → Finds kind Negation room (deep - 1) text (at + 1) inner
-      → expression whole.expr ≡ Not (expression inner.expr) → whole.depth ≡ suc inner.depth → whole.at ≡ inner.at → Finds kind Negation room deep text at whole
-  denied_found inner whole some begins one denies depth place =
+      → expression whole.expr ≡ Not (expression inner.expr) → whole.depth ≡ suc inner.depth → whole.at ≡ inner.at → whole.behind ≡ inner.behind → Finds kind Negation room deep text at whole
+  denied_found inner whole some begins one denies depth place behind =
       let depth1 = one.noted.depth in
       let shallow1 = one.noted.shallow in
       record {
         front = rw (denies, place) (negation_inside some begins one.front);
-        noted = record { depth = depth ∙ omega arith ∙ sym (ap expression_depth denies); shallow = omega arith; within = (let inside = one.noted.within in omega arith) };
+        noted = record {
+          depth = depth ∙ omega arith ∙ sym (ap expression_depth denies);
+          shallow = omega arith;
+          within = (let inside = one.noted.within in omega arith);
+          small = (let bound = one.noted.small in omega arith);
+          behind = moved_behind text whole inner behind place one.noted.behind;
+        };
         after = (let before = one.after in omega arith);
       }
 
@@ -81,21 +99,27 @@ module _ (kind : ExprKind) (room deep : ℕ) (text : List Lexeme) (at : ℕ) whe
   plain_at other (Some found) one = record { front = negation_plain other one.front; noted = one.noted; after = one.after }
 
   pub negated_found : (inner whole : Found) → 0 < deep → drop at text ≡ Symbol punctuator.Minus ∷ drop (at + 1) text → begins_with_number (drop (at + 1) text) ≡ false → Finds kind Unary room (deep - 1) text (at + 1) inner
-      → expression whole.expr ≡ Neg (expression inner.expr) → whole.depth ≡ suc inner.depth → whole.at ≡ inner.at → Finds kind Unary room deep text at whole
-  negated_found inner whole some begins minus one negates depth place =
+      → expression whole.expr ≡ Neg (expression inner.expr) → whole.depth ≡ suc inner.depth → whole.at ≡ inner.at → whole.behind ≡ inner.behind → Finds kind Unary room deep text at whole
+  negated_found inner whole some begins minus one negates depth place behind =
       let depth1 = one.noted.depth in
       let shallow1 = one.noted.shallow in
       record {
         front = rw (negates, place) (minus_front some begins minus one.front);
-        noted = record { depth = depth ∙ omega arith ∙ sym (ap expression_depth negates); shallow = omega arith; within = (let inside = one.noted.within in omega arith) };
+        noted = record {
+          depth = depth ∙ omega arith ∙ sym (ap expression_depth negates);
+          shallow = omega arith;
+          within = (let inside = one.noted.within in omega arith);
+          small = (let bound = one.noted.small in omega arith);
+          behind = moved_behind text whole inner behind place one.noted.behind;
+        };
         after = (let before = one.after in omega arith);
       }
 
-  pub bracket_found : (inner : Found) → 0 < room → drop at text ≡ Symbol punctuator.LeftParen ∷ drop (at + 1) text → Finds kind Disjunction (room - 1) deep text (at + 1) inner → drop inner.at text ≡ Symbol punctuator.RightParen ∷ drop (inner.at + 1) text → inner.at < length text
-      → Finds kind Unary room deep text at (record { expr = inner.expr; depth = inner.depth; at = inner.at + 1 })
-  bracket_found inner some begins one ends within = record {
+  pub bracket_found : (inner : Found) (sort : Sort) → 0 < room → length text < 2 ^ 63 → sort ≡ sort_of (drop (inner.at + 1) text) → drop at text ≡ Symbol punctuator.LeftParen ∷ drop (at + 1) text → Finds kind Disjunction (room - 1) deep text (at + 1) inner → drop inner.at text ≡ Symbol punctuator.RightParen ∷ drop (inner.at + 1) text
+      → Finds kind Unary room deep text at (record { expr = inner.expr; depth = inner.depth; at = inner.at + 1; behind = sort })
+  bracket_found inner sort some small behind begins one ends = let inside : inner.at < length text = omega (arith, ap length ends, length-drop inner.at text) in record {
     front = bracket_front some begins one.front ends;
-    noted = record { depth = one.noted.depth; shallow = one.noted.shallow; within = omega arith };
+    noted = record { depth = one.noted.depth; shallow = one.noted.shallow; within = omega arith; small = omega arith; behind = behind };
     after = (let before = one.after in omega arith);
   }
 
@@ -116,10 +140,16 @@ module _ (kind : ExprKind) (level : Level) (room deep : ℕ) (text : List Lexeme
 
   -- both operands together are noted
   pub both_noted : (oper : Oper) (first second both : Found) → first.depth ≢ deep → IsNoted deep text first → Finds kind (tighter level) room (deep - 1) text (first.at + 1) second
-      → expression both.expr ≡ Bin oper (expression first.expr) (expression second.expr) → both.depth ≡ suc (max first.depth second.depth) → both.at ≡ second.at → IsNoted deep text both
-  both_noted oper first second both deeper noted two joins depth place =
+      → expression both.expr ≡ Bin oper (expression first.expr) (expression second.expr) → both.depth ≡ suc (max first.depth second.depth) → both.at ≡ second.at → both.behind ≡ second.behind → IsNoted deep text both
+  both_noted oper first second both deeper noted two joins depth place behind =
       let depth1 = noted.depth in
       let depth2 = two.noted.depth in
       let shallow1 = noted.shallow in
       let shallow2 = two.noted.shallow in
-      record { depth = depth ∙ omega arith ∙ sym (ap expression_depth joins); shallow = omega arith; within = (let inside = two.noted.within in omega arith) }
+      record {
+        depth = depth ∙ omega arith ∙ sym (ap expression_depth joins);
+        shallow = omega arith;
+        within = (let inside = two.noted.within in omega arith);
+        small = (let bound = two.noted.small in omega arith);
+        behind = moved_behind text both second behind place two.noted.behind;
+      }

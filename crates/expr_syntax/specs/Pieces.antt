@@ -32,7 +32,8 @@ expression_text (Var x) = x
 expression_text (Prop x) = codes "N . " ++ x
 expression_text (Env x) = codes "E . " ++ x
 expression_text (Not e) =
-    codes "not " ++ opening_text (is_compound e) ++ expression_text e ++ closing_text (is_compound e)
+    codes "not " ++ opening_text (is_compound e) ++ expression_text e
+    ++ closing_text (is_compound e)
 expression_text (Neg e) = codes "- ( " ++ expression_text e ++ codes " )"
 expression_text (Bin oper a b) =
     opening_text (is_compound a) ++ expression_text a ++ closing_text (is_compound a) ++

@@ -1,8 +1,8 @@
 -- What the readers of the levels answer.
-use Rattle.std.specs.Prelude.{◌≡◌, ℕ, ◌<◌, ◌≤◌, List, length, drop, Option, Some, None, option_map, MatchOption}
+use Rattle.std.specs.Prelude.{◌≡◌, ℕ, ◌<◌, ◌≤◌, ◌^◌, List, length, drop, Option, Some, None, option_map, MatchOption}
 use Rattle.dioc_terms.specs.declared.expressions.Expr.{Expr}
 use Rattle.dioc_terms.specs.Expressions.{Expression, expression, expression_depth}
-use Rattle.aioc_tokens.specs.Lexemes.{Lexeme}
+use Rattle.aioc_tokens.specs.Lexemes.{Lexeme, sort_of}
 use Rattle.aioc_tokens.specs.Fronts.{Longest, NoFront}
 use Rattle.expr_syntax.specs.Constants.{constant}
 use Rattle.expr_syntax.specs.Grammar.{Follows, IsShallow, leaf, member, and_left, const_before}
@@ -33,11 +33,14 @@ ConstantLeafAt text at found =
     (λ (read : Expr × ℕ). and_left (drop read.1 text) (expression read.0)) found) ×
     MatchOption found (Unit {0}) (λ read. (at < read.1) × (read.1 ≤ length text))
 
--- the expression that was read ends within the list, and its depth is noted
+-- the expression that was read ends within the list; its depth and the sort of the token behind it
+-- are noted
 pub record IsNoted (deep : ℕ) (text : List Lexeme) (found : Found) : Type 0 where
   pub depth : found.depth ≡ expression_depth (expression found.expr)
   pub shallow : found.depth ≤ deep
   pub within : found.at ≤ length text
+  pub small : found.at < 2 ^ 63
+  pub behind : found.behind ≡ sort_of (drop found.at text)
 
 -- the longest expression of a level at a place of the list, as a reader found it
 pub record Finds (kind : ExprKind) (level : Level) (room deep : ℕ) (text : List Lexeme) (at : ℕ)

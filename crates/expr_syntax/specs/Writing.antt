@@ -65,7 +65,8 @@ written (Env x) others = Reserved word.E ∷ Symbol punctuator.Dot ∷ Name x �
 written (Not e) others =
     Reserved word.Not ∷ opened (is_compound e) (written e (closed (is_compound e) others))
 written (Neg e) others =
-    Symbol punctuator.Minus ∷ Symbol punctuator.LeftParen ∷ written e (Symbol punctuator.RightParen ∷ others)
+    Symbol punctuator.Minus ∷ Symbol punctuator.LeftParen
+    ∷ written e (Symbol punctuator.RightParen ∷ others)
 written (Bin oper a b) others =
     opened (is_compound a) (written a (closed (is_compound a) (operator_lexeme oper
     ∷ opened (is_compound b) (written b (closed (is_compound b) others)))))

@@ -15,8 +15,8 @@ use aioc_tokens::{Lexed, Punctuator, Sort, Word};
 use dioc_terms::{Expr, Memory, Name, NameFault};
 use std::alloc::Global;
 
-/// The name at a place of the text, which the caller knows to be one. The error says that memory ran
-/// out.
+/// The name at a place of the text, which the caller knows to be one. The error says that memory
+/// ran out.
 pub fn name_at(alloc: Global, text: &Lexed<'_>, at: usize) -> Result<Name, Memory>
     requires { sort_of (drop at text.now) ≡ Sort.Name }
     ensures value { IfOk result (λ name. drop at text.now

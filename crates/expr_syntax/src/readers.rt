@@ -23,6 +23,8 @@ pub struct Found {
     pub expr: Expr,
     pub depth: usize,
     pub at: usize,
+    /// The sort of the token at that place. Each level looks at it, so that it is found once.
+    pub behind: Sort,
 }
 
 /// Two operands with an operator between them.
@@ -33,15 +35,17 @@ fn two_sided(alloc: Global, oper: Oper, left: Found, right: Found) -> Result<Fou
         (expression right.expr)) }
     ensures depth { IfOk result (λ found. found.depth ≡ suc (max left.depth right.depth)) }
     ensures at { IfOk result (λ found. found.at ≡ right.at) }
+    ensures behind { IfOk result (λ found. found.behind ≡ right.behind) }
 {
     let depth = left.depth.max(right.depth) + 1;
-    let at = right.at;
+    let (at, behind) = (right.at, right.behind);
     let left = new_box(alloc, left.expr)?;
     let right = new_box(alloc, right.expr)?;
     Ok(Found {
         expr: Expr::Bin(oper, left, right),
         depth,
         at,
+        behind,
     })
 }
 
@@ -51,12 +55,14 @@ fn negation(alloc: Global, inner: Found) -> Result<Found, Memory>
     ensures expr { IfOk result (λ found. expression found.expr ≡ Not (expression inner.expr)) }
     ensures depth { IfOk result (λ found. found.depth ≡ suc inner.depth) }
     ensures at { IfOk result (λ found. found.at ≡ inner.at) }
+    ensures behind { IfOk result (λ found. found.behind ≡ inner.behind) }
 {
     let inside = new_box(alloc, inner.expr)?;
     Ok(Found {
         expr: Expr::Not(inside),
         depth: inner.depth + 1,
         at: inner.at,
+        behind: inner.behind,
     })
 }
 
@@ -66,12 +72,14 @@ fn minus(alloc: Global, inner: Found) -> Result<Found, Memory>
     ensures expr { IfOk result (λ found. expression found.expr ≡ Neg (expression inner.expr)) }
     ensures depth { IfOk result (λ found. found.depth ≡ suc inner.depth) }
     ensures at { IfOk result (λ found. found.at ≡ inner.at) }
+    ensures behind { IfOk result (λ found. found.behind ≡ inner.behind) }
 {
     let inside = new_box(alloc, inner.expr)?;
     Ok(Found {
         expr: Expr::Neg(inside),
         depth: inner.depth + 1,
         at: inner.at,
+        behind: inner.behind,
     })
 }
 
@@ -83,6 +91,13 @@ fn stands(text: &Lexed<'_>, at: usize, sort: Sort) -> bool
 {
     let here = text.sort(at);
     here == sort
+}
+
+/// Whether a token of this sort closes a bracket.
+fn is_right_paren(sort: Sort) -> bool
+    ensures { IsTrue result ↔ (sort ≡ Sort.Symbol Punctuator.RightParen) }
+{
+    sort == Sort::Symbol(Punctuator::RightParen)
 }
 
 /// Lets go of an expression that is no part of one.
@@ -108,6 +123,7 @@ fn shallow_leaf_at(reader: &Reader<'_>, place: Place) -> Result<Option<Found>, M
             expr,
             depth: 1,
             at: next,
+            behind: reader.text.sort(next),
         })),
         None => Ok(None),
     }
@@ -148,7 +164,7 @@ fn follow(reader: &Reader<'_>, level: Level, place: Place, first: Found) -> Resu
     ensures { IfOk result (λ found. Grows reader.now.kind level place.room place.deep
         reader.now.text.now first found) }
 {
-    let oper = match operator(reader.kind, level, reader.text.sort(first.at)) {
+    let oper = match operator(reader.kind, level, first.behind) {
         Some(oper) => oper,
         None => return Ok(first),
     };
@@ -174,7 +190,7 @@ fn comparison_at(reader: &Reader<'_>, place: Place) -> Result<Option<Found>, Mem
         Some(left) => left,
         None => return Ok(None),
     };
-    let oper = match operator(reader.kind, Level::Comparison, reader.text.sort(left.at)) {
+    let oper = match operator(reader.kind, Level::Comparison, left.behind) {
         Some(oper) => oper,
         None => return Ok(Some(left)),
     };
@@ -262,11 +278,13 @@ fn bracket_at(reader: &Reader<'_>, place: Place) -> Result<Option<Found>, Memory
         Some(inner) => inner,
         None => return Ok(None),
     };
-    if stands(reader.text, inner.at, Sort::Symbol(Punctuator::RightParen)) {
+    if is_right_paren(inner.behind) {
+        let at = inner.at + 1;
         Ok(Some(Found {
             expr: inner.expr,
             depth: inner.depth,
-            at: inner.at + 1,
+            at,
+            behind: reader.text.sort(at),
         }))
     } else {
         Ok(nothing_found(inner))

@@ -18,19 +18,19 @@ bracket_at-returns-in-None t c =
     let begins = symbol_at c.args.reader.now.text.now c.args.place.at punctuator.LeftParen punctuator.LeftParen (sym c.requires.sort) refl in
     bracket_none (drop (c.args.place.at + 1) c.args.reader.now.text.now) begins (at_place c.args.reader.now Disjunction c.inside.ensures c.in-None.is c.in_ok-inner.ensures)
 
-pub bracket_at-returns-then-stands : goal.bracket_at-returns-then-stands
-bracket_at-returns-then-stands t c =
+pub bracket_at-returns-then-is_right_paren : goal.bracket_at-returns-then-is_right_paren
+bracket_at-returns-then-is_right_paren t c =
+    let inner = at_place c.args.reader.now Disjunction c.inside.ensures c.in-Some.is c.in_ok-inner.ensures in
     let begins = symbol_at c.args.reader.now.text.now c.args.place.at punctuator.LeftParen punctuator.LeftParen (sym c.requires.sort) refl in
-    bracket_found c.args.reader.now.kind c.args.place.room c.args.place.deep c.args.reader.now.text.now c.args.place.at c.in-Some.inner (omega arith) begins
-    (at_place c.args.reader.now Disjunction c.inside.ensures c.in-Some.is c.in_ok-inner.ensures)
-    (symbol_at c.args.reader.now.text.now c.in-Some.inner.at punctuator.RightParen punctuator.RightParen (c.stands.ensures.value.0 c.if-stands.true) refl) (c.stands.ensures.within c.if-stands.true (λ same. cc))
+    bracket_found c.args.reader.now.kind c.args.place.room c.args.place.deep c.args.reader.now.text.now c.args.place.at c.in-Some.inner c.sort.result (omega arith) c.requires.small c.sort.ensures.value begins inner
+    (symbol_at c.args.reader.now.text.now c.in-Some.inner.at punctuator.RightParen punctuator.RightParen (sym (c.is_right_paren.ensures.0 c.if-is_right_paren.true) ∙ inner.noted.behind) refl)
 
-pub bracket_at-returns-else-stands : goal.bracket_at-returns-else-stands
-bracket_at-returns-else-stands t c =
+pub bracket_at-returns-else-is_right_paren : goal.bracket_at-returns-else-is_right_paren
+bracket_at-returns-else-is_right_paren t c =
     let begins = symbol_at c.args.reader.now.text.now c.args.place.at punctuator.LeftParen punctuator.LeftParen (sym c.requires.sort) refl in
     let inner = at_place c.args.reader.now Disjunction c.inside.ensures c.in-Some.is c.in_ok-inner.ensures in
     subst (FoundAt c.args.reader.now.kind Unary c.args.place.room c.args.place.deep c.args.reader.now.text.now c.args.place.at) (sym c.nothing_found.ensures)
-    (bracket_open begins inner.front (λ is. let found = c.stands.ensures.value.1 (sym is) in let missed = c.if-stands.false in cc))
+    (bracket_open begins inner.front (λ is. let found = c.is_right_paren.ensures.1 (inner.noted.behind ∙ is) in let missed = c.if-is_right_paren.false in cc))
 
 pub chain_at-returns-in_ok-whole-in-Some : goal.chain_at-returns-in_ok-whole-in-Some
 chain_at-returns-in_ok-whole-in-Some t c =
@@ -47,7 +47,8 @@ chain_at-returns-in-None t c =
 
 pub comparison_at-returns-in-None-operator : goal.comparison_at-returns-in-None-operator
 comparison_at-returns-in-None-operator t c =
-    side_found c.args.reader.now.kind c.args.place.room c.args.place.deep c.args.reader.now.text.now c.args.place.at c.in-Some.left (subst (FoundAt c.args.reader.now.kind Sum c.args.place.room c.args.place.deep c.args.reader.now.text.now c.args.place.at) c.in-Some.is c.in_ok-left.ensures) (no_operator (c.in-None-operator.ensures ∙ ap (operator c.args.reader.now.kind Comparison) c.sort.ensures.value))
+    let left = subst (FoundAt c.args.reader.now.kind Sum c.args.place.room c.args.place.deep c.args.reader.now.text.now c.args.place.at) c.in-Some.is c.in_ok-left.ensures in
+    side_found c.args.reader.now.kind c.args.place.room c.args.place.deep c.args.reader.now.text.now c.args.place.at c.in-Some.left left (no_operator (c.in-None-operator.ensures ∙ ap (operator c.args.reader.now.kind Comparison) left.noted.behind))
 
 pub comparison_at-returns-then-left-place : goal.comparison_at-returns-then-left-place
 comparison_at-returns-then-left-place t c =
@@ -60,7 +61,7 @@ comparison_at-returns-in_ok-both-in-Ok-Some t c =
     let right = at_place c.args.reader.now Sum c.operand.ensures c.in-Ok-Some.field-0-is c.in-Ok-Some.ensures in
     let here = c.in_ok-both-in-Ok-Some in
     comparison_found c.args.reader.now.kind c.args.place.room c.args.place.deep c.args.reader.now.text.now c.args.place.at c.in-Some-operator.oper c.in-Some.left c.in-Ok-Some.right here.both
-    (c.in-Some-operator.ensures ∙ ap (operator c.args.reader.now.kind Comparison) c.sort.ensures.value) c.if-left-place.false left right here.ensures.expr here.ensures.depth here.ensures.at
+    (c.in-Some-operator.ensures ∙ ap (operator c.args.reader.now.kind Comparison) left.noted.behind) c.if-left-place.false left right here.ensures.expr here.ensures.depth here.ensures.at here.ensures.behind
 
 pub comparison_at-returns-in-Ok-None : goal.comparison_at-returns-in-Ok-None
 comparison_at-returns-in-Ok-None t c =
@@ -71,7 +72,7 @@ comparison_at-returns-in-Ok-None t c =
 
 pub follow-returns-in-None : goal.follow-returns-in-None
 follow-returns-in-None t c =
-    follow_stays c.args.reader.now.kind c.args.level c.args.place.room c.args.place.deep c.args.reader.now.text.now c.args.first c.requires (no_operator (c.in-None.ensures ∙ ap (operator c.args.reader.now.kind c.args.level) c.sort.ensures.value))
+    follow_stays c.args.reader.now.kind c.args.level c.args.place.room c.args.place.deep c.args.reader.now.text.now c.args.first c.requires (no_operator (c.in-None.ensures ∙ ap (operator c.args.reader.now.kind c.args.level) c.requires.behind))
 
 pub follow-returns-then-first-place : goal.follow-returns-then-first-place
 follow-returns-then-first-place t c = follow_stays c.args.reader.now.kind c.args.level c.args.place.room c.args.place.deep c.args.reader.now.text.now c.args.first c.requires (no_depth (sym c.requires.depth ∙ c.if-first-place.true))
@@ -82,7 +83,7 @@ follow-returns-in_ok-both-in-Ok-Some t c =
     let here = subst (λ level. Finds c.args.reader.now.kind level c.args.place.room (c.args.place.deep - 1) c.args.reader.now.text.now (c.args.first.at + 1) c.in-Ok-Some.second) c.tighter.ensures second in
     let joins = c.in_ok-both-in-Ok-Some in
     if_ok c.follow.result (λ found grows. follow_more c.args.reader.now.kind c.args.level c.args.place.room c.args.place.deep c.args.reader.now.text.now c.in-Some.oper c.args.first c.in-Ok-Some.second joins.both found c.requires
-    (c.in-Some.ensures ∙ ap (operator c.args.reader.now.kind c.args.level) c.sort.ensures.value) here joins.ensures.expr joins.ensures.at grows) c.follow.ensures
+    (c.in-Some.ensures ∙ ap (operator c.args.reader.now.kind c.args.level) c.requires.behind) here joins.ensures.expr joins.ensures.at grows) c.follow.ensures
 
 pub follow-returns-in-Ok-None : goal.follow-returns-in-Ok-None
 follow-returns-in-Ok-None t c =
@@ -99,7 +100,7 @@ minus_at-returns-in_ok-whole-in-Some t c =
     let begins = symbol_at c.args.reader.now.text.now c.args.place.at punctuator.Minus punctuator.Minus (sym c.requires.sort) refl in
     let here = c.in_ok-whole-in-Some in
     negated_found c.args.reader.now.kind c.args.place.room c.args.place.deep c.args.reader.now.text.now c.args.place.at c.in-Some.inner here.whole (omega arith) begins (sym c.is_number.ensures ∙ c.if-is_number.false)
-    (at_place c.args.reader.now Unary c.operand.ensures c.in-Some.is c.in_ok-inner.ensures) here.ensures.expr here.ensures.depth here.ensures.at
+    (at_place c.args.reader.now Unary c.operand.ensures c.in-Some.is c.in_ok-inner.ensures) here.ensures.expr here.ensures.depth here.ensures.at here.ensures.behind
 
 pub minus_at-returns-in-None : goal.minus_at-returns-in-None
 minus_at-returns-in-None t c =
@@ -115,7 +116,7 @@ negation_at-returns-in_ok-whole-in-Some t c =
     let begins = reserved_at c.args.reader.now.text.now c.args.place.at word.Not word.Not (c.stands.ensures.value.0 c.if-not-stands.false) refl in
     let here = c.in_ok-whole-in-Some in
     denied_found c.args.reader.now.kind c.args.place.room c.args.place.deep c.args.reader.now.text.now c.args.place.at c.in-Some.inner here.whole (omega arith) begins
-    (at_place c.args.reader.now Negation c.operand.ensures c.in-Some.is c.in_ok-inner.ensures) here.ensures.expr here.ensures.depth here.ensures.at
+    (at_place c.args.reader.now Negation c.operand.ensures c.in-Some.is c.in_ok-inner.ensures) here.ensures.expr here.ensures.depth here.ensures.at here.ensures.behind
 
 pub negation_at-returns-in-None : goal.negation_at-returns-in-None
 negation_at-returns-in-None t c =
