@@ -58,7 +58,7 @@ properties_valid no_properties all = (refl, all)
 properties_valid (empty_properties begins) all = (refl, (all_of begins all).1.1.1)
 properties_valid (properties begins r ends) all = let one = given_valid r (all_of begins all).1.1 in (one.0, (all_of ends one.1).1)
 
-stands_valid : {version : ℕ} {form : Form} {room earlier : ℕ} {from to : List Lexeme} {whole : Term} → Stands version form room earlier from whole to → CanAllBeWritten from → (has_formed_parts whole ≡ true) × CanAllBeWritten to
+pub stands_valid : {version : ℕ} {form : Form} {room earlier : ℕ} {from to : List Lexeme} {whole : Term} → Stands version form room earlier from whole to → CanAllBeWritten from → (has_formed_parts whole ≡ true) × CanAllBeWritten to
 stands_valid (one_part r) all = stands_valid r all
 stands_valid (beside r ends s) all =
     let one = stands_valid r all in
@@ -122,7 +122,7 @@ fits_both (inl two) other = inl two
 fits_both (inr one) (inl two) = inl two
 fits_both (inr one) (inr other) = inr (λ j. one j && other j)
 
-stands_fits : {version : ℕ} {form : Form} {room earlier : ℕ} {from to : List Lexeme} {whole : Term} → Stands version form room earlier from whole to → FitsVersion version whole
+pub stands_fits : {version : ℕ} {form : Form} {room earlier : ℕ} {from to : List Lexeme} {whole : Term} → Stands version form room earlier from whole to → FitsVersion version whole
 stands_fits (one_part r) = stands_fits r
 stands_fits (beside r ends s) = fits_both (stands_fits r) (stands_fits s)
 stands_fits (one_step r) = stands_fits r

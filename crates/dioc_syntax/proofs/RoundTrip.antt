@@ -44,7 +44,7 @@ use Rattle.dioc_syntax.proofs.Tables.{choreography_goes}
 use Rattle.dioc_syntax.proofs.Compare.{Compared, same, further, nearer, compare}
 use Rattle.dioc_syntax.proofs.Fronts.{one_choreography}
 
-both_true : (a b : Bool) → a && b ≡ true → (a ≡ true) × (b ≡ true)
+pub both_true : (a b : Bool) → a && b ≡ true → (a ≡ true) × (b ≡ true)
 both_true true b is = (refl, is)
 both_true false b is = absurd cc
 
@@ -139,12 +139,12 @@ roles_stand version [] others fits = no_roles
 roles_stand version (first ∷ rest) others (inl two) = roles two refl (names_stand first rest (Symbol punctuator.RightBrace ∷ others)) refl
 roles_stand version (first ∷ rest) others (inr none) = absurd cc
 
-decimal_number : (most n : ℕ) → n < 2 ^ 64 → n ≤ most → number_up_to most (decimal n) ≡ Some n
+pub decimal_number : (most n : ℕ) → n < 2 ^ 64 → n ≤ most → number_up_to most (decimal n) ≡ Some n
 decimal_number most n fits small =
     let value : digits_value 10 (decimal n) ≡ n = digits_value-decimal (numerals_by_value (λ digits. all_ascii_digits digits ≡ true) tells_all_ascii_digits) n fits in
     rw value (grind (arith, nat_tests))
 
-value_stands : (v : Value) (others : List Lexeme) → is_constant v ≡ true → constant (written_value v others) ≡ Some (before others v)
+pub value_stands : (v : Value) (others : List Lexeme) → is_constant v ≡ true → constant (written_value v others) ≡ Some (before others v)
 value_stands value.Nil others is = refl
 value_stands (value.Bool true) others is = refl
 value_stands (value.Bool false) others is = refl
@@ -316,7 +316,7 @@ written_reads version whole room others formed fits roomy closed_is =
 name_spelled : (name : List ℕ) → is_identifier name ≡ true → HasSpelling (Name name)
 name_spelled name is = (written_all kind.Step (Var name) [] is tt).0
 
-value_spelled : (v : Value) (others : List Lexeme) → is_constant v ≡ true → AllByRecursion HasSpelling others → AllByRecursion HasSpelling (written_value v others)
+pub value_spelled : (v : Value) (others : List Lexeme) → is_constant v ≡ true → AllByRecursion HasSpelling others → AllByRecursion HasSpelling (written_value v others)
 value_spelled v others is rest = written_all kind.Step (Const v) others is rest
 
 expression_spelled : (e : Expression) (others : List Lexeme) → is_formed_step e ≡ true → AllByRecursion HasSpelling others → AllByRecursion HasSpelling (written_expression e others)
@@ -361,7 +361,7 @@ properties_all : (props : List (List ℕ × Value)) (others : List Lexeme) → l
 properties_all [] others is behind = behind
 properties_all (first ∷ rest) others is behind = (tt, (tt, list_all_spelled first rest (Symbol punctuator.RightBrace ∷ others) is (tt, behind)))
 
-written_spellings : (whole : Term) (others : List Lexeme) → has_formed_parts whole ≡ true → AllByRecursion HasSpelling others → AllByRecursion HasSpelling (written whole others)
+pub written_spellings : (whole : Term) (others : List Lexeme) → has_formed_parts whole ≡ true → AllByRecursion HasSpelling others → AllByRecursion HasSpelling (written whole others)
 written_spellings Skip others formed rest = (tt, rest)
 written_spellings (Com index operation sender value receiver variable) others formed rest =
     let one = both_true (is_identifier operation && is_formed_role sender && is_formed_step value && is_formed_role receiver) (is_identifier variable) formed in

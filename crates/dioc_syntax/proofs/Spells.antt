@@ -32,7 +32,7 @@ opened_some : (bracketed : Bool) (others : List Lexeme) → 0 < length others �
 opened_some true others some = omega arith
 opened_some false others some = some
 
-written_some : (whole : Term) (others : List Lexeme) → 0 < length (written whole others)
+pub written_some : (whole : Term) (others : List Lexeme) → 0 < length (written whole others)
 written_some Skip others = omega arith
 written_some (Com index operation sender value receiver variable) others = omega arith
 written_some (Set index variable owner value) others = omega arith

@@ -1,0 +1,6 @@
+pub mod Unique
+pub mod Fronts
+pub mod Spells
+pub mod RoundTrip
+pub mod Formed
+pub mod Shorter

@@ -1,0 +1,5 @@
+pub mod Grammar
+pub mod Readers
+pub mod Writing
+pub mod Pieces
+pub mod Laws
