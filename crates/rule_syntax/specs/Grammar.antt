@@ -28,11 +28,13 @@ pub data HasPriority (version : ℕ) : List Lexeme → ℤ → List Lexeme → T
 
 -- `{ on {` and what follows
 abbrev pub opening : List Lexeme → List Lexeme
-opening others = Symbol punctuator.LeftBrace ∷ Reserved word.On ∷ Symbol punctuator.LeftBrace ∷ others
+opening others =
+    Symbol punctuator.LeftBrace ∷ Reserved word.On ∷ Symbol punctuator.LeftBrace ∷ others
 
 -- `} do {` and what follows
 abbrev pub doing : List Lexeme → List Lexeme
-doing others = Symbol punctuator.RightBrace ∷ Reserved word.Do ∷ Symbol punctuator.LeftBrace ∷ others
+doing others =
+    Symbol punctuator.RightBrace ∷ Reserved word.Do ∷ Symbol punctuator.LeftBrace ∷ others
 
 -- `} }` and what follows
 abbrev pub closing : List Lexeme → List Lexeme
