@@ -8,7 +8,7 @@ use Rattle.net_core.specs.declared.refusals.Refusal.{Refusal}
 use Rattle.command_words.specs.declared.commands.Command.{Command}
 use Rattle.command_words.specs.declared.commands.Command.TheVariants as command
 use Rattle.aioc_top.specs.Replies.{Reply, Replies, refusal_of}
-use Rattle.aioc_top.specs.Verdicts.{Verdict, TooLong, Unspelled, Refused, Replied, Comes, Answers, Refuses, status_of, status_of_end}
+use Rattle.aioc_top.specs.Verdicts.{Verdict, TooLong, Unspelled, Refused, Replied, Comes, MayReply, Refuses, status_of, status_of_end}
 use Rattle.aioc_top.specs.Words.{is_built}
 
 -- a command that is built has one reply to a bundle
@@ -21,12 +21,12 @@ pub not_too_long : (bytes : List ℕ) (b : PlainBundle) → Spells bytes b → m
 not_too_long bytes b spells long = absurd (omega (arith, spells.small, long))
 
 module _ (one : OneBundle) (found : Command) (built : is_built found ≡ true) (bytes : List ℕ) where
-  both_judged : (reply : Reply) (why : Refusal) → Answers found bytes reply → Refuses found bytes why → ⊥
+  both_judged : (reply : Reply) (why : Refusal) → MayReply found bytes reply → Refuses found bytes why → ⊥
   both_judged reply why h k =
       none_some (sym h.accepted ∙ ap (refusal_of found) (one bytes h.bundle k.bundle h.spells k.spells) ∙ k.refused)
 
-  pub one_answer : (reply other : Reply) → Answers found bytes reply → Answers found bytes other → reply ≡ other
-  one_answer reply other h k =
+  pub one_reply_of : (reply other : Reply) → MayReply found bytes reply → MayReply found bytes other → reply ≡ other
+  one_reply_of reply other h k =
       let same = one bytes h.bundle k.bundle h.spells k.spells in
       one_reply found k.bundle reply other built (subst (λ b. Replies found b reply) same h.replies) k.replies
 
@@ -46,4 +46,4 @@ module _ (one : OneBundle) (found : Command) (built : is_built found ≡ true) (
   one_kind (Replied reply) TooLong h k = absurd (not_too_long bytes h.bundle h.spells k)
   one_kind (Replied reply) (Unspelled byte) h k = absurd (k.1 h.bundle h.spells)
   one_kind (Replied reply) (Refused why) h k = absurd (both_judged reply why h k)
-  one_kind (Replied reply) (Replied other) h k = ap (λ (r : Reply). status_of_end r.end) (one_answer reply other h k)
+  one_kind (Replied reply) (Replied other) h k = ap (λ (r : Reply). status_of_end r.end) (one_reply_of reply other h k)

@@ -21,14 +21,14 @@ use Rattle.command_words.specs.declared.commands.Command.TheVariants as command
 use Rattle.aioc_top.specs.Calls.{Call, Judges, Happens, IsRead, ReadsTo, Says, Writes}
 use Rattle.aioc_top.specs.Replies.{Reply, Replies, is_finished, refusal_of, run_reply, step_history}
 use Rattle.aioc_top.specs.Serve.{ComesExactly, Complete, GivesUp, HeadlineHolds, PartPrinted, ReadsAll, RunPrinted, SaysWhy, Silent, StepText, UsageComes, has_printed}
-use Rattle.aioc_top.specs.Verdicts.{Verdict, TooLong, Unspelled, Refused, Replied, Answers, Cause, Comes, status_of, status_of_end}
+use Rattle.aioc_top.specs.Verdicts.{Verdict, TooLong, Unspelled, Refused, Replied, MayReply, Cause, Comes, status_of, status_of_end}
 use Rattle.aioc_top.specs.Words.{is_built}
 use Rattle.aioc_top.specs.declared.replies.End.{End}
 use Rattle.aioc_top.specs.declared.replies.End.TheVariants as end
 use Rattle.aioc_top.specs.declared.status.Status.{Status}
 use Rattle.aioc_top.specs.declared.status.Status.TheVariants as status
 use Rattle.aioc_top.proofs.Table.{prints_always}
-use Rattle.aioc_top.proofs.Causes.{not_too_long, one_kind, one_answer}
+use Rattle.aioc_top.proofs.Causes.{not_too_long, one_kind, one_reply_of}
 
 filled : {A : Type 0} {P : A → Type 0} → ((x : A) → P x) → (o : Option A) → IfSome o P
 filled f None = tt
@@ -261,7 +261,7 @@ ends_limit false h = (λ e. (⊎_elim (λ is. absurd (true≢false (sym is))) (�
 
 module _ (formed : SpelledAreFormed) (every : EveryRun) (sound : RunsAreSound) (options : Options) where
   pub run_printed : (bytes : List ℕ) (source : SourceState) (out out_after : SinkState) (s : Status) (reply : Reply) → IsRead source bytes
-      → Answers (command.Step options) bytes reply → s ≡ status_of_end reply.end → Appends out.taken out_after.taken reply.text
+      → MayReply (command.Step options) bytes reply → s ≡ status_of_end reply.end → Appends out.taken out_after.taken reply.text
       → (run : RunPrinted options s source out out_after) × (run.history ≡ step_history options run.bundle)
   run_printed bytes source out out_after s reply read h is wrote =
       let b = h.bundle in
@@ -295,7 +295,7 @@ module _ (formed : SpelledAreFormed) (every : EveryRun) (sound : RunsAreSound) (
   step_text call s h is prints =
       let its = reply_told call s prints (told call s (printing s prints) h) in
       let command : its.1.command ≡ command.Step options = some_same (sym its.1.asked ∙ is) in
-      run_printed its.1.bytes call.source call.out call.out_after s its.0 its.1.read (subst (λ c. Answers c its.1.bytes its.0) command its.1.comes) its.2 its.3
+      run_printed its.1.bytes call.source call.out call.out_after s its.0 its.1.read (subst (λ c. MayReply c its.1.bytes its.0) command its.1.comes) its.2 its.3
     where
       printing : (t : Status) → has_printed t ≡ true → tells_verdict t ≡ true
       printing status.Done e = refl

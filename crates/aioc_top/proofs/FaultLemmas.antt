@@ -11,7 +11,7 @@ use Rattle.command_words.specs.declared.commands.Command.{Command}
 use Rattle.aioc_top.specs.Calls.{IsRead}
 use Rattle.aioc_top.specs.Faults.{IsJudgedSo, IsRefusedSo, IsSyntaxFault, ReadSo, Stops}
 use Rattle.aioc_top.specs.Replies.{Reply, Replies, reply_of}
-use Rattle.aioc_top.specs.Verdicts.{Verdict, TooLong, Unspelled, Refused, Replied, Answered, Comes}
+use Rattle.aioc_top.specs.Verdicts.{Verdict, TooLong, Unspelled, Refused, Replied, IsReplied, Comes}
 use Rattle.aioc_top.specs.declared.faults.Fault.{Fault}
 use Rattle.aioc_top.specs.declared.faults.Fault.TheVariants as fault
 use Rattle.aioc_top.specs.declared.replies.Written.{Written}
@@ -39,9 +39,9 @@ refused_is asked bytes b spells fault.WriteFault h = absurd h
 refused_is asked bytes b spells fault.TooLong h = absurd h
 refused_is asked bytes b spells (fault.Syntax line) h = absurd h
 
-pub answered_is : (asked : Command) (bytes : List ℕ) (b : PlainBundle) → Spells bytes b → (written : Written) → Answered asked b written
+pub replied_is : (asked : Command) (bytes : List ℕ) (b : PlainBundle) → Spells bytes b → (written : Written) → IsReplied asked b written
     → Comes asked bytes (Replied (reply_of written))
-answered_is asked bytes b spells written h = record { bundle = b; spells = spells; accepted = h.accepted; replies = h.replies }
+replied_is asked bytes b spells written h = record { bundle = b; spells = spells; accepted = h.accepted; replies = h.replies }
 
 -- the bytes that were read are the source's, where it tells them
 pub is_read : (source : SourceState) (all : List ℕ) → IfSome source.left (λ told. all ≡ told) → IsRead source all

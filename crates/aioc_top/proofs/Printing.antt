@@ -19,7 +19,7 @@ use Rattle.command_words.specs.declared.commands.Options.{Options}
 use Rattle.aioc_top.specs.declared.replies.End.TheVariants as end
 use Rattle.aioc_top.specs.declared.replies.Written.{Written}
 use Rattle.aioc_top.specs.Replies.{Reply, reply_of, run_reply, run_text, shown, last_of, is_finished, step_history}
-use Rattle.aioc_top.specs.Steps.{end_of, last_for, printed}
+use Rattle.aioc_top.specs.Endings.{end_of, last_for, printed}
 
 network_runs : (b : PlainBundle) (net : NetState) → IsNetOf b net → network_run b net.history ≡ Some (network_of b net)
 network_runs b net is = ap (network_run b) is.history ∙ runs_at b net (computes b net is) net.phase ∙ ap Some (sym (network_is b net is))

@@ -1,9 +1,1 @@
-pub mod Calls
-pub mod Faults
-pub mod Messages
-pub mod Replies
-pub mod Serve
-pub mod Steps
-pub mod Status
-pub mod Verdicts
-pub mod Words
+

@@ -17,7 +17,7 @@ use Rattle.command_words.specs.declared.commands.Command.TheVariants as command
 use Rattle.aioc_top.specs.Calls.{IsRead, SaysLine}
 use Rattle.aioc_top.specs.Messages.{usage_line, read_fault_line, write_fault_line, too_long_line, memory_line, syntax_line, refusal_line}
 use Rattle.aioc_top.specs.Replies.{Reply, Replies, refusal_of, run_reply, step_history}
-use Rattle.aioc_top.specs.Verdicts.{Replied, Comes, Cause, Answers, Refuses, status_of_end}
+use Rattle.aioc_top.specs.Verdicts.{Replied, Comes, Cause, MayReply, Refuses, status_of_end}
 use Rattle.aioc_top.specs.declared.status.Status.{Status}
 use Rattle.aioc_top.specs.declared.status.Status.TheVariants as status
 
@@ -111,7 +111,7 @@ pub record PartPrinted (asked : Option Command) (source : SourceState) (out out_
   pub bytes : List ℕ
   pub read : IsRead source bytes
   pub reply : Reply
-  pub comes : Answers command bytes reply
+  pub comes : MayReply command bytes reply
   pub part : TakesPart out.taken out_after.taken reply.text
 
 -- `out` isn't called before a refusal; with a fault of `out` it took a part of a text that it might

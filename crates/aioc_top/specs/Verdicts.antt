@@ -26,14 +26,14 @@ pub record Refuses (asked : Command) (bytes : List ℕ) (why : Refusal) : Type 0
   pub refused : refusal_of asked bundle ≡ Some why
 
 -- the bytes spell an accepted bundle, to which the command may answer so
-pub record Answers (asked : Command) (bytes : List ℕ) (reply : Reply) : Type 0 where
+pub record MayReply (asked : Command) (bytes : List ℕ) (reply : Reply) : Type 0 where
   pub bundle : PlainBundle
   pub spells : Spells bytes bundle
   pub accepted : refusal_of asked bundle ≡ None
   pub replies : Replies asked bundle reply
 
 -- what was written is a reply of the command to an accepted bundle
-pub record Answered (asked : Command) (bundle : PlainBundle) (written : Written) : Type 0 where
+pub record IsReplied (asked : Command) (bundle : PlainBundle) (written : Written) : Type 0 where
   pub accepted : refusal_of asked bundle ≡ None
   pub replies : Replies asked bundle (reply_of written)
 
@@ -41,7 +41,7 @@ abbrev pub Comes : Command → List ℕ → Verdict → Type 0
 Comes asked bytes TooLong = most_bytes < length bytes
 Comes asked bytes (Unspelled byte) = (length bytes ≤ most_bytes) × SpellsNone bytes
 Comes asked bytes (Refused why) = Refuses asked bytes why
-Comes asked bytes (Replied reply) = Answers asked bytes reply
+Comes asked bytes (Replied reply) = MayReply asked bytes reply
 
 abbrev pub status_of_end : End → Status
 status_of_end end.Done = status.Done

@@ -8,7 +8,7 @@ ghost use Rattle.dioc_terms.specs.Supported.{IsSupported};
 ghost use Rattle.net_core.specs.Refusals.{IsAccepted};
 ghost use Rattle.aioc_top.specs.Faults.{IsJudgedSo, IsRefusalFault, IsSyntaxFault, IsRefusedSo};
 ghost use Rattle.aioc_top.specs.Replies.{Replies, reply_of};
-ghost use Rattle.aioc_top.specs.Verdicts.{Comes, Replied, Answered};
+ghost use Rattle.aioc_top.specs.Verdicts.{Comes, Replied, IsReplied};
 ghost use Rattle.aioc_top.specs.Words.{is_built};
 
 use crate::commands::step::step;
@@ -49,7 +49,7 @@ fn reply_to(alloc: Global, command: &Command, bundle: &Bundle) -> Result<Written
     requires built { is_built command.now ≡ true }
     requires formed { IsFormed (plain bundle.now) }
     requires supported { IsSupported (plain bundle.now) }
-    ensures reply { IfOk result (Answered command.now (plain bundle.now)) }
+    ensures reply { IfOk result (IsReplied command.now (plain bundle.now)) }
     ensures fault { IfErr result (IsRefusedSo command.now (plain bundle.now)) }
 {
     match accept(bundle) {

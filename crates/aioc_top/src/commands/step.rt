@@ -9,7 +9,7 @@ ghost use Rattle.net_core.specs.Refusals.{IsAccepted};
 ghost use Rattle.net_core.specs.Runs.{Finishes};
 ghost use Rattle.trace_text.specs.Lines.{text};
 ghost use Rattle.aioc_top.specs.Replies.{reply_of, run_reply, step_history};
-ghost use Rattle.aioc_top.specs.Steps.{end_of, last_for, printed};
+ghost use Rattle.aioc_top.specs.Endings.{end_of, last_for, printed};
 
 use crate::replies::{End, Written};
 use command_words::Options;

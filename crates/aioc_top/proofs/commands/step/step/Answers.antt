@@ -3,7 +3,7 @@ use Rattle.std.proofs.Common.{◌≡◌, length, arith}
 use Rattle.std.proofs.lemmas.Grind.{common_steps}
 use Rattle.dioc_terms.specs.Plain.{plain}
 use Rattle.trace_text.specs.Lines.{text}
-use Rattle.aioc_top.specs.Steps.{last_for, printed}
+use Rattle.aioc_top.specs.Endings.{last_for, printed}
 use Rattle.aioc_top.proofs.Printing.{replied}
 use Rattle.aioc_top.proofs.commands.step.step.Goals as goal
 
