@@ -1,1 +1,9 @@
-
+pub mod Calls
+pub mod Endings
+pub mod Faults
+pub mod Messages
+pub mod Replies
+pub mod Serve
+pub mod Status
+pub mod Verdicts
+pub mod Words
