@@ -35,10 +35,10 @@ impl MemSource {
 }
 
 impl Source for MemSource {
-    ghost use Rattle.aioc_io.specs.Memory.{source_plan, bytes_to_read};
+    ghost use Rattle.aioc_io.specs.Memory.{source_plan, source_state, bytes_to_read};
     ghost use Rattle.aioc_io.specs.Plan.{FailsNext, OneCall};
 
-    ghost state = { λ source. record { left = Some (bytes_to_read source); faults = source.plan.faults } };
+    ghost state = { source_state };
 
     fn read(&mut self, into: &mut [u8]) -> Result<usize, Failed>
         ensures planned { IsErr result ↔ FailsNext (source_plan self.old) }
@@ -97,10 +97,10 @@ impl MemSink {
 }
 
 impl Sink for MemSink {
-    ghost use Rattle.aioc_io.specs.Memory.{sink_plan, bytes_taken};
+    ghost use Rattle.aioc_io.specs.Memory.{sink_plan, sink_state, bytes_taken};
     ghost use Rattle.aioc_io.specs.Plan.{FailsNext, OneCall};
 
-    ghost state = { λ sink. record { taken = Some (bytes_taken sink); faults = sink.plan.faults } };
+    ghost state = { sink_state };
 
     fn write(&mut self, piece: &[u8]) -> Result<usize, Failed>
         requires { 0 < length piece.now }

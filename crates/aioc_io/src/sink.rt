@@ -18,7 +18,8 @@ pub trait Sink {
         requires { 0 < length piece.now }
         ensures some { IfOk result (λ count. 0 < count) }
         ensures within { WritesAtMost result piece.now }
-        ensures bytes { WriteAppends (state self.old).taken (state self.new).taken result piece.now }
+        ensures bytes { WriteAppends (state self.old).taken (state self.new).taken result
+            piece.now }
         ensures never_falls { (state self.old).faults ≤ (state self.new).faults }
         ensures rose { OnErr result (Rose (state self.old).faults (state self.new).faults) };
 }
@@ -26,7 +27,8 @@ pub trait Sink {
 /// Writes all the bytes, in as many calls as the sink needs. It stops at the first call that fails,
 /// and takes no memory.
 pub fn write_all<O: Sink>(out: &mut O, bytes: &[u8]) -> Result<(), Failed>
-    ensures whole { OnOk result (Appends (O.state out.old).taken (O.state out.new).taken bytes.now) }
+    ensures whole { OnOk result (Appends (O.state out.old).taken (O.state out.new).taken
+        bytes.now) }
     ensures part { OnErr result (TakesPart (O.state out.old).taken (O.state out.new).taken
         bytes.now) }
     ensures rose { OnErr result (Rose (O.state out.old).faults (O.state out.new).faults) }

@@ -78,13 +78,15 @@ pub fn read_all<S: Source>(
     source: &mut S,
     limit: usize,
 ) -> Result<Vec<u8>, ReadAllFault>
-    ensures bytes { IfOk result (λ all. IfSome (S.state source.old).left (λ told. all.items ≡ told)) }
+    ensures bytes { IfOk result
+        (λ all. IfSome (S.state source.old).left (λ told. all.items ≡ told)) }
     ensures end { OnOk result (IsAtEnd (S.state source.new).left) }
     ensures within { IfOk result (λ all. vec_len all ≤ limit) }
 
     // Too long is what gave `limit + 1` bytes, and nothing else.
     ensures too_long { IsErrOf result ReadAllFault.TooLong → IfSome (S.state source.old).left
-        (λ told. (limit < length told) × ((S.state source.new).left ≡ Some (drop (limit + 1) told))) }
+        (λ told. (limit < length told)
+        × ((S.state source.new).left ≡ Some (drop (limit + 1) told))) }
     ensures given { IsErrOf result ReadAllFault.TooLong
         ⊎ GivesAtMost limit (S.state source.old).left (S.state source.new).left }
 

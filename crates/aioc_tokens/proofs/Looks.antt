@@ -8,7 +8,7 @@ use Rattle.std.proofs.lemmas.Bool.Decides.{nat_tests}
 use Rattle.aioc_tokens.specs.declared.kinds.Kind.{Kind}
 use Rattle.aioc_tokens.specs.declared.kinds.Kind.TheVariants as kinds
 use Rattle.aioc_tokens.specs.declared.kinds.Token.{Token}
-use Rattle.aioc_tokens.specs.declared.kinds.TheConstants.{NAME_LIMIT, TEXT_LIMIT}
+use Rattle.limits.specs.Limits.{most_name_bytes, most_text_bytes}
 use Rattle.aioc_tokens.specs.declared.words.Punctuator.{Punctuator}
 use Rattle.aioc_tokens.specs.declared.words.Word.{Word}
 use Rattle.aioc_tokens.specs.declared.words.Sort.{Sort}
@@ -49,12 +49,12 @@ sort_of_first Long others = refl
 sort_of_first _ others = refl
 
 -- what a token's lexeme is like
-name_formed : (bytes : List ℕ) (reserved : Option Word) (short : Bool) → Spells kinds.Name bytes → word_of bytes ≡ reserved → nat_le (length bytes) NAME_LIMIT ≡ short → lexeme kinds.Name bytes ≢ Long → HasSpelling (lexeme kinds.Name bytes)
+name_formed : (bytes : List ℕ) (reserved : Option Word) (short : Bool) → Spells kinds.Name bytes → word_of bytes ≡ reserved → nat_le (length bytes) most_name_bytes ≡ short → lexeme kinds.Name bytes ≢ Long → HasSpelling (lexeme kinds.Name bytes)
 name_formed bytes (Some word) short spells is fits taken = rw is tt
 name_formed bytes None true spells is fits taken = rw (is, fits) (spells, grind (arith, nat_tests), is)
 name_formed bytes None false spells is fits taken = absurd (taken (rw (is, fits) refl))
 
-text_formed : (bytes : List ℕ) (short : Bool) → Spells kinds.Text bytes → nat_le (length (value_of bytes)) TEXT_LIMIT ≡ short → lexeme kinds.Text bytes ≢ Long → HasSpelling (lexeme kinds.Text bytes)
+text_formed : (bytes : List ℕ) (short : Bool) → Spells kinds.Text bytes → nat_le (length (value_of bytes)) most_text_bytes ≡ short → lexeme kinds.Text bytes ≢ Long → HasSpelling (lexeme kinds.Text bytes)
 text_formed bytes true spells fits taken = rw fits ((text_quoted bytes spells).printable, grind (arith, nat_tests))
 text_formed bytes false spells fits taken = absurd (taken (rw fits refl))
 
@@ -64,9 +64,9 @@ symbol_formed bytes None is taken = absurd (taken (rw is refl))
 
 -- A token's lexeme can be written, unless it is too long.
 pub lexeme_formed : (kind : Kind) (bytes : List ℕ) → Spells kind bytes → lexeme kind bytes ≢ Long → HasSpelling (lexeme kind bytes)
-lexeme_formed kinds.Name bytes spells taken = name_formed bytes (word_of bytes) (nat_le (length bytes) NAME_LIMIT) spells refl refl taken
+lexeme_formed kinds.Name bytes spells taken = name_formed bytes (word_of bytes) (nat_le (length bytes) most_name_bytes) spells refl refl taken
 lexeme_formed kinds.Number bytes spells taken = spells
-lexeme_formed kinds.Text bytes spells taken = text_formed bytes (nat_le (length (value_of bytes)) TEXT_LIMIT) spells refl taken
+lexeme_formed kinds.Text bytes spells taken = text_formed bytes (nat_le (length (value_of bytes)) most_text_bytes) spells refl taken
 lexeme_formed kinds.Symbol bytes spells taken = symbol_formed bytes (punctuator_of bytes) refl taken
 
 -- what the sort of the first lexeme says of the list
@@ -108,14 +108,14 @@ symbol_first (_ ∷ others) punctuator sort = absurd cc
 
 -- a lexeme that is a name, a number or a text comes from such bytes alone
 lexeme_name : (kind : Kind) (bytes name : List ℕ) → lexeme kind bytes ≡ Name name → name ≡ bytes
-lexeme_name kinds.Name bytes name is = go (word_of bytes) (nat_le (length bytes) NAME_LIMIT) is
+lexeme_name kinds.Name bytes name is = go (word_of bytes) (nat_le (length bytes) most_name_bytes) is
   where
     go : (reserved : Option Word) (short : Bool) → option_map_or Reserved reserved (cond short (Name bytes) Long) ≡ Name name → name ≡ bytes
     go (Some word) short same = absurd cc
     go None true same = cc
     go None false same = absurd cc
 lexeme_name kinds.Number bytes name is = absurd cc
-lexeme_name kinds.Text bytes name is = go (nat_le (length (value_of bytes)) TEXT_LIMIT) is
+lexeme_name kinds.Text bytes name is = go (nat_le (length (value_of bytes)) most_text_bytes) is
   where
     go : (short : Bool) → cond short (Text (value_of bytes)) Long ≡ Name name → name ≡ bytes
     go true same = absurd cc
@@ -128,13 +128,13 @@ lexeme_name kinds.Symbol bytes name is = go (punctuator_of bytes) is
 
 lexeme_number : (kind : Kind) (bytes digits : List ℕ) → lexeme kind bytes ≡ Number digits → digits ≡ bytes
 lexeme_number kinds.Number bytes digits is = cc
-lexeme_number kinds.Name bytes digits is = go (word_of bytes) (nat_le (length bytes) NAME_LIMIT) is
+lexeme_number kinds.Name bytes digits is = go (word_of bytes) (nat_le (length bytes) most_name_bytes) is
   where
     go : (reserved : Option Word) (short : Bool) → option_map_or Reserved reserved (cond short (Name bytes) Long) ≡ Number digits → digits ≡ bytes
     go (Some word) short same = absurd cc
     go None true same = absurd cc
     go None false same = absurd cc
-lexeme_number kinds.Text bytes digits is = go (nat_le (length (value_of bytes)) TEXT_LIMIT) is
+lexeme_number kinds.Text bytes digits is = go (nat_le (length (value_of bytes)) most_text_bytes) is
   where
     go : (short : Bool) → cond short (Text (value_of bytes)) Long ≡ Number digits → digits ≡ bytes
     go true same = absurd cc
@@ -146,12 +146,12 @@ lexeme_number kinds.Symbol bytes digits is = go (punctuator_of bytes) is
     go None same = absurd cc
 
 lexeme_text : (kind : Kind) (bytes value : List ℕ) → lexeme kind bytes ≡ Text value → (kind ≡ kinds.Text) × (value ≡ value_of bytes)
-lexeme_text kinds.Text bytes value is = (refl, go (nat_le (length (value_of bytes)) TEXT_LIMIT) is)
+lexeme_text kinds.Text bytes value is = (refl, go (nat_le (length (value_of bytes)) most_text_bytes) is)
   where
     go : (short : Bool) → cond short (Text (value_of bytes)) Long ≡ Text value → value ≡ value_of bytes
     go true same = cc
     go false same = absurd cc
-lexeme_text kinds.Name bytes value is = absurd (go (word_of bytes) (nat_le (length bytes) NAME_LIMIT) is)
+lexeme_text kinds.Name bytes value is = absurd (go (word_of bytes) (nat_le (length bytes) most_name_bytes) is)
   where
     go : (reserved : Option Word) (short : Bool) → option_map_or Reserved reserved (cond short (Name bytes) Long) ≡ Text value → ⊥
     go (Some word) short same = cc

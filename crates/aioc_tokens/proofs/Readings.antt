@@ -2,7 +2,7 @@
 use Rattle.std.proofs.Common.{◌≡◌, ◌≢◌, ◌↔◌, ℕ, ◌≤◌, List, [], ◌∷◌, length, get_or, Some, None, ap, sym, ◌∙◌, arith, All}
 use Rattle.std.proofs.lemmas.List.Elements.{All-map, All-same}
 use Rattle.aioc_tokens.specs.declared.kinds.Token.{Token}
-use Rattle.aioc_tokens.specs.declared.kinds.TheConstants.{NAME_LIMIT}
+use Rattle.limits.specs.Limits.{most_name_bytes}
 use Rattle.aioc_tokens.specs.declared.words.Word.{Word}
 use Rattle.aioc_tokens.specs.declared.words.Punctuator.{Punctuator}
 use Rattle.aioc_tokens.specs.Words.{word_spelling, word_of, punctuator_spelling, punctuator_of}
@@ -31,10 +31,10 @@ pub punctuator_spelled : (bytes : List ℕ) (punctuator : Punctuator) → (punct
 punctuator_spelled bytes punctuator = (punctuator_of_spelled bytes punctuator, λ same. ap punctuator_of same ∙ punctuator_found punctuator)
 
 -- the text of a name that isn't reserved is read as the name
-pub name_lexemes : (bytes : List ℕ) → IsNameSpelling bytes → length bytes ≤ NAME_LIMIT → word_of bytes ≡ None → HasLexemes bytes (Name bytes ∷ [])
+pub name_lexemes : (bytes : List ℕ) → IsNameSpelling bytes → length bytes ≤ most_name_bytes → word_of bytes ≡ None → HasLexemes bytes (Name bytes ∷ [])
 name_lexemes bytes spells short free = spelled_lexemes (Name bytes ∷ []) ((spells, short, free), tt)
 
-pub name_read_exactly : (bytes : List ℕ) → IsNameSpelling bytes → length bytes ≤ NAME_LIMIT → HasLexemes bytes (Name bytes ∷ []) ↔ (word_of bytes ≡ None)
+pub name_read_exactly : (bytes : List ℕ) → IsNameSpelling bytes → length bytes ≤ most_name_bytes → HasLexemes bytes (Name bytes ∷ []) ↔ (word_of bytes ≡ None)
 name_read_exactly bytes spells short = (
   λ has. (read_spelling bytes (Name bytes ∷ []) has 0 Long (omega arith) (λ long. cc)).2,
   name_lexemes bytes spells short,

@@ -6,7 +6,7 @@ use Rattle.std.proofs.lemmas.Bool.Decides.{nat_tests}
 use Rattle.aioc_tokens.specs.declared.kinds.Kind.{Kind}
 use Rattle.aioc_tokens.specs.declared.kinds.Kind.TheVariants as kinds
 use Rattle.aioc_tokens.specs.declared.kinds.Token.{Token}
-use Rattle.aioc_tokens.specs.declared.kinds.TheConstants.{NAME_LIMIT, TEXT_LIMIT}
+use Rattle.limits.specs.Limits.{most_name_bytes, most_text_bytes}
 use Rattle.aioc_tokens.specs.declared.words.Word.{Word}
 use Rattle.aioc_tokens.specs.declared.words.Word.TheVariants.{Aioc, Skip}
 use Rattle.aioc_tokens.specs.declared.words.Punctuator.{Punctuator}
@@ -133,10 +133,10 @@ fits count most within = grind (arith, nat_tests)
 
 -- and its lexeme is that which was written
 pub lexeme_spelled : (first : Lexeme) → HasSpelling first → lexeme (kind_of first) (spelling first) ≡ first
-lexeme_spelled (Name bytes) formed = rw (formed.2, fits (length bytes) NAME_LIMIT formed.1) refl
+lexeme_spelled (Name bytes) formed = rw (formed.2, fits (length bytes) most_name_bytes formed.1) refl
 lexeme_spelled Long formed = absurd formed
 lexeme_spelled (Number digits) formed = refl
-lexeme_spelled (Text value) formed = rw (value_of-quoted value, fits (length value) TEXT_LIMIT formed.1) refl
+lexeme_spelled (Text value) formed = rw (value_of-quoted value, fits (length value) most_text_bytes formed.1) refl
 lexeme_spelled (Reserved word) formed = rw (word_found word) refl
 lexeme_spelled (Symbol punctuator) formed = rw (punctuator_found punctuator) refl
 

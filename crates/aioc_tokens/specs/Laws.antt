@@ -2,7 +2,7 @@
 use Rattle.std.specs.Prelude.{◌≡◌, ◌≢◌, ◌↔◌, ◌⊎◌, ℕ, ◌≤◌, List, [], ◌∷◌, length, Some, None}
 use Rattle.std.specs.List.{All, AllByRecursion}
 use Rattle.aioc_tokens.specs.declared.kinds.Token.{Token}
-use Rattle.aioc_tokens.specs.declared.kinds.TheConstants.{NAME_LIMIT}
+use Rattle.limits.specs.Limits.{most_name_bytes}
 use Rattle.aioc_tokens.specs.declared.words.Word.{Word}
 use Rattle.aioc_tokens.specs.declared.words.Punctuator.{Punctuator}
 use Rattle.aioc_tokens.specs.Words.{word_spelling, word_of, punctuator_spelling, punctuator_of}
@@ -74,5 +74,5 @@ PunctuatorsAreSpelled =
 -- the text of a name is read as that name exactly where it isn't a reserved word
 abbrev pub NamesAreRead : Type 0
 NamesAreRead =
-    (bytes : List ℕ) → IsNameSpelling bytes → length bytes ≤ NAME_LIMIT
+    (bytes : List ℕ) → IsNameSpelling bytes → length bytes ≤ most_name_bytes
     → HasLexemes bytes (Name bytes ∷ []) ↔ (word_of bytes ≡ None)

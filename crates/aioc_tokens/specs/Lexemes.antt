@@ -6,7 +6,7 @@ use Rattle.std.specs.Option.{option_map_or}
 use Rattle.aioc_tokens.specs.declared.kinds.Kind.{Kind}
 use Rattle.aioc_tokens.specs.declared.kinds.Kind.TheVariants as kinds
 use Rattle.aioc_tokens.specs.declared.kinds.Token.{Token}
-use Rattle.aioc_tokens.specs.declared.kinds.TheConstants.{NAME_LIMIT, TEXT_LIMIT}
+use Rattle.limits.specs.Limits.{most_name_bytes, most_text_bytes}
 use Rattle.aioc_tokens.specs.declared.words.Word.{Word}
 use Rattle.aioc_tokens.specs.declared.words.Punctuator.{Punctuator}
 use Rattle.aioc_tokens.specs.declared.words.Sort.{Sort}
@@ -44,11 +44,11 @@ value_of bytes = unescaped false (slice_range bytes 1 (length bytes - 1))
 -- the lexeme of a token's bytes (those of a symbol stand in the table)
 abbrev pub lexeme : Kind → List ℕ → Lexeme
 lexeme kinds.Name bytes =
-    option_map_or Reserved (word_of bytes) (if nat_le (length bytes) NAME_LIMIT then Name bytes else
-    Long)
+    option_map_or Reserved (word_of bytes)
+    (if nat_le (length bytes) most_name_bytes then Name bytes else Long)
 lexeme kinds.Number bytes = Number bytes
 lexeme kinds.Text bytes =
-    if nat_le (length (value_of bytes)) TEXT_LIMIT then Text (value_of bytes) else Long
+    if nat_le (length (value_of bytes)) most_text_bytes then Text (value_of bytes) else Long
 lexeme kinds.Symbol bytes = option_map_or Symbol (punctuator_of bytes) Long
 
 -- the lexemes of a text with these tokens
@@ -64,10 +64,10 @@ pub record HasLexemes (text : List ℕ) (found : List Lexeme) : Type 0 where
 -- a lexeme that can be written, and is then read again
 abbrev pub HasSpelling : Lexeme → Type 0
 HasSpelling (Name bytes) =
-    IsNameSpelling bytes × (length bytes ≤ NAME_LIMIT) × (word_of bytes ≡ None)
+    IsNameSpelling bytes × (length bytes ≤ most_name_bytes) × (word_of bytes ≡ None)
 HasSpelling Long = ⊥
 HasSpelling (Number digits) = (0 < length digits) × IsTrue (list_all is_ascii_digit digits)
-HasSpelling (Text value) = IsTrue (list_all is_printable value) × (length value ≤ TEXT_LIMIT)
+HasSpelling (Text value) = IsTrue (list_all is_printable value) × (length value ≤ most_text_bytes)
 HasSpelling (Reserved word) = Unit {0}
 HasSpelling (Symbol punctuator) = Unit {0}
 

@@ -32,9 +32,3 @@ pub enum TokenFault {
     #[error("out of memory")]
     Memory,
 }
-
-/// The most bytes of a name in the grammar.
-pub const NAME_LIMIT: usize = 64;
-
-/// The most bytes of a text's value in the grammar.
-pub const TEXT_LIMIT: usize = 1024;

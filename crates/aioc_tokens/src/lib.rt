@@ -12,7 +12,7 @@ mod scan;
 mod view;
 mod words;
 
-pub use kinds::{Kind, NAME_LIMIT, TEXT_LIMIT, Token, TokenFault};
+pub use kinds::{Kind, Token, TokenFault};
 pub use scan::tokens;
 pub use view::{Lexed, place};
 pub use words::{Punctuator, Sort, Word, find_punctuator, find_word};

@@ -4,9 +4,11 @@ ghost use Rattle.aioc_tokens.specs.declared.kinds.Kind.{Kind};
 ghost use Rattle.aioc_tokens.specs.Tokens.{Spells};
 ghost use Rattle.aioc_tokens.specs.Lexing.{Lexes, IsTokenOf, bytes_of, place_of};
 ghost use Rattle.aioc_tokens.specs.Lexemes.{lexeme, lexemes, sort_of, value_of, unescaped, Begins, HasSpelling};
+ghost use Rattle.limits.specs.Limits.{most_text_bytes};
 
-use crate::kinds::{Kind, NAME_LIMIT, TEXT_LIMIT, Token};
+use crate::kinds::{Kind, Token};
 use crate::words::{Sort, find_punctuator, find_word};
+use limits::{MOST_NAME_BYTES, MOST_TEXT_BYTES};
 use std::alloc::{AllocError, Global};
 use std::marker::Model;
 
@@ -28,13 +30,13 @@ fn value_length(bytes: &[u8]) -> usize
     length
 }
 
-/// Whether the value of a text in quotes has at most 1,024 bytes.
+/// Whether the value of a text in quotes is within the limit.
 fn is_short(bytes: &[u8]) -> bool
     requires { Spells Kind.Text bytes.now }
-    ensures { IsTrue result ↔ (length (value_of bytes.now) ≤ TEXT_LIMIT) }
+    ensures { IsTrue result ↔ (length (value_of bytes.now) ≤ most_text_bytes) }
 {
     // A byte of the value takes at most two, so a longer text needn't be read.
-    bytes.len() <= 2 * TEXT_LIMIT + 2 && value_length(bytes) <= TEXT_LIMIT
+    bytes.len() <= 2 * MOST_TEXT_BYTES + 2 && value_length(bytes) <= MOST_TEXT_BYTES
 }
 
 /// The bytes of a token.
@@ -71,7 +73,7 @@ fn sort_of(kind: Kind, bytes: &[u8]) -> Sort
     match kind {
         Kind::Name => match find_word(bytes) {
             Some(word) => Sort::Reserved(word),
-            None if bytes.len() <= NAME_LIMIT => Sort::Name,
+            None if bytes.len() <= MOST_NAME_BYTES => Sort::Name,
             None => Sort::Long,
         },
         Kind::Number => Sort::Number,
@@ -186,7 +188,8 @@ impl<'a> Lexed<'a> {
     /// Whether the lexeme at this place is this name, as a word that has a meaning only in its
     /// place.
     pub fn named(&self, at: usize, word: &[u8]) -> bool
-        ensures { IsTrue result ↔ (drop at self.now ≡ Lexeme.Name word.now ∷ drop (at + 1) self.now) }
+        ensures { IsTrue result
+            ↔ (drop at self.now ≡ Lexeme.Name word.now ∷ drop (at + 1) self.now) }
     {
         self.has(at, Sort::Name) && self.name(at) == word
     }

@@ -1,6 +1,6 @@
 -- A command and the bytes of a text have verdicts of one kind alone.
 use Rattle.std.proofs.Common.{◌≡◌, ◌<◌, ◌≤◌, ℕ, List, length, true, false, true≢false, Option, Some, None, refl, sym, ap, ◌∙◌, subst, arith}
-use Rattle.dioc_terms.specs.Limits.{most_bytes}
+use Rattle.limits.specs.Limits.{most_bytes}
 use Rattle.dioc_terms.specs.Plain.{PlainBundle}
 use Rattle.dioc_syntax.specs.Grammar.{OneBundle, Spells}
 use Rattle.marked_laws.proofs.Shapes.{none_some}

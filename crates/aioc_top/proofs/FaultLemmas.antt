@@ -4,7 +4,7 @@ use Rattle.std.specs.Prelude.{replicate}
 use Rattle.std.proofs.lemmas.List.{length-replicate}
 use Rattle.std.specs.Io.KnownBytes.{IsAtEnd}
 use Rattle.aioc_io.specs.Source.{SourceState}
-use Rattle.dioc_terms.specs.Limits.{most_bytes}
+use Rattle.limits.specs.Limits.{most_bytes}
 use Rattle.dioc_terms.specs.Plain.{PlainBundle}
 use Rattle.dioc_syntax.specs.Grammar.{Spells, SpellsNone}
 use Rattle.command_words.specs.declared.commands.Command.{Command}

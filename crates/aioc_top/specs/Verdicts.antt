@@ -1,6 +1,6 @@
 -- What comes of a command and the bytes that were read.
 use Rattle.std.specs.Prelude.{◌≡◌, ◌<◌, ◌≤◌, ℕ, List, length, Option, Some, None}
-use Rattle.dioc_terms.specs.Limits.{most_bytes}
+use Rattle.limits.specs.Limits.{most_bytes}
 use Rattle.dioc_terms.specs.Plain.{PlainBundle}
 use Rattle.dioc_syntax.specs.Grammar.{Spells, SpellsNone}
 use Rattle.net_core.specs.declared.refusals.Refusal.{Refusal}

@@ -2,7 +2,7 @@
 
 ghost use Rattle.std.specs.Prelude.{◌≡◌, ◌≤◌, length, true, IfErr, IfOk};
 ghost use Rattle.dioc_terms.specs.Bundles.{IsFormed};
-ghost use Rattle.dioc_terms.specs.Limits.{most_bytes};
+ghost use Rattle.limits.specs.Limits.{most_bytes};
 ghost use Rattle.dioc_terms.specs.Plain.{plain};
 ghost use Rattle.dioc_terms.specs.Supported.{IsSupported};
 ghost use Rattle.net_core.specs.Refusals.{IsAccepted};

@@ -11,7 +11,7 @@ use crate::judging::judge;
 use crate::replies::Written;
 use aioc_io::{ReadAllFault, Source, read_all};
 use command_words::Command;
-use dioc_terms::MOST_BYTES;
+use limits::MOST_BYTES;
 use std::alloc::Global;
 
 /// What the command replies to all the bytes of the source, or why it doesn't.

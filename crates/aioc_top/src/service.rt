@@ -51,7 +51,8 @@ pub fn serve_alone<S: Source, O: Sink, E: Sink>(
 
     // When each status comes.
     ensures usage { UsageComes result (asked (spelled words.now)) }
-    ensures done { ComesExactly Status.Done result (asked (spelled words.now)) (S.state source.old) }
+    ensures done { ComesExactly Status.Done result (asked (spelled words.now))
+        (S.state source.old) }
     ensures limit { ComesExactly Status.Limit result (asked (spelled words.now))
         (S.state source.old) }
     ensures no { ComesExactly Status.No result (asked (spelled words.now)) (S.state source.old) }

@@ -6,6 +6,3 @@ mod plans;
 
 pub use entries::is_aux;
 pub use plans::leader_plan;
-
-#[cfg(test)]
-mod tests;

@@ -13,6 +13,3 @@ mod values;
 
 pub use commands::{Command, Options, Verb};
 pub use reading::read_words;
-
-#[cfg(test)]
-mod tests;

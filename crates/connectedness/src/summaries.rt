@@ -161,8 +161,8 @@ fn act(
 
 /// How each role takes part in a message, or in a step of one role.
 fn act_roles(alloc: Global, cast: &[Role], from: &Role, to: &Role) -> Result<Vec<Presence>, Memory>
-    ensures { IfOk result
-        (λ roles. roles.items ≡ map (λ q. in_act (role_eq q from.now) (role_eq q to.now)) cast.now) }
+    ensures { IfOk result (λ roles.
+        roles.items ≡ map (λ q. in_act (role_eq q from.now) (role_eq q to.now)) cast.now) }
 {
     let roles = cast
         .iter()
@@ -186,7 +186,8 @@ fn in_act(sends: bool, receives: bool) -> Presence
 /// What is known of two parts one after the other.
 fn sequence(alloc: Global, first: &Summary, second: &Summary) -> Result<Summary, Memory>
     ensures { IfOk result (λ summary. (cast : List Role) (I J : Term) →
-        IsSummary cast I first.now → IsSummary cast J second.now → IsSummary cast (Seq I J) summary) }
+        IsSummary cast I first.now → IsSummary cast J second.now →
+        IsSummary cast (Seq I J) summary) }
 {
     let gap = gap_between(first, second);
     let roles = sequence_roles(alloc, first, second)?;

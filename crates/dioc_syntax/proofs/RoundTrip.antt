@@ -14,7 +14,7 @@ use Rattle.dioc_terms.specs.declared.names.Index.{Index}
 use Rattle.dioc_terms.specs.declared.values.Value.{Value}
 use Rattle.dioc_terms.specs.declared.values.Value.TheVariants as value
 use Rattle.dioc_terms.specs.Expressions.{Expression, Const, Var, expression_depth}
-use Rattle.dioc_terms.specs.Limits.{most_brackets}
+use Rattle.limits.specs.Limits.{most_brackets}
 use Rattle.dioc_terms.specs.Terms.{Term, Skip, Com, Set, Input, Seq, Par, If, While, Scope, constructs, depth, indexed_from}
 use Rattle.dioc_terms.specs.Names as names
 use Rattle.dioc_terms.specs.Bundles.{is_identifier, is_constant, is_formed_step, is_step_expression, is_formed_role, is_formed_binding, has_formed_parts, names_no_roles, IsFormedTerm}

@@ -3,7 +3,7 @@ use Rattle.std.specs.Prelude.{◌≡◌, ◌≤◌, ℕ, List, [], ◌∷◌, le
 use Rattle.dioc_terms.specs.declared.values.Value.{Value}
 use Rattle.dioc_terms.specs.Bundles.{IsFormed}
 use Rattle.dioc_terms.specs.Expressions.{Const}
-use Rattle.dioc_terms.specs.Limits.{most_bytes}
+use Rattle.limits.specs.Limits.{most_bytes}
 use Rattle.dioc_terms.specs.Plain.{PlainBundle}
 use Rattle.dioc_terms.specs.Terms.{Term, Com, cast_of, index_at}
 use Rattle.aioc_tokens.specs.declared.words.Word.TheVariants.{Aioc}
@@ -12,9 +12,11 @@ use Rattle.aioc_tokens.specs.Lexemes.{Lexeme, Name, Reserved, Symbol, HasLexemes
 use Rattle.expr_syntax.specs.Constants.{constant}
 use Rattle.dioc_syntax.specs.Choreographies.{role}
 
--- From one list of lexemes up to a rest of it stands an interaction, with so many indexed constructs before it:
+-- From one list of lexemes up to a rest of it stands an interaction, with so many indexed
+-- constructs before it:
 --   step = name ":" name "(" value ")" "->" name "(" name ")"
-pub record IsInteraction (before : ℕ) (from : List Lexeme) (stands : Term) (to : List Lexeme) : Type 0 where
+pub record IsInteraction (before : ℕ) (from : List Lexeme) (stands : Term) (to : List Lexeme) :
+    Type 0 where
   pub operation : List ℕ
   pub sender : List ℕ
   pub receiver : List ℕ
@@ -24,8 +26,10 @@ pub record IsInteraction (before : ℕ) (from : List Lexeme) (stands : Term) (to
   pub received : List Lexeme
   pub begins : from ≡ Name operation ∷ Symbol Colon ∷ Name sender ∷ Symbol LeftParen ∷ sent
   pub sends : constant sent ≡ Some (value, received)
-  pub ends : received ≡ Symbol RightParen ∷ Symbol Arrow ∷ Name receiver ∷ Symbol LeftParen ∷ Name variable ∷ Symbol RightParen ∷ to
-  pub is_com : stands ≡ Com (index_at before) operation (role sender) (Const value) (role receiver) variable
+  pub ends : received ≡ Symbol RightParen ∷ Symbol Arrow ∷ Name receiver ∷ Symbol LeftParen
+      ∷ Name variable ∷ Symbol RightParen ∷ to
+  pub is_com : stands ≡
+      Com (index_at before) operation (role sender) (Const value) (role receiver) variable
 
 -- The lexemes are those of a bundle:
 --   bundle = "aioc" "{" step "}"
@@ -58,7 +62,8 @@ SpellsNone bytes = (b : PlainBundle) → Spells bytes b → ⊥
 
 -- a text spells at most one bundle
 abbrev pub OneBundle : Type 0
-OneBundle = (bytes : List ℕ) (b other : PlainBundle) → Spells bytes b → Spells bytes other → b ≡ other
+OneBundle =
+    (bytes : List ℕ) (b other : PlainBundle) → Spells bytes b → Spells bytes other → b ≡ other
 
 -- what a text spells is formed
 abbrev pub SpelledAreFormed : Type 0

@@ -1,6 +1,6 @@
 -- What holds of every text of a choreography.
 use Rattle.std.specs.Prelude.{◌≡◌, ℕ, ◌≤◌, ◌⊎◌, Bool, true, false, List, [], drop}
-use Rattle.dioc_terms.specs.Limits.{most_brackets}
+use Rattle.limits.specs.Limits.{most_brackets}
 use Rattle.dioc_terms.specs.Terms.{Term, indexed}
 use Rattle.dioc_terms.specs.Bundles.{has_formed_parts, names_no_roles, IsFormedTerm}
 use Rattle.aioc_tokens.specs.declared.words.Punctuator.TheVariants as punctuator

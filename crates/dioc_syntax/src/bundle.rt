@@ -10,14 +10,13 @@ ghost use Rattle.dioc_syntax.specs.Grammar.{IsBundle, Spells, SpellsNone};
 
 use crate::names::{name_at, role_at};
 use aioc_tokens::{Lexed, Punctuator, Sort, TokenFault, Word, place, tokens};
-use dioc_terms::{
-    Bundle, Choreo, Expr, Index, Items, MOST_BYTES, Memory, SyntaxFault, Trace, Value, roles,
-};
+use dioc_terms::{Bundle, Choreo, Expr, Index, Items, Memory, SyntaxFault, Trace, Value, roles};
 use expr_syntax::constant_at;
+use limits::MOST_BYTES;
 use std::alloc::Global;
 
-/// The bundle that the bytes spell. `Syntax` comes exactly where they spell none; its number is a byte near which the
-/// grammar wanted something else.
+/// The bundle that the bytes spell. `Syntax` comes exactly where they spell none; its number is a
+/// byte near which the grammar wanted something else.
 pub fn read_bundle(alloc: Global, bytes: &[u8]) -> Result<Bundle, SyntaxFault>
     ensures found { IfOk result (λ b. Spells bytes.now (plain b)) }
     ensures syntax { IfErr result (λ fault. fault ≢ SyntaxFault.Memory → SpellsNone bytes.now) }
@@ -79,7 +78,8 @@ const TAIL: [Sort; 7] = [
 
 fn bundle_at(alloc: Global, text: &Lexed<'_>) -> Result<Bundle, Stop>
     ensures found { IfOk result (λ b. IsBundle text.now (plain b)) }
-    ensures stopped { IfErr result (λ stop. stop ≢ Stop.Memory → (b : PlainBundle) → IsBundle text.now b → ⊥) }
+    ensures stopped { IfErr result
+        (λ stop. stop ≢ Stop.Memory → (b : PlainBundle) → IsBundle text.now b → ⊥) }
 {
     if !text.begins(0, &HEAD) {
         return Err(Stop::Near(0));
@@ -94,7 +94,8 @@ fn bundle_at(alloc: Global, text: &Lexed<'_>) -> Result<Bundle, Stop>
     interaction(alloc, text, value, at)
 }
 
-// The bundle of the interaction that stands in the text, with what it sends and the place behind that.
+// The bundle of the interaction that stands in the text, with what it sends and the place behind
+// that.
 fn interaction(alloc: Global, text: &Lexed<'_>, value: Value, at: usize) -> Result<Bundle, Stop>
     requires head { Begins HEAD text.now }
     requires sent { constant (drop 6 text.now) ≡ Some (value, drop at text.now) }

@@ -1,7 +1,7 @@
 //! Choreographies at a place of a text.
 
 ghost use Rattle.std.specs.Prelude.{◌≡◌, ℕ, ◌≤◌, drop, length, Err, IfOk};
-ghost use Rattle.dioc_terms.specs.Limits.{most_brackets, greatest_place};
+ghost use Rattle.limits.specs.Limits.{most_brackets, greatest_place};
 ghost use Rattle.dioc_terms.specs.Terms.{term, indexed};
 ghost use Rattle.dioc_terms.specs.declared.faults.SyntaxFault.TheVariants as fault;
 ghost use Rattle.aioc_tokens.specs.Fronts.{NoFront};
@@ -12,7 +12,8 @@ ghost use Rattle.dioc_syntax.specs.Choreographies.{IsChoreography, ReadsAt};
 use crate::places::{Place, Reader};
 use crate::readers::choreo_at;
 use aioc_tokens::{Lexed, Token, place};
-use dioc_terms::{Choreo, MOST_BRACKETS, MOST_DEPTH, SyntaxFault};
+use dioc_terms::{Choreo, SyntaxFault};
+use limits::{MOST_BRACKETS, MOST_DEPTH};
 use std::alloc::Global;
 
 /// Reads the longest choreography of this version of the grammar at a place of a text whose tokens

@@ -5,7 +5,7 @@ ghost use Rattle.aioc_tokens.specs.declared.words.Sort.{Sort};
 ghost use Rattle.aioc_tokens.specs.declared.words.Word.{Word};
 ghost use Rattle.aioc_tokens.specs.declared.words.Punctuator.{Punctuator};
 ghost use Rattle.aioc_tokens.specs.Lexemes.{sort_of};
-ghost use Rattle.dioc_terms.specs.Limits.{greatest_place};
+ghost use Rattle.limits.specs.Limits.{greatest_place};
 ghost use Rattle.dioc_terms.specs.Terms.{term, Skip};
 ghost use Rattle.dioc_syntax.specs.Choreographies.{Choreography, Sequence, Step, Block};
 ghost use Rattle.dioc_syntax.specs.Readers.{one_behind, StandsAt, OtherwiseAt, ScopePartsAt};

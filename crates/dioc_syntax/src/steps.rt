@@ -4,7 +4,7 @@ ghost use Rattle.std.specs.Prelude.{◌≡◌, ◌≢◌, ◌+◌, ◌-◌, ◌<
 ghost use Rattle.aioc_tokens.specs.declared.words.Sort.{Sort};
 ghost use Rattle.aioc_tokens.specs.declared.words.Word.{Word};
 ghost use Rattle.aioc_tokens.specs.Lexemes.{sort_of};
-ghost use Rattle.dioc_terms.specs.Limits.{greatest_place};
+ghost use Rattle.limits.specs.Limits.{greatest_place};
 ghost use Rattle.dioc_syntax.specs.Choreographies.{Step};
 ghost use Rattle.dioc_syntax.specs.Readers.{sent_by, set_by, StandsAt};
 

@@ -12,7 +12,7 @@ ghost use Rattle.dioc_syntax.specs.Pieces.{expression_text, next_role_text, role
 
 use dioc_terms::{Choreo, Expr, Memory, Name, Role, Value};
 use expr_syntax::{write_expr, write_value};
-use text_pieces::write_bytes;
+use text_pieces::{cut_back, write_bytes};
 
 /// Appends the text of a choreography: its tokens with one space between two. The left part of a
 /// sequence is in brackets where it is a sequence or a parallel, its right part where it is a
@@ -26,11 +26,8 @@ pub fn write_choreo(choreo: &Choreo, out: &mut Vec<u8>) -> Result<(), Memory>
     ensures memory { OnErr result (out.new.items ≡ out.old.items) }
 {
     let start = out.len();
-    let result = write_part(choreo, out);
-    if result.is_err() {
-        out.truncate(start);
-    }
-    result
+    let written = write_part(choreo, out);
+    cut_back(written, start, out)
 }
 
 fn write_part(choreo: &Choreo, out: &mut Vec<u8>) -> Result<(), Memory>

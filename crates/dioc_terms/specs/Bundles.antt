@@ -22,7 +22,7 @@ use Rattle.dioc_terms.specs.declared.bundles.Change.TheVariants as change
 use Rattle.dioc_terms.specs.declared.bundles.Timed.{Timed}
 use Rattle.dioc_terms.specs.declared.bundles.Last.{Last}
 use Rattle.dioc_terms.specs.declared.bundles.Last.TheVariants.{Ended, Stopped}
-use Rattle.dioc_terms.specs.Limits.{largest, greatest_place, most_depth, most_expression_depth, most_priority}
+use Rattle.limits.specs.Limits.{largest, greatest_place, most_depth, most_expression_depth, most_priority}
 use Rattle.dioc_terms.specs.Names.{is_name, is_reserved, is_text}
 use Rattle.dioc_terms.specs.Expressions.{Expression, Const, Var, Prop, Env, Not, Neg, Bin, expression_depth}
 use Rattle.dioc_terms.specs.Plain.{PlainRule, PlainBundle}

@@ -7,7 +7,6 @@ pub mod EqualityLemmas
 pub mod Expressions
 pub mod KeptStores
 pub mod Leaves
-pub mod Limits
 pub mod Messages
 pub mod Names
 pub mod Plain

@@ -6,7 +6,7 @@ use Rattle.dioc_terms.specs.declared.processes.ScopeHead.{ScopeHead}
 use Rattle.dioc_terms.specs.declared.bundles.Change.{Change}
 use Rattle.dioc_terms.specs.declared.bundles.Change.TheVariants as change
 use Rattle.dioc_terms.specs.Equality.{name_eq, member}
-use Rattle.dioc_terms.specs.Limits.{top_level}
+use Rattle.limits.specs.Limits.{top_level}
 use Rattle.dioc_terms.specs.Plain.{PlainRule}
 use Rattle.dioc_terms.specs.Stores.{Store}
 use Rattle.dioc_terms.specs.Terms.{mentions}

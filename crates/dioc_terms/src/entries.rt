@@ -93,12 +93,12 @@ impl Chosen {
 
 impl PartialEq for Chosen {
     ghost use Rattle.dioc_terms.specs.Equality.{chosen_eq};
-    ghost use Rattle.dioc_terms.specs.EqualityLemmas.{equivalence_from_Decides, chosen_eq-decides};
+    ghost use Rattle.dioc_terms.specs.EqualityLemmas.{equivalence_from_Decides, chosen_eq-decides as decides};
     ghost use Rattle.std.specs.Cmp.{partial_equiv_from_equiv};
 
     ghost eq = { chosen_eq };
 
-    ghost laws = { partial_equiv_from_equiv (equivalence_from_Decides chosen_eq chosen_eq-decides) };
+    ghost laws = { partial_equiv_from_equiv (equivalence_from_Decides chosen_eq decides) };
 
     fn eq(&self, other: &Chosen) -> bool {
         match (self, other) {

@@ -12,7 +12,6 @@ mod evaluation;
 mod expressions;
 mod faults;
 mod forms;
-mod limits;
 mod lists;
 mod mentions;
 mod names;
@@ -32,11 +31,6 @@ pub use equality::equality_decides;
 pub use evaluation::{conditions_join_nothing, eval, test};
 pub use expressions::{Expr, Oper};
 pub use faults::{Memory, NameFault, SyntaxFault, TextFault};
-pub use limits::{
-    MOST_BODY_DEPTH, MOST_BODY_NODES, MOST_BRACKETS, MOST_BYTES, MOST_CHANGES, MOST_DEPTH,
-    MOST_EXPRESSION_DEPTH, MOST_NAME_BYTES, MOST_NODES, MOST_PRIORITY, MOST_ROLES, MOST_RULES,
-    MOST_TEXT_BYTES,
-};
 pub use lists::{Bindings, Entries, Items, Keys, Roles, Values};
 pub use mentions::roles;
 pub use names::{Index, Name, Role, Text};
@@ -46,6 +40,3 @@ pub use stamps::stamped;
 pub use stores::Store;
 pub use term_laws::{casts_are_roles, mentions_are_roles, stamped_bodies};
 pub use values::Value;
-
-#[cfg(test)]
-mod tests;

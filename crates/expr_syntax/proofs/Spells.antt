@@ -7,8 +7,10 @@ use Rattle.aioc_tokens.specs.declared.words.Word.TheVariants as word
 use Rattle.aioc_tokens.specs.declared.words.Punctuator.TheVariants as punctuator
 use Rattle.aioc_tokens.specs.Lexemes.{Lexeme, Name, Number, Text, Reserved, Symbol}
 use Rattle.aioc_tokens.specs.Spelling.{spelling, spelled}
+use Rattle.text_pieces.specs.declared.values.Minus.TheVariants.{Apart}
+use Rattle.text_pieces.specs.Pieces.{value_text}
 use Rattle.expr_syntax.specs.Writing.{is_compound, operator_lexeme, written_value, opened, closed, written}
-use Rattle.expr_syntax.specs.Pieces.{value_text, opening_text, closing_text, expression_text}
+use Rattle.expr_syntax.specs.Pieces.{opening_text, closing_text, expression_text}
 
 -- what follows, with a space before it
 abbrev pub behind : List Lexeme → List ℕ
@@ -19,7 +21,7 @@ pub spelled_first : (first : Lexeme) (others : List Lexeme) → spelled (first �
 spelled_first first [] = sym (append-nil (spelling first))
 spelled_first first (next ∷ others) = refl
 
-value_spelled : (v : Value) (others : List Lexeme) → spelled (written_value v others) ≡ value_text v ++ behind others
+value_spelled : (v : Value) (others : List Lexeme) → spelled (written_value v others) ≡ value_text Apart v ++ behind others
 value_spelled value.Nil others = spelled_first (Reserved word.Nil) others
 value_spelled (value.Bool true) others = spelled_first (Reserved word.True) others
 value_spelled (value.Bool false) others = spelled_first (Reserved word.False) others

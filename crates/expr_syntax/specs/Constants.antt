@@ -1,6 +1,7 @@
 -- The constants of the grammar.
-use Rattle.std.specs.Prelude.{ℕ, ◌<◌, ◌≤◌, ◌≡◌, List, ◌∷◌, drop, length, true, false, Option, Some, None, option_map, MatchOption, if◌then◌else◌, nat_le, pos, neg_ℤ}
+use Rattle.std.specs.Prelude.{ℕ, ◌+◌, ◌<◌, ◌≤◌, ◌≡◌, List, ◌∷◌, drop, length, true, false, Option, Some, None, option_map, MatchOption, if◌then◌else◌, nat_le, pos, neg_ℤ}
 use Rattle.std.specs.Str.Parse.{digits_value}
+use Rattle.limits.specs.Limits.{largest}
 use Rattle.dioc_terms.specs.declared.values.Value.{Value}
 use Rattle.dioc_terms.specs.declared.values.Value.TheVariants as value
 use Rattle.aioc_tokens.specs.declared.words.Word.TheVariants as word
@@ -9,10 +10,10 @@ use Rattle.aioc_tokens.specs.Lexemes.{Lexeme, Number, Text, Reserved, Symbol}
 
 -- the greatest number, and the greatest one directly after a `-`
 abbrev pub greatest : ℕ
-greatest = 9223372036854775807
+greatest = largest
 
 abbrev pub greatest_negated : ℕ
-greatest_negated = 9223372036854775808
+greatest_negated = largest + 1
 
 -- the number that the digits stand for, unless it is greater than this one; leading zeros don't
 -- matter

@@ -2,7 +2,7 @@
 
 ghost use Rattle.std.specs.Prelude.{◌≡◌, ℕ, ◌≤◌, drop, length, Err, IfOk};
 ghost use Rattle.dioc_terms.specs.Expressions.{expression};
-ghost use Rattle.dioc_terms.specs.Limits.{most_brackets};
+ghost use Rattle.limits.specs.Limits.{most_brackets};
 ghost use Rattle.dioc_terms.specs.declared.faults.SyntaxFault.TheVariants as fault;
 ghost use Rattle.aioc_tokens.specs.Fronts.{NoFront};
 ghost use Rattle.aioc_tokens.specs.Lexing.{Lexes, place_of};
@@ -13,7 +13,8 @@ use crate::levels::{ExprKind, Level};
 use crate::places::{Place, Reader};
 use crate::readers::level_at;
 use aioc_tokens::{Lexed, Token, place};
-use dioc_terms::{Expr, MOST_BRACKETS, MOST_EXPRESSION_DEPTH, Memory, SyntaxFault};
+use dioc_terms::{Expr, Memory, SyntaxFault};
+use limits::{MOST_BRACKETS, MOST_EXPRESSION_DEPTH};
 use std::alloc::Global;
 
 /// The longest expression of this kind at a place of the text and the place behind it, or `None`

@@ -5,10 +5,10 @@ ghost use Rattle.dioc_terms.specs.Expressions.{expression};
 ghost use Rattle.aioc_tokens.specs.Spelling.{spelling, spelled};
 ghost use Rattle.text_pieces.specs.Pieces.{KeepsFront};
 ghost use Rattle.expr_syntax.specs.Writing.{is_compound, operator_lexeme, written, written_value};
-ghost use Rattle.expr_syntax.specs.Pieces.{integer_text, value_text, opening_text, closing_text, expression_text};
+ghost use Rattle.expr_syntax.specs.Pieces.{opening_text, closing_text, expression_text};
 
 use dioc_terms::{Expr, Memory, Oper, Value};
-use text_pieces::{write_bytes, write_number, write_quoted, write_truth};
+use text_pieces::{Minus, cut_back, write_bytes};
 
 /// Appends the text of an expression: its tokens with one space between two. A `-` stands before an
 /// operand in brackets. An operand of `not` and of an operator between two is in brackets where it
@@ -21,11 +21,8 @@ pub fn write_expr(expr: &Expr, out: &mut Vec<u8>) -> Result<(), Memory>
     ensures memory { OnErr result (out.new.items ≡ out.old.items) }
 {
     let start = out.len();
-    let result = write_part(expr, out);
-    if result.is_err() {
-        out.truncate(start);
-    }
-    result
+    let written = write_part(expr, out);
+    cut_back(written, start, out)
 }
 
 /// Appends the text of a value, as a constant is written in an expression.
@@ -37,11 +34,8 @@ pub fn write_value(value: &Value, out: &mut Vec<u8>) -> Result<(), Memory>
     ensures memory { OnErr result (out.new.items ≡ out.old.items) }
 {
     let start = out.len();
-    let result = write_constant(value, out);
-    if result.is_err() {
-        out.truncate(start);
-    }
-    result
+    let written = text_pieces::write_value(value, Minus::Apart, out);
+    cut_back(written, start, out)
 }
 
 fn write_part(expr: &Expr, out: &mut Vec<u8>) -> Result<(), Memory>
@@ -50,7 +44,7 @@ fn write_part(expr: &Expr, out: &mut Vec<u8>) -> Result<(), Memory>
     ensures memory { OnErr result (KeepsFront out.old.items out.new.items) }
 {
     match expr {
-        Expr::Const(value) => write_constant(value, out),
+        Expr::Const(value) => text_pieces::write_value(value, Minus::Apart, out),
         Expr::Var(name) => write_bytes(name.bytes(), out),
         Expr::Prop(name) => {
             write_bytes(b"N . ", out)?;
@@ -151,26 +145,4 @@ fn write_between(
     write_bytes(operator_bytes(oper), out)?;
     write_bytes(b" ", out)?;
     write_opening(right_compound, out)
-}
-
-fn write_constant(value: &Value, out: &mut Vec<u8>) -> Result<(), Memory>
-    ensures ok { OnOk result (out.new.items ≡ out.old.items ++ value_text value.now) }
-    ensures memory { OnErr result (KeepsFront out.old.items out.new.items) }
-{
-    match value {
-        Value::Nil => write_bytes(b"nil", out),
-        Value::Bool(truth) => write_truth(*truth, out),
-        Value::Int(number) => write_integer(*number, out),
-        Value::Text(text) => write_quoted(text.bytes(), out),
-    }
-}
-
-fn write_integer(number: i64, out: &mut Vec<u8>) -> Result<(), Memory>
-    ensures ok { OnOk result (out.new.items ≡ out.old.items ++ integer_text number) }
-    ensures memory { OnErr result (KeepsFront out.old.items out.new.items) }
-{
-    if number < 0 {
-        write_bytes(b"- ", out)?;
-    }
-    write_number(number.unsigned_abs(), out)
 }

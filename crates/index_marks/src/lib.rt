@@ -8,6 +8,3 @@ mod sizes;
 pub use indices::distinct;
 pub use marks::mark;
 pub use sizes::{depth, nodes};
-
-#[cfg(test)]
-mod tests;

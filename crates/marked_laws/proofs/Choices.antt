@@ -8,7 +8,7 @@ use Rattle.dioc_terms.specs.declared.processes.ScopeHead.{ScopeHead}
 use Rattle.dioc_terms.specs.Plain.{PlainRule, PlainBundle, setting}
 use Rattle.dioc_terms.specs.Bundles.{IsFormedRule}
 use Rattle.dioc_terms.specs.Equality.{member}
-use Rattle.dioc_terms.specs.Limits.{top_level}
+use Rattle.limits.specs.Limits.{top_level}
 use Rattle.dioc_terms.specs.Rules.{Book, fits, no_lower, first_greatest, choose}
 use Rattle.dioc_terms.specs.Stores.{Store}
 use Rattle.dioc_terms.specs.Terms.{Term, is_in, mentions, stamped, distinct_roles}

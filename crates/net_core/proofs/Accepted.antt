@@ -7,7 +7,7 @@ use Rattle.dioc_terms.specs.declared.names.Role.{Role}
 use Rattle.dioc_terms.specs.declared.names.Index.{Index}
 use Rattle.dioc_terms.specs.declared.values.Value.{Value}
 use Rattle.dioc_terms.specs.Equality.{member}
-use Rattle.dioc_terms.specs.Limits.{most_nodes, most_roles, most_rules, most_changes}
+use Rattle.limits.specs.Limits.{most_nodes, most_roles, most_rules, most_changes}
 use Rattle.dioc_terms.specs.Plain.{PlainRule, PlainBundle}
 use Rattle.dioc_terms.specs.Rules.{opening_book}
 use Rattle.dioc_terms.specs.TermLaws.{MentionsAreRoles, CastsAreRoles}

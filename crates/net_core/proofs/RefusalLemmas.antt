@@ -8,7 +8,7 @@ use Rattle.dioc_terms.specs.declared.bundles.Timed.{Timed}
 use Rattle.dioc_terms.specs.Bundles.{IsFormed}
 use Rattle.dioc_terms.specs.Equality.{role_eq}
 use Rattle.dioc_terms.specs.Expressions.{Expression}
-use Rattle.dioc_terms.specs.Limits.{most_nodes, most_roles, most_rules, most_changes}
+use Rattle.limits.specs.Limits.{most_nodes, most_roles, most_rules, most_changes}
 use Rattle.dioc_terms.specs.Plain.{PlainRule, PlainBundle}
 use Rattle.dioc_terms.specs.Rules.{opening_book}
 use Rattle.dioc_terms.specs.Supported.{IsSupported}

@@ -13,7 +13,7 @@ use Rattle.dioc_terms.specs.declared.values.Value.{Value}
 use Rattle.dioc_terms.specs.Equality.{role_eq, member}
 use Rattle.dioc_terms.specs.EqualityLemmas.{role_eq-decides}
 use Rattle.dioc_terms.specs.Expressions.{expression}
-use Rattle.dioc_terms.specs.Limits.{top_level}
+use Rattle.limits.specs.Limits.{top_level}
 use Rattle.dioc_terms.specs.Plain.{PlainRule}
 use Rattle.dioc_terms.specs.RuleLaws.{greater_of, chosen_among, ChoicesGoOn}
 use Rattle.dioc_terms.specs.Rules.{Book, fits, no_lower}

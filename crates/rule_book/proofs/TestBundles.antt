@@ -10,7 +10,7 @@ use Rattle.dioc_terms.specs.declared.bundles.Timed.{Timed}
 use Rattle.dioc_terms.specs.declared.values.Value.TheVariants as value
 use Rattle.dioc_terms.specs.Bundles.{IsFormedTerm, IsFormedRule, is_identifier, is_formed_condition, adds, is_formed_change, is_formed_timed}
 use Rattle.dioc_terms.specs.Expressions.{Const, Env}
-use Rattle.dioc_terms.specs.Limits.{largest}
+use Rattle.limits.specs.Limits.{largest}
 use Rattle.dioc_terms.specs.Names.{is_reserved, reserved_words}
 use Rattle.dioc_terms.specs.Plain.{PlainRule}
 use Rattle.dioc_terms.specs.Terms.{Term, Set, index_at}

@@ -8,13 +8,11 @@ ghost use Rattle.dioc_terms.specs.Conditions.{has_no_join};
 ghost use Rattle.dioc_terms.specs.Equality.{member};
 ghost use Rattle.dioc_terms.specs.Expressions.{expression};
 ghost use Rattle.dioc_terms.specs.KeptStores.{store_of};
-ghost use Rattle.dioc_terms.specs.Limits.{top_level};
+ghost use Rattle.limits.specs.Limits.{top_level};
 ghost use Rattle.dioc_terms.specs.Values.{bound, holds};
 
 use dioc_terms::{Expr, Name, Role, Roles, ScopeHead, Store, Value, test};
-
-/// A scope of this level or above is replaced no more.
-const LEVEL_LIMIT: u32 = 16;
+use limits::TOP_LEVEL;
 
 /// What a book keeps of a rule.
 #[derive(Debug, Drop)]
@@ -52,7 +50,7 @@ impl KeptRule {
     {
         test(&self.cond, store, head.props.as_slice(), env)
             && are_among(self.roles.as_slice(), head.roles.as_slice())
-            && head.level < LEVEL_LIMIT
+            && head.level < TOP_LEVEL
     }
 
     /// Whether the rule has a greater priority than the best so far, whose number and priority are

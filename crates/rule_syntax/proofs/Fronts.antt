@@ -29,7 +29,7 @@ use Rattle.dioc_syntax.specs.declared.found.FoundChoreo.{FoundChoreo}
 use Rattle.dioc_syntax.proofs.Tables.{choreography_goes}
 use Rattle.dioc_syntax.proofs.Fronts as choreography
 use Rattle.dioc_syntax.proofs.HeadSorts.{further, follows, symbol_here, reserved_here}
-use Rattle.dioc_terms.specs.Limits.{most_priority}
+use Rattle.limits.specs.Limits.{most_priority}
 use Rattle.rule_syntax.specs.Grammar.{HasPriority, no_priority, priority, negative_priority, opening, doing, closing, IsRule, IsBinding, PlainChange, Add, Drop, Env, IsChange, adds, drops, sets}
 use Rattle.rule_syntax.specs.Readers.{StandsAt, IsRanked, HasRank, PriorityAt, IsTested, IsReplaced, IsHead, HasHead, HeadAt, ConditionAt, BodyAt, RuleAt, BindingAt}
 use Rattle.rule_syntax.proofs.Unique.{only_longest, some_same, one_condition, tested, replaced, heads_same, rules_same, bindings_same, changes_same}

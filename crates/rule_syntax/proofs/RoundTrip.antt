@@ -22,7 +22,7 @@ use Rattle.dioc_syntax.specs.Laws.{FitsVersion as BodyFits}
 use Rattle.dioc_syntax.specs.Writing.{written as written_choreography}
 use Rattle.dioc_syntax.proofs.RoundTrip.{both_true, decimal_number, written_spellings}
 use Rattle.dioc_syntax.proofs.RoundTrip.{written_reads as choreography_reads}
-use Rattle.dioc_terms.specs.Limits.{largest, most_priority}
+use Rattle.limits.specs.Limits.{largest, most_priority}
 use Rattle.rule_syntax.specs.Grammar.{HasPriority, no_priority, priority, negative_priority, opening, doing, closing, IsRule}
 use Rattle.rule_syntax.specs.Writing.{written_priority, written}
 use Rattle.rule_syntax.specs.Laws.{FitsVersion}

@@ -18,7 +18,7 @@ use Rattle.expr_syntax.proofs.Compare as expression
 use Rattle.dioc_syntax.specs.Choreographies.{IsChoreography}
 use Rattle.dioc_syntax.proofs.Tables.{choreography_goes}
 use Rattle.dioc_syntax.proofs.Compare.{settle, compare, constant_same}
-use Rattle.dioc_terms.specs.Limits.{most_priority}
+use Rattle.limits.specs.Limits.{most_priority}
 use Rattle.rule_syntax.specs.Grammar.{HasPriority, no_priority, priority, negative_priority, opening, doing, closing, IsRule, IsBinding, PlainChange, Add, Drop, Env, IsChange, adds, drops, sets}
 use Rattle.rule_syntax.specs.Readers.{IsRanked, IsTested, IsReplaced, IsHead}
 

@@ -1,7 +1,7 @@
 -- The grammar of rules and of changes: what a list of lexemes reads as, from its front on.
 use Rattle.std.specs.Prelude.{◌≡◌, ℕ, suc, List, ◌∷◌, codes, Some, ℤ, pos, neg_ℤ}
 use Rattle.dioc_terms.specs.declared.values.Value.{Value}
-use Rattle.dioc_terms.specs.Limits.{most_priority}
+use Rattle.limits.specs.Limits.{most_priority}
 use Rattle.dioc_terms.specs.Plain.{PlainRule, plain_rule}
 use Rattle.aioc_tokens.specs.declared.words.Word.TheVariants as word
 use Rattle.aioc_tokens.specs.declared.words.Punctuator.TheVariants as punctuator

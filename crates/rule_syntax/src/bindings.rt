@@ -1,7 +1,7 @@
 //! Values that are bound to names.
 
 ghost use Rattle.std.specs.Prelude.{◌≤◌, length, IfOk};
-ghost use Rattle.dioc_terms.specs.Limits.{greatest_place};
+ghost use Rattle.limits.specs.Limits.{greatest_place};
 ghost use Rattle.rule_syntax.specs.Readers.{BindingAt};
 
 use aioc_tokens::{Lexed, Punctuator, Sort};

@@ -5,16 +5,17 @@ ghost use Rattle.dioc_terms.specs.declared.faults.SyntaxFault.TheVariants as fau
 ghost use Rattle.aioc_tokens.specs.Fronts.{NoFront};
 ghost use Rattle.aioc_tokens.specs.Lexing.{Lexes, place_of};
 ghost use Rattle.aioc_tokens.specs.Lexemes.{lexemes};
-ghost use Rattle.dioc_terms.specs.Limits.{most_brackets};
-ghost use Rattle.dioc_terms.specs.Limits.{greatest_place};
+ghost use Rattle.limits.specs.Limits.{most_brackets};
+ghost use Rattle.limits.specs.Limits.{greatest_place};
 ghost use Rattle.rule_syntax.specs.Grammar.{plain_change, IsChange};
 ghost use Rattle.rule_syntax.specs.Readers.{StandsAt, ChangeAt};
 
 use crate::bindings::binding_at;
 use crate::rules::rule_at;
 use aioc_tokens::{Lexed, Sort, Token, place};
-use dioc_terms::{MOST_BRACKETS, Memory, Name, Rule, SyntaxFault, Value};
+use dioc_terms::{Memory, Name, Rule, SyntaxFault, Value};
 use expr_syntax::name_at;
+use limits::MOST_BRACKETS;
 use std::alloc::Global;
 
 /// A change of the rule book or of the environment, as it is written.

@@ -7,8 +7,6 @@ mod laws;
 mod parts;
 mod priorities;
 mod rules;
-#[cfg(test)]
-mod tests;
 mod writer;
 
 pub use bindings::binding_at;

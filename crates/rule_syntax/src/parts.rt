@@ -1,13 +1,14 @@
 //! The parts of a rule that are trees.
 
 ghost use Rattle.std.specs.Prelude.{◌≡◌, ◌≤◌, length, None, IfOk};
-ghost use Rattle.dioc_terms.specs.Limits.{greatest_place};
+ghost use Rattle.limits.specs.Limits.{greatest_place};
 ghost use Rattle.rule_syntax.specs.Readers.{ConditionAt, BodyAt};
 
 use aioc_tokens::{Lexed, Punctuator, Sort, Word};
 use dioc_syntax::{Place, Reader, choreo_at};
-use dioc_terms::{Choreo, Expr, MOST_DEPTH, Memory};
+use dioc_terms::{Choreo, Expr, Memory};
 use expr_syntax::{ExprKind, expr_at};
+use limits::MOST_DEPTH;
 use std::alloc::Global;
 
 /// `} do {`

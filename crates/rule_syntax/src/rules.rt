@@ -6,16 +6,17 @@ ghost use Rattle.dioc_terms.specs.declared.faults.SyntaxFault.TheVariants as fau
 ghost use Rattle.aioc_tokens.specs.Fronts.{NoFront};
 ghost use Rattle.aioc_tokens.specs.Lexing.{Lexes, place_of};
 ghost use Rattle.aioc_tokens.specs.Lexemes.{lexemes};
-ghost use Rattle.dioc_terms.specs.Limits.{most_brackets};
-ghost use Rattle.dioc_terms.specs.Limits.{greatest_place};
+ghost use Rattle.limits.specs.Limits.{most_brackets};
+ghost use Rattle.limits.specs.Limits.{greatest_place};
 ghost use Rattle.rule_syntax.specs.Grammar.{IsRule};
 ghost use Rattle.rule_syntax.specs.Readers.{StandsAt, RuleAt, HeadAt};
 
 use crate::parts::{body_at, condition_at, no_part};
 use crate::priorities::priority_at;
 use aioc_tokens::{Lexed, Punctuator, Sort, Token, Word, place};
-use dioc_terms::{MOST_BRACKETS, Memory, Rule, SyntaxFault, give_up};
+use dioc_terms::{Memory, Rule, SyntaxFault, give_up};
 use expr_syntax::name_at;
+use limits::MOST_BRACKETS;
 use std::alloc::Global;
 
 /// `rule r`

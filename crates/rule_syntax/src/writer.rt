@@ -12,7 +12,7 @@ ghost use Rattle.rule_syntax.specs.Pieces.{priority_text, head_text, condition_t
 use dioc_syntax::write_choreo;
 use dioc_terms::{Choreo, Expr, Memory, Rule, Value};
 use expr_syntax::{write_expr, write_value};
-use text_pieces::write_bytes;
+use text_pieces::{cut_back, write_bytes};
 
 /// Appends the text of a rule: its tokens with one space between two. A priority of 0 isn't
 /// written, a negative one is `-` and its digits.
@@ -24,11 +24,8 @@ pub fn write_rule(rule: &Rule, out: &mut Vec<u8>) -> Result<(), Memory>
     ensures memory { OnErr result (out.new.items ≡ out.old.items) }
 {
     let start = out.len();
-    let result = write_parts(rule, out);
-    if result.is_err() {
-        out.truncate(start);
-    }
-    result
+    let written = write_parts(rule, out);
+    cut_back(written, start, out)
 }
 
 fn write_parts(rule: &Rule, out: &mut Vec<u8>) -> Result<(), Memory>

@@ -3,7 +3,7 @@
 use crate::texts::{STATEMENTS, Statement, make_text};
 use aioc_tokens::tokens;
 use dioc_syntax::read_choreo;
-use dioc_terms::MOST_BYTES;
+use limits::MOST_BYTES;
 use std::alloc::Global;
 use std::io;
 use std::time::Instant;

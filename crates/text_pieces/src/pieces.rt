@@ -1,6 +1,6 @@
 //! Each piece, appended to the bytes written so far.
 
-ghost use Rattle.std.specs.Prelude.{◌≡◌, ◌++◌, decimal, OnOk, OnErr};
+ghost use Rattle.std.specs.Prelude.{◌≡◌, ◌≤◌, ◌++◌, decimal, length, take, OnOk, OnErr};
 ghost use Rattle.aioc_tokens.specs.Tokens.{escaped, quoted};
 ghost use Rattle.text_pieces.specs.Pieces.{KeepsFront, truth_text};
 
@@ -59,4 +59,17 @@ fn write_escaped(byte: u8, out: &mut Vec<u8>) -> Result<(), Memory>
     } else {
         write_bytes(&[byte], out)
     }
+}
+
+/// Ends a text of several pieces: after a refusal it cuts off what stands behind the first `start`
+/// bytes. The answer is that of the writing.
+pub fn cut_back(written: Result<(), Memory>, start: usize, out: &mut Vec<u8>) -> Result<(), Memory>
+    ensures answer { result ≡ written }
+    ensures ok { OnOk result (out.new.items ≡ out.old.items) }
+    ensures memory { OnErr result (out.new.items ≡ take start out.old.items) }
+{
+    if written.is_err() {
+        out.truncate(start);
+    }
+    written
 }

@@ -10,7 +10,7 @@ use Rattle.dioc_terms.specs.declared.bundles.Rule.{Rule}
 use Rattle.dioc_terms.specs.Bundles.{IsFormedRule, is_condition}
 use Rattle.dioc_terms.specs.Conditions.{has_no_join}
 use Rattle.dioc_terms.specs.Expressions.{expression, expression_depth}
-use Rattle.dioc_terms.specs.Limits.{most_expression_depth}
+use Rattle.limits.specs.Limits.{most_expression_depth}
 use Rattle.dioc_terms.specs.Plain.{plain_rule}
 use Rattle.rule_book.proofs.keeping.keep_rule.Goals as goal
 

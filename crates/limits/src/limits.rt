@@ -1,4 +1,4 @@
-//! The limits of texts, bundles and runs, for the code. The definitions have the same numbers.
+//! The limits of texts, bundles and runs.
 
 /// The bytes of a bundle's text.
 pub const MOST_BYTES: usize = 4_194_304;
@@ -37,4 +37,7 @@ pub const MOST_BODY_NODES: usize = 200;
 pub const MOST_BODY_DEPTH: usize = 64;
 
 /// A rule's priority, up and down.
-pub const MOST_PRIORITY: i32 = 1_000_000;
+pub const MOST_PRIORITY: u64 = 1_000_000;
+
+/// A scope of this level or above is replaced no more.
+pub const TOP_LEVEL: u32 = 16;
