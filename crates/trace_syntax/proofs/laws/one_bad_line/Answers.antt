@@ -1,0 +1,5 @@
+use Rattle.trace_syntax.proofs.TraceLaws.{one_bad_line}
+use Rattle.trace_syntax.proofs.laws.one_bad_line.Goals as goal
+
+pub returns : goal.returns
+returns c = one_bad_line
