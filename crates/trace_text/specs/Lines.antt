@@ -1,5 +1,5 @@
 -- The lines of a trace: one for each entry, single spaces exactly as here, and a last line.
-use Rattle.std.specs.Prelude.{ℕ, suc, List, [], ◌∷◌, ◌++◌, Option, Some, None, ℤ, pos, negsuc, codes, decimal, flat_map}
+use Rattle.std.specs.Prelude.{ℕ, suc, List, [], ◌++◌, Option, Some, None, ℤ, pos, negsuc, codes, decimal}
 use Rattle.dioc_terms.specs.declared.names.Index.{Index}
 use Rattle.dioc_terms.specs.declared.values.Value.{Value}
 use Rattle.dioc_terms.specs.declared.values.Value.TheVariants as value
@@ -66,10 +66,14 @@ choice_text (chosen.Rule name n) = codes "rule " ++ name ++ codes " as " ++ deci
 abbrev pub line : Entry → List ℕ
 line (entry.Put k n) = codes "put " ++ key_text k ++ codes " = " ++ note_text n
 line (entry.Take k x) = codes "take " ++ key_text k ++ variable_text x
-line (entry.Set i r x v) = codes "set " ++ x ++ codes "@" ++ r.0 ++ codes " " ++ index_text i ++ codes " = " ++ value_text v
-line (entry.Input i r x v) = codes "input " ++ x ++ codes "@" ++ r.0 ++ codes " " ++ index_text i ++ codes " = " ++ value_text v
-line (entry.Pick i r b) = codes "pick " ++ r.0 ++ codes " " ++ index_text i ++ codes " " ++ truth_text b
-line (entry.Scope i r c) = codes "scope " ++ r.0 ++ codes " " ++ index_text i ++ codes " " ++ choice_text c
+line (entry.Set i r x v) = codes "set " ++ x ++ codes "@" ++ r.0 ++ codes " " ++ index_text i ++
+    codes " = " ++ value_text v
+line (entry.Input i r x v) = codes "input " ++ x ++ codes "@" ++ r.0 ++ codes " " ++ index_text i ++
+    codes " = " ++ value_text v
+line (entry.Pick i r b) = codes "pick " ++ r.0 ++ codes " " ++ index_text i ++ codes " " ++
+    truth_text b
+line (entry.Scope i r c) = codes "scope " ++ r.0 ++ codes " " ++ index_text i ++ codes " " ++
+    choice_text c
 line (entry.Add name) = codes "add " ++ name
 line (entry.Drop name) = codes "drop " ++ name
 line (entry.Env key v) = codes "env " ++ key ++ codes " = " ++ value_text v
@@ -81,11 +85,3 @@ last_line (Stopped n) = codes "stopped " ++ decimal n
 -- the byte that ends a line
 abbrev pub line_end : ℕ
 line_end = 10
-
--- each line of the entries with its end
-abbrev pub lines : List Entry → List ℕ
-lines entries = flat_map (λ e. line e ++ line_end ∷ []) entries
-
--- the text of a run
-abbrev pub text : List Entry → Last → List ℕ
-text entries last = lines entries ++ last_line last ++ line_end ∷ []
