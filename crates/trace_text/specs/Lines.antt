@@ -1,8 +1,7 @@
 -- The lines of a trace: one for each entry, single spaces exactly as here, and a last line.
-use Rattle.std.specs.Prelude.{ℕ, suc, List, [], ◌∷◌, ◌++◌, Option, Some, None, ℤ, pos, negsuc, codes, decimal, flat_map}
+use Rattle.std.specs.Prelude.{ℕ, suc, List, [], ◌++◌, Option, Some, None, ℤ, pos, negsuc, codes, decimal}
 use Rattle.dioc_terms.specs.declared.names.Index.{Index}
 use Rattle.dioc_terms.specs.declared.values.Value.{Value}
-use Rattle.dioc_terms.specs.declared.values.Value.TheVariants as value
 use Rattle.dioc_terms.specs.declared.processes.Tag.{Tag}
 use Rattle.dioc_terms.specs.declared.processes.Tag.TheVariants.{Op, Choice, Go, Turn, Begin, End, Out}
 use Rattle.dioc_terms.specs.declared.processes.Key.{Key}
@@ -15,18 +14,12 @@ use Rattle.dioc_terms.specs.declared.entries.Entry.TheVariants as entry
 use Rattle.dioc_terms.specs.declared.bundles.Last.{Last}
 use Rattle.dioc_terms.specs.declared.bundles.Last.TheVariants.{Ended, Stopped}
 use Rattle.aioc_tokens.specs.Tokens.{quoted}
-use Rattle.text_pieces.specs.Pieces.{truth_text}
+use Rattle.text_pieces.specs.declared.values.Minus.TheVariants.{Close}
+use Rattle.text_pieces.specs.Pieces.{truth_text, value_text as piece_text}
 
--- decimal digits, with a `-` directly before them where the number is negative
-abbrev pub integer_text : ℤ → List ℕ
-integer_text (pos n) = decimal n
-integer_text (negsuc n) = codes "-" ++ decimal (suc n)
-
+-- a value, with the `-` of a negative number directly before its digits
 abbrev pub value_text : Value → List ℕ
-value_text value.Nil = codes "nil"
-value_text (value.Bool b) = truth_text b
-value_text (value.Int z) = integer_text z
-value_text (value.Text bytes) = quoted bytes
+value_text v = piece_text Close v
 
 -- `#`, the epoch, `.`, the place
 abbrev pub index_text : Index → List ℕ
@@ -66,10 +59,14 @@ choice_text (chosen.Rule name n) = codes "rule " ++ name ++ codes " as " ++ deci
 abbrev pub line : Entry → List ℕ
 line (entry.Put k n) = codes "put " ++ key_text k ++ codes " = " ++ note_text n
 line (entry.Take k x) = codes "take " ++ key_text k ++ variable_text x
-line (entry.Set i r x v) = codes "set " ++ x ++ codes "@" ++ r.0 ++ codes " " ++ index_text i ++ codes " = " ++ value_text v
-line (entry.Input i r x v) = codes "input " ++ x ++ codes "@" ++ r.0 ++ codes " " ++ index_text i ++ codes " = " ++ value_text v
-line (entry.Pick i r b) = codes "pick " ++ r.0 ++ codes " " ++ index_text i ++ codes " " ++ truth_text b
-line (entry.Scope i r c) = codes "scope " ++ r.0 ++ codes " " ++ index_text i ++ codes " " ++ choice_text c
+line (entry.Set i r x v) = codes "set " ++ x ++ codes "@" ++ r.0 ++ codes " " ++ index_text i ++
+    codes " = " ++ value_text v
+line (entry.Input i r x v) = codes "input " ++ x ++ codes "@" ++ r.0 ++ codes " " ++ index_text i ++
+    codes " = " ++ value_text v
+line (entry.Pick i r b) = codes "pick " ++ r.0 ++ codes " " ++ index_text i ++ codes " " ++
+    truth_text b
+line (entry.Scope i r c) = codes "scope " ++ r.0 ++ codes " " ++ index_text i ++ codes " " ++
+    choice_text c
 line (entry.Add name) = codes "add " ++ name
 line (entry.Drop name) = codes "drop " ++ name
 line (entry.Env key v) = codes "env " ++ key ++ codes " = " ++ value_text v
@@ -81,11 +78,3 @@ last_line (Stopped n) = codes "stopped " ++ decimal n
 -- the byte that ends a line
 abbrev pub line_end : ℕ
 line_end = 10
-
--- each line of the entries with its end
-abbrev pub lines : List Entry → List ℕ
-lines entries = flat_map (λ e. line e ++ line_end ∷ []) entries
-
--- the text of a run
-abbrev pub text : List Entry → Last → List ℕ
-text entries last = lines entries ++ last_line last ++ line_end ∷ []

@@ -1,15 +1,13 @@
-//! The lines of a trace, and the text of a run.
+//! The lines of a trace.
 
 ghost use Rattle.std.specs.Prelude.{◌≡◌, ◌++◌, codes, OnOk, OnErr};
 ghost use Rattle.dioc_terms.specs.declared.entries.Entry.TheVariants as entry;
 ghost use Rattle.text_pieces.specs.Pieces.{KeepsFront};
-ghost use Rattle.trace_text.specs.Lines.{line, last_line, text, index_text, value_text};
+ghost use Rattle.trace_text.specs.Lines.{line, last_line, index_text, value_text};
 
-use crate::pieces::{
-    write_choice, write_index, write_key, write_note, write_value, write_variable,
-};
+use crate::pieces::{write_choice, write_index, write_key, write_note, write_variable};
 use dioc_terms::{Chosen, Entry, Index, Key, Last, Memory, Name, Note, Role, Value};
-use text_pieces::{write_bytes, write_number, write_truth};
+use text_pieces::{Minus, cut_back, write_bytes, write_number, write_truth, write_value};
 
 /// Appends the line of an entry, without a line end.
 ///
@@ -20,53 +18,19 @@ pub fn write_line(entry: &Entry, out: &mut Vec<u8>) -> Result<(), Memory>
 {
     let start = out.len();
     let written = write_entry(entry, out);
-    if written.is_err() {
-        out.truncate(start);
-    }
-    written
+    cut_back(written, start, out)
 }
 
-/// Appends the last line of a trace, without a line end.
+/// Appends the last line of a trace as it stands in one, without a line end.
 ///
 /// Where memory runs out, `out` is as it was.
-pub fn write_last(last: &Last, out: &mut Vec<u8>) -> Result<(), Memory>
+pub fn write_plain_last(last: &Last, out: &mut Vec<u8>) -> Result<(), Memory>
     ensures ok { OnOk result (out.new.items ≡ out.old.items ++ last_line last.now) }
     ensures memory { OnErr result (out.new.items ≡ out.old.items) }
 {
     let start = out.len();
     let written = write_end(last, out);
-    if written.is_err() {
-        out.truncate(start);
-    }
-    written
-}
-
-/// Appends the text of a run: the line of each entry and the last line, each with its line end.
-///
-/// Where memory runs out, `out` is as it was.
-pub fn write_text(entries: &[Entry], last: &Last, out: &mut Vec<u8>) -> Result<(), Memory>
-    ensures ok { OnOk result (out.new.items ≡ out.old.items ++ text entries.now last.now) }
-    ensures memory { OnErr result (out.new.items ≡ out.old.items) }
-{
-    let start = out.len();
-    let written = write_run(entries, last, out);
-    if written.is_err() {
-        out.truncate(start);
-    }
-    written
-}
-
-#[tactic(auto, using(text_pieces::proofs::KeptFronts::front_of_front))]
-fn write_run(entries: &[Entry], last: &Last, out: &mut Vec<u8>) -> Result<(), Memory>
-    ensures ok { OnOk result (out.new.items ≡ out.old.items ++ text entries.now last.now) }
-    ensures memory { OnErr result (KeepsFront out.old.items out.new.items) }
-{
-    for entry in entries {
-        write_entry(entry, out)?;
-        write_bytes(b"\n", out)?;
-    }
-    write_end(last, out)?;
-    write_bytes(b"\n", out)
+    cut_back(written, start, out)
 }
 
 fn write_entry(entry: &Entry, out: &mut Vec<u8>) -> Result<(), Memory>
@@ -117,7 +81,8 @@ fn write_put(key: &Key, note: &Note, out: &mut Vec<u8>) -> Result<(), Memory>
 }
 
 fn write_take(key: &Key, variable: &Option<Name>, out: &mut Vec<u8>) -> Result<(), Memory>
-    ensures ok { OnOk result (out.new.items ≡ out.old.items ++ line (entry.Take key.now variable.now)) }
+    ensures ok { OnOk result (out.new.items ≡ out.old.items ++
+        line (entry.Take key.now variable.now)) }
     ensures memory { OnErr result (KeepsFront out.old.items out.new.items) }
 {
     write_bytes(b"take ", out)?;
@@ -152,11 +117,12 @@ fn write_setting(
     write_bytes(b" ", out)?;
     write_index(index, out)?;
     write_bytes(b" = ", out)?;
-    write_value(value, out)
+    write_value(value, Minus::Close, out)
 }
 
 fn write_pick(index: Index, role: &Role, flag: bool, out: &mut Vec<u8>) -> Result<(), Memory>
-    ensures ok { OnOk result (out.new.items ≡ out.old.items ++ line (entry.Pick index role.now flag)) }
+    ensures ok { OnOk result (out.new.items ≡ out.old.items ++
+        line (entry.Pick index role.now flag)) }
     ensures memory { OnErr result (KeepsFront out.old.items out.new.items) }
 {
     write_bytes(b"pick ", out)?;
@@ -168,7 +134,8 @@ fn write_pick(index: Index, role: &Role, flag: bool, out: &mut Vec<u8>) -> Resul
 }
 
 fn write_scope(index: Index, role: &Role, chosen: &Chosen, out: &mut Vec<u8>) -> Result<(), Memory>
-    ensures ok { OnOk result (out.new.items ≡ out.old.items ++ line (entry.Scope index role.now chosen.now)) }
+    ensures ok { OnOk result (out.new.items ≡ out.old.items ++
+        line (entry.Scope index role.now chosen.now)) }
     ensures memory { OnErr result (KeepsFront out.old.items out.new.items) }
 {
     write_bytes(b"scope ", out)?;
@@ -186,7 +153,7 @@ fn write_environment(key: &Name, value: &Value, out: &mut Vec<u8>) -> Result<(),
     write_bytes(b"env ", out)?;
     write_bytes(key.bytes(), out)?;
     write_bytes(b" = ", out)?;
-    write_value(value, out)
+    write_value(value, Minus::Close, out)
 }
 
 fn write_end(last: &Last, out: &mut Vec<u8>) -> Result<(), Memory>

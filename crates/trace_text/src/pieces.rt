@@ -4,32 +4,10 @@
 
 ghost use Rattle.std.specs.Prelude.{◌≡◌, ◌++◌, OnOk, OnErr};
 ghost use Rattle.text_pieces.specs.Pieces.{KeepsFront};
-ghost use Rattle.trace_text.specs.Lines.{integer_text, value_text, index_text, tag_text, note_text, key_text, variable_text, choice_text};
+ghost use Rattle.trace_text.specs.Lines.{index_text, tag_text, note_text, key_text, variable_text, choice_text};
 
-use dioc_terms::{Chosen, Index, Key, Memory, Name, Note, Tag, Value};
-use text_pieces::{write_bytes, write_number, write_quoted, write_truth};
-
-fn write_integer(number: i64, out: &mut Vec<u8>) -> Result<(), Memory>
-    ensures ok { OnOk result (out.new.items ≡ out.old.items ++ integer_text number) }
-    ensures memory { OnErr result (KeepsFront out.old.items out.new.items) }
-{
-    if number < 0 {
-        write_bytes(b"-", out)?;
-    }
-    write_number(number.unsigned_abs(), out)
-}
-
-pub fn write_value(value: &Value, out: &mut Vec<u8>) -> Result<(), Memory>
-    ensures ok { OnOk result (out.new.items ≡ out.old.items ++ value_text value.now) }
-    ensures memory { OnErr result (KeepsFront out.old.items out.new.items) }
-{
-    match value {
-        Value::Nil => write_bytes(b"nil", out),
-        Value::Bool(flag) => write_truth(*flag, out),
-        Value::Int(number) => write_integer(*number, out),
-        Value::Text(text) => write_quoted(text.bytes(), out),
-    }
-}
+use dioc_terms::{Chosen, Index, Key, Memory, Name, Note, Tag};
+use text_pieces::{Minus, write_bytes, write_number, write_truth, write_value};
 
 pub fn write_index(index: Index, out: &mut Vec<u8>) -> Result<(), Memory>
     ensures ok { OnOk result (out.new.items ≡ out.old.items ++ index_text index) }
@@ -61,7 +39,7 @@ pub fn write_note(note: &Note, out: &mut Vec<u8>) -> Result<(), Memory>
     ensures memory { OnErr result (KeepsFront out.old.items out.new.items) }
 {
     match note {
-        Note::Val(value) => write_value(value, out),
+        Note::Val(value) => write_value(value, Minus::Close, out),
         Note::Flag(flag) => write_truth(*flag, out),
         Note::Keep => write_bytes(b"keep", out),
         Note::Part(epoch) => {

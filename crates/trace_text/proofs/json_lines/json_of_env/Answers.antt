@@ -1,0 +1,13 @@
+use Rattle.std.proofs.Common.{[], ◌∷◌, refl, ap}
+use Rattle.serde_json.specs.View.{members_view}
+use Rattle.serde_json.proofs.OnLiterals.{serde_json_on_literals}
+use Rattle.trace_text.proofs.JsonTexts.{more, row, json_is}
+use Rattle.trace_text.proofs.json_lines.json_of_env.Goals as goal
+
+pub returns : goal.returns
+unfolding serde_json_on_literals
+returns c =
+    let p1 = c.in_ok-put_name.ensures in
+    let p2 = c.in_ok-put_word.ensures in
+    let p3 = c.in_ok-put_value.ensures in
+    json_is c.put_value.new.members (row p1 refl ∷ row p2 refl ∷ row p3 refl ∷ []) (more p3 (more p2 (more p1 (ap members_view c.new-members.ensures.empty))))
