@@ -1,0 +1,13 @@
+use Rattle.std.proofs.Common.{rules, ap, sym, ◌∙◌, subst, arith}
+use Rattle.turn_lock.specs.Views.{IsSingle}
+use Rattle.turn_lock.proofs.Steps.{takes_turn_as}
+use Rattle.turn_lock.proofs.turns.Turns.take_turn.Goals as goal
+
+pub compare_exchange-requires : goal.compare_exchange-requires
+compare_exchange-requires g c =
+    let same = c.loop.invariant.1 in (
+      search rules,
+      search rules,
+      takes_turn_as g.H.Chronicle.items g.H.Chronicle.base g.H.Chronicle.owner _ _ _ _ c.loop.token.me c.args.self.now.sized.1 (ap (λ m. m.1) same ∙ c.requires.waits.0) (omega (arith, c.if-word-eq1.false))
+          (subst (λ m. IsSingle m.0) (sym same) c.requires.waits.1),
+    )

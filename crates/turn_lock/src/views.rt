@@ -1,0 +1,23 @@
+// What a seat knows. No value of these types is made: they stand in contracts alone.
+use std::collections::LinkedList;
+
+/// A number, and the items of that number that the list has so far.
+pub struct Claim<I> {
+    pub number: u64,
+    pub mine: LinkedList<I>,
+}
+
+/// What a seat knows of the lock.
+pub struct View<I, B> {
+    /// The base of the lock. A view that was joined into another has none.
+    pub base: Option<B>,
+    /// One claim for a seat, none for a view that was joined into another, and all of them for
+    /// the view that `close` joins the others into.
+    pub claims: LinkedList<Claim<I>>,
+    /// How the list began when the seat last looked.
+    pub seen: LinkedList<I>,
+    /// The seat has the turn.
+    pub holds: bool,
+    /// At the seat that makes seats, how many there are, itself included. At each other it is 0.
+    pub made: u64,
+}
