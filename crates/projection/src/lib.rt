@@ -7,6 +7,3 @@ mod projected;
 
 pub use laws::outsiders_have_ended;
 pub use projected::project;
-
-#[cfg(test)]
-mod tests;
