@@ -1,0 +1,7 @@
+pub mod AliveLemmas
+mod Examples
+pub mod BodyLemmas
+pub mod MayRunLemmas
+pub mod NameText
+pub mod PartLemmas
+pub mod TestLemmas

@@ -1,0 +1,30 @@
+use Rattle.std.proofs.Common.{◌∙◌, [], ◌∷◌, map, ap, sym}
+use Rattle.std.specs.Prelude.{List}
+use Rattle.std.proofs.lemmas.List.{take_all}
+use Rattle.dioc_terms.specs.declared.names.Role.{Role}
+use Rattle.rule_checks.specs.Refusals.{first_refusal, unknown_role}
+use Rattle.rule_checks.proofs.BodyLemmas.{each_known}
+use Rattle.rule_checks.proofs.TestLemmas.{passed, stopped}
+use Rattle.std.proofs.Common.{rules}
+use Rattle.rule_checks.specs.Answers.{IsRefusalOf}
+use Rattle.rule_checks.proofs.checks.all_known.Goals as goal
+
+pub loop-role-preserved : goal.loop-role-preserved
+loop-role-preserved c =
+    passed (λ q. unknown_role c.args.at c.args.cast.now (q ∷ [])) c.args.roles.now c.loop-role.role-index c.role-item.result
+    c.loop-role-test.true c.role-item.is c.loop-role.invariant c.in_ok-known.ensures.ok
+
+pub returns-in_err-known-clause-refused : goal.returns-in_err-known-clause-refused
+returns-in_err-known-clause-refused c =
+    let goes : IsRefusalOf (unknown_role c.args.at c.args.cast.now c.args.roles.now) c.in_err-known.field-0.0 = λ told.
+    each_known c.args.at c.args.cast.now c.args.roles.now
+    ∙ stopped (λ q. unknown_role c.args.at c.args.cast.now (q ∷ [])) c.args.roles.now c.loop-role.role-index c.role-item.result c.in_err-known.field-0.0
+    c.loop-role-test.true c.role-item.is c.loop-role.invariant (c.in_err-known.ensures.refused told) in
+    search (rules, goes)
+
+pub returns-clause-ok : goal.returns-clause-ok
+returns-clause-ok c =
+    each_known c.args.at c.args.cast.now c.args.roles.now
+    ∙ (ap (λ (l : List Role). first_refusal (map (λ q. unknown_role c.args.at c.args.cast.now (q ∷ [])) l))
+    (sym (take_all c.loop-role.role-index c.args.roles.now c.loop-role-test.false))
+    ∙ c.loop-role.invariant)
