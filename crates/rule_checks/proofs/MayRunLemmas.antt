@@ -13,7 +13,7 @@ use Rattle.dioc_terms.specs.Bundles.{numbers_from}
 use Rattle.dioc_terms.specs.Equality.{member}
 use Rattle.dioc_terms.specs.EqualityLemmas.{role_eq-decides}
 use Rattle.dioc_terms.specs.Equality.{role_eq}
-use Rattle.dioc_terms.specs.Limits.{most_nodes, most_roles, most_rules, most_changes, most_body_nodes, most_body_depth}
+use Rattle.limits.specs.Limits.{most_nodes, most_roles, most_rules, most_changes, most_body_nodes, most_body_depth}
 use Rattle.dioc_terms.specs.Plain.{PlainRule, PlainBundle}
 use Rattle.dioc_terms.specs.Rules.{Book, apply, opening_book}
 use Rattle.dioc_terms.specs.TermLaws.{MentionsAreRoles, CastsAreRoles}

@@ -7,7 +7,7 @@ use Rattle.std.proofs.lemmas.Bool.{and_parts, leb-true, eqb-true}
 use Rattle.std.proofs.lemmas.List.Elements.{All-nil, All-cons}
 use Rattle.std.proofs.lemmas.Str.{IsUtf8-from_ascii}
 use Rattle.std.proofs.lemmas.Str.Ascii.{IsAscii-from_all}
-use Rattle.dioc_terms.specs.Limits.{most_name_bytes}
+use Rattle.limits.specs.Limits.{most_name_bytes}
 use Rattle.dioc_terms.specs.Names.{is_letter, is_digit, is_word, is_name}
 
 at_most : (byte top : ℕ) → nat_le byte top ≡ true → top < 128 → byte < 128

@@ -14,10 +14,10 @@ use crate::limits::within_limits;
 use crate::refusals::{Refusal, Where};
 use connectedness::{CheckFault, check};
 use dioc_terms::{
-    Bundle, Change, Choreo, Index, MOST_BODY_DEPTH, MOST_BODY_NODES, Role, Values, casts_are_roles,
-    mentions_are_roles, roles,
+    Bundle, Change, Choreo, Index, Role, Values, casts_are_roles, mentions_are_roles, roles,
 };
 use index_marks::{depth, nodes};
+use limits::{MOST_BODY_DEPTH, MOST_BODY_NODES};
 use std::alloc::Global;
 
 /// Whether a formed bundle may run: `Ok` exactly where it is refused nothing, else its first

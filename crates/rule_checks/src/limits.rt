@@ -5,7 +5,7 @@
 //! at most 256 of them, and the time grows with the size of the bundle.
 
 ghost use Rattle.std.specs.Prelude.{◌≡◌, None, map, IfErr, IfOk, OnOk};
-ghost use Rattle.dioc_terms.specs.Limits.{most_nodes, most_rules};
+ghost use Rattle.limits.specs.Limits.{most_nodes, most_rules};
 ghost use Rattle.dioc_terms.specs.Plain.{plain, plain_rule};
 ghost use Rattle.dioc_terms.specs.Terms.{term, nodes};
 ghost use Rattle.rule_checks.specs.Alive.{added_name, changed_names, first_names, most_names};
@@ -13,12 +13,10 @@ ghost use Rattle.rule_checks.specs.Answers.{IsRefusalOf};
 ghost use Rattle.rule_checks.specs.Refusals.{first_refusal, limit_tests, too_many, too_many_alive};
 
 use crate::refusals::{Refusal, Which};
-use dioc_terms::{
-    Bundle, Change, Choreo, MOST_CHANGES, MOST_NODES, MOST_ROLES, MOST_RULES, Memory, Name, Rule,
-    Timed,
-};
+use dioc_terms::{Bundle, Change, Choreo, Memory, Name, Rule, Timed};
 use index_marks::nodes;
 use indexmap::IndexSet;
+use limits::{MOST_CHANGES, MOST_NODES, MOST_ROLES, MOST_RULES};
 use std::alloc::Global;
 
 /// The tests of the limits.

@@ -1,6 +1,6 @@
 -- The names of now have the most of the rest of the script where those of the start have it of the whole.
 use Rattle.std.proofs.Common.{◌≡◌, map, drop}
-use Rattle.dioc_terms.specs.Limits.{most_rules}
+use Rattle.limits.specs.Limits.{most_rules}
 use Rattle.dioc_terms.specs.Plain.{plain_rule}
 use Rattle.rule_checks.specs.declared.refusals.Which.TheVariants.{Rules}
 use Rattle.rule_checks.specs.Alive.{most_names}
