@@ -10,7 +10,7 @@ ghost use Rattle.rule_checks.specs.Answers.{IsRefusalOf};
 ghost use Rattle.rule_checks.specs.Refusals.{IsAccepted, refusal, first_refusal, unknown_role, self_message, unlinked, body_too_big, body_tests, rule_refusal, program_tests, rules_tests};
 ghost use Rattle.rule_checks.specs.Parts.{change_refusal, opening_tests, script_tests};
 
-use crate::limits::within_limits;
+use crate::bounds::within_limits;
 use crate::refusals::{Refusal, Where};
 use connectedness::{CheckFault, check};
 use dioc_terms::{

@@ -1,9 +1,9 @@
 //! Which bundles may run: the refusals of a bundle in their order, and what an accepted bundle is.
 #![tactic(auto)]
 
+mod bounds;
 mod checks;
 mod laws;
-mod limits;
 mod refusals;
 mod texts;
 

@@ -2,7 +2,7 @@ use Rattle.std.proofs.Common.{◌∙◌, ap, sym}
 use Rattle.std.specs.List.{list_any}
 use Rattle.dioc_terms.specs.Equality.{name_eq}
 use Rattle.rule_checks.proofs.AliveLemmas.{remove_key-filter}
-use Rattle.rule_checks.proofs.limits.change_names.Goals as goal
+use Rattle.rule_checks.proofs.bounds.change_names.Goals as goal
 
 pub returns-in-Drop : goal.returns-in-Drop
 returns-in-Drop c =

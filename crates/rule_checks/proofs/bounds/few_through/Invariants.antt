@@ -5,7 +5,7 @@ use Rattle.dioc_terms.specs.Plain.{plain_rule}
 use Rattle.rule_checks.specs.declared.refusals.Which.TheVariants.{Rules}
 use Rattle.rule_checks.specs.Alive.{most_names}
 use Rattle.rule_checks.specs.Refusals.{too_many}
-use Rattle.rule_checks.proofs.limits.few_through.Given as goal
+use Rattle.rule_checks.proofs.bounds.few_through.Given as goal
 
 abbrev pub invariant-loop-timed : goal.invariant-loop-timed
 invariant-loop-timed l =

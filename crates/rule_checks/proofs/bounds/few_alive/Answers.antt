@@ -11,7 +11,7 @@ use Rattle.rule_checks.specs.Alive.{first_names, most_names}
 use Rattle.rule_checks.specs.Answers.{IsRefusalOf}
 use Rattle.rule_checks.specs.Refusals.{too_many, too_many_alive}
 use Rattle.rule_checks.proofs.AliveLemmas.{most_alive-names}
-use Rattle.rule_checks.proofs.limits.few_alive.Goals as goal
+use Rattle.rule_checks.proofs.bounds.few_alive.Goals as goal
 
 -- by the names of a bundle's rules the test is that of the bundle
 alive_by_names : (b : Bundle) (names : List (List ℕ)) (all : List Rule) (script : List Timed) → all ≡ b.rules → script ≡ b.script
