@@ -1,0 +1,4 @@
+pub mod ActingLemmas
+pub mod LeafLemmas
+pub mod Splits
+pub mod StateLemmas

@@ -1,0 +1,283 @@
+//! What is shown of an act before it is done.
+
+ghost use Rattle.std.specs.Prelude.{◌≡◌, None, Some, IfOk, option_map};
+ghost use Rattle.dioc_terms.specs.declared.entries.Entry.TheVariants as entries;
+ghost use Rattle.dioc_terms.specs.declared.processes.Tag.TheVariants as tags;
+ghost use Rattle.dioc_terms.specs.Processes.{process, letters, load, noted, Val, Tell, Gather};
+ghost use Rattle.dioc_terms.specs.Values.{is_true};
+ghost use Rattle.dpoc_process.specs.Acting.{lead_of, head_of};
+ghost use Rattle.dpoc_process.specs.Growth.{entry_at, load_at};
+ghost use Rattle.dpoc_process.specs.KeptReady.{Shows};
+ghost use Rattle.process_steps.specs.Steps.{key};
+
+use crate::growth::is_true;
+use crate::offered::{key_of, operation};
+use crate::runs::Prepared;
+use dioc_terms::{
+    Act, Entry, Index, Key, Memory, Messages, Name, Note, Payload, Proc, Role, ScopeHead, Tag,
+    Value, give_up,
+};
+use std::alloc::Global;
+
+/// What is shown of the act that the part does, with the value that it needs.
+pub(crate) fn prepared_at(
+    alloc: Global,
+    me: &Role,
+    act: &Act,
+    value: &Value,
+    part: &Proc,
+) -> Result<Prepared, Memory>
+    ensures { IfOk result (Shows me.now act.now value.now (process part.now)) }
+{
+    let act = copy_of_act(alloc, act)?;
+    match entry_at(alloc, me, value, part) {
+        Ok(entry) => with_entry(alloc, act, entry, value, part),
+        Err(fault) => give_up(act, fault),
+    }
+}
+
+/// The act and the entry, with the head of a scope and the message.
+fn with_entry(
+    alloc: Global,
+    act: Act,
+    entry: Option<Entry>,
+    value: &Value,
+    part: &Proc,
+) -> Result<Prepared, Memory>
+    ensures act { IfOk result (λ shown. shown.act ≡ act) }
+    ensures entry { IfOk result (λ shown. shown.entry ≡ entry) }
+    ensures head { IfOk result (λ shown. shown.head
+        ≡ option_map head_of (lead_of (process part.now))) }
+    ensures payload { IfOk result (λ shown. option_map load shown.payload
+        ≡ load_at value.now (process part.now)) }
+{
+    match head_at(alloc, part) {
+        Ok(head) => with_head(alloc, act, entry, head, value, part),
+        Err(fault) => give_up((act, entry), fault),
+    }
+}
+
+/// These, with the message.
+fn with_head(
+    alloc: Global,
+    act: Act,
+    entry: Option<Entry>,
+    head: Option<ScopeHead>,
+    value: &Value,
+    part: &Proc,
+) -> Result<Prepared, Memory>
+    ensures act { IfOk result (λ shown. shown.act ≡ act) }
+    ensures entry { IfOk result (λ shown. shown.entry ≡ entry) }
+    ensures head { IfOk result (λ shown. shown.head ≡ head) }
+    ensures payload { IfOk result (λ shown. option_map load shown.payload
+        ≡ load_at value.now (process part.now)) }
+{
+    match payload_at(alloc, value, part) {
+        Ok(payload) => Ok(Prepared {
+            act,
+            entry,
+            head,
+            payload,
+        }),
+        Err(fault) => give_up((act, (entry, head)), fault),
+    }
+}
+
+/// What is known of the entry: all of it, but for a scope, whose choice isn't known yet.
+fn entry_at(alloc: Global, me: &Role, value: &Value, part: &Proc) -> Result<Option<Entry>, Memory>
+    ensures { IfOk result (λ entry. entry ≡ entry_at me.now value.now (process part.now)) }
+{
+    match part {
+        Proc::Send { index, op, to, .. } => {
+            put_entry(alloc, operation(alloc, me, to, *index, op)?, value)
+        }
+        Proc::Recv {
+            index,
+            op,
+            from,
+            var,
+        } => keep_entry(alloc, operation(alloc, from, me, *index, op)?, var),
+        Proc::Assign { index, var, .. } => set_entry(alloc, *index, me, var, value),
+        Proc::Read { index, var } => input_entry(alloc, *index, me, var, value),
+        Proc::IfLead { index, .. } | Proc::WhileLead { index, .. } => {
+            pick_entry(alloc, *index, me, is_true(value))
+        }
+        Proc::IfFollow { index, leader, .. } => {
+            take_entry(key_of(alloc, leader, me, *index, Tag::Choice)?)
+        }
+        Proc::WhileFollow { index, leader, .. } => {
+            take_entry(key_of(alloc, leader, me, *index, Tag::Go)?)
+        }
+        Proc::ScopeFollow { index, leader, .. } => {
+            take_entry(key_of(alloc, leader, me, *index, Tag::Begin)?)
+        }
+        Proc::Tell { messages } => tell_entry(alloc, me, value, messages),
+        Proc::Gather { keys } => gather_entry(alloc, me, value, keys.as_slice()),
+        _ => Ok(None),
+    }
+}
+
+fn put_entry(alloc: Global, found: Key, value: &Value) -> Result<Option<Entry>, Memory>
+    ensures { IfOk result (λ entry. entry ≡ Some (entries.Put found (noted (Val value.now)))) }
+{
+    let note = Note::Val(value.copy(alloc)?);
+    Ok(Some(Entry::Put { key: found, note }))
+}
+
+fn keep_entry(alloc: Global, found: Key, var: &Name) -> Result<Option<Entry>, Memory>
+    ensures { IfOk result (λ entry. entry ≡ Some (entries.Take found (Some var.now))) }
+{
+    let var = Some(var.copy(alloc)?);
+    Ok(Some(Entry::Take { key: found, var }))
+}
+
+fn take_entry(found: Key) -> Result<Option<Entry>, Memory>
+    ensures { IfOk result (λ entry. entry ≡ Some (entries.Take found None)) }
+{
+    Ok(Some(Entry::Take {
+        key: found,
+        var: None,
+    }))
+}
+
+fn set_entry(
+    alloc: Global,
+    index: Index,
+    me: &Role,
+    var: &Name,
+    value: &Value,
+) -> Result<Option<Entry>, Memory>
+    ensures { IfOk result (λ entry. entry ≡ Some (entries.Set index me.now var.now value.now)) }
+{
+    Ok(Some(Entry::Set {
+        index,
+        role: me.copy(alloc)?,
+        var: var.copy(alloc)?,
+        value: value.copy(alloc)?,
+    }))
+}
+
+fn input_entry(
+    alloc: Global,
+    index: Index,
+    me: &Role,
+    var: &Name,
+    value: &Value,
+) -> Result<Option<Entry>, Memory>
+    ensures { IfOk result (λ entry. entry ≡ Some (entries.Input index me.now var.now value.now)) }
+{
+    Ok(Some(Entry::Input {
+        index,
+        role: me.copy(alloc)?,
+        var: var.copy(alloc)?,
+        value: value.copy(alloc)?,
+    }))
+}
+
+fn pick_entry(alloc: Global, index: Index, me: &Role, flag: bool) -> Result<Option<Entry>, Memory>
+    ensures { IfOk result (λ entry. entry ≡ Some (entries.Pick index me.now flag)) }
+{
+    Ok(Some(Entry::Pick {
+        index,
+        role: me.copy(alloc)?,
+        flag,
+    }))
+}
+
+fn tell_entry(
+    alloc: Global,
+    me: &Role,
+    value: &Value,
+    messages: &Messages,
+) -> Result<Option<Entry>, Memory>
+    ensures { IfOk result (λ entry.
+        entry ≡ entry_at me.now value.now (Tell (letters messages.now))) }
+{
+    match messages {
+        Messages::Nothing => Ok(None),
+        Messages::More(key, payload, _) => {
+            let note = note_of(alloc, payload)?;
+            Ok(Some(Entry::Put {
+                key: key.copy(alloc)?,
+                note,
+            }))
+        }
+    }
+}
+
+fn gather_entry(
+    alloc: Global,
+    me: &Role,
+    value: &Value,
+    keys: &[Key],
+) -> Result<Option<Entry>, Memory>
+    ensures { IfOk result (λ entry. entry ≡ entry_at me.now value.now (Gather keys.now)) }
+{
+    match keys {
+        [] => Ok(None),
+        [key, ..] => take_entry(key.copy(alloc)?),
+    }
+}
+
+/// What an entry shows of a payload.
+fn note_of(alloc: Global, payload: &Payload) -> Result<Note, Memory>
+    ensures { IfOk result (λ note. note ≡ noted (load payload.now)) }
+{
+    match payload {
+        Payload::Val(value) => Ok(Note::Val(value.copy(alloc)?)),
+        Payload::Flag(flag) => Ok(Note::Flag(*flag)),
+        Payload::Keep => Ok(Note::Keep),
+        Payload::Part { epoch, .. } => Ok(Note::Part(*epoch)),
+        Payload::Done => Ok(Note::Done),
+    }
+}
+
+/// A copy of what the act sends.
+fn payload_at(alloc: Global, value: &Value, part: &Proc) -> Result<Option<Payload>, Memory>
+    ensures { IfOk result (λ payload. option_map load payload
+        ≡ load_at value.now (process part.now)) }
+{
+    match part {
+        Proc::Send { .. } => Ok(Some(Payload::Val(value.copy(alloc)?))),
+        Proc::Tell { messages } => payload_of_tell(alloc, value, messages),
+        _ => Ok(None),
+    }
+}
+
+fn payload_of_tell(
+    alloc: Global,
+    value: &Value,
+    messages: &Messages,
+) -> Result<Option<Payload>, Memory>
+    ensures { IfOk result (λ payload.
+        option_map load payload ≡ load_at value.now (Tell (letters messages.now))) }
+{
+    match messages {
+        Messages::Nothing => Ok(None),
+        Messages::More(_, payload, _) => Ok(Some(payload.copy(alloc)?)),
+    }
+}
+
+/// What the book sees of the scope that the part begins.
+fn head_at(alloc: Global, part: &Proc) -> Result<Option<ScopeHead>, Memory>
+    ensures { IfOk result (λ head. head ≡ option_map head_of (lead_of (process part.now))) }
+{
+    match part {
+        Proc::ScopeLead { head, .. } => Ok(Some(head.copy(alloc)?)),
+        _ => Ok(None),
+    }
+}
+
+/// A copy of the act.
+fn copy_of_act(alloc: Global, act: &Act) -> Result<Act, Memory>
+    ensures { IfOk result (λ copy. copy ≡ act.now) }
+{
+    match act {
+        Act::Put(key) => Ok(Act::Put(key.copy(alloc)?)),
+        Act::Take(key) => Ok(Act::Take(key.copy(alloc)?)),
+        Act::Set(index) => Ok(Act::Set(*index)),
+        Act::Input(index) => Ok(Act::Input(*index)),
+        Act::Pick(index) => Ok(Act::Pick(*index)),
+        Act::Scope(index) => Ok(Act::Scope(*index)),
+    }
+}

@@ -1,0 +1,53 @@
+//! A role that runs, act by act.
+
+use dioc_terms::{Act, Entry, Memory, Parts, Payload, ScopeHead, Store};
+use std::alloc::Global;
+use thiserror::Error;
+
+/// What comes with an act from outside of the role.
+#[derive(Debug, Drop)]
+pub enum Got {
+    /// Nothing, for an act that is neither a take nor a scope's.
+    Nothing,
+    /// The message of a take.
+    Payload(Payload),
+    /// The scope keeps its body.
+    Keep,
+    /// The scope is replaced by an update with these parts.
+    Parts(Parts),
+}
+
+/// What is known of an act before it is done.
+#[derive(Debug, Drop)]
+pub struct Prepared {
+    /// The act.
+    pub act: Act,
+    /// Its entry. It is missing exactly for a scope, whose choice isn't known yet.
+    pub entry: Option<Entry>,
+    /// What the book sees of the scope, there exactly for a scope.
+    pub head: Option<ScopeHead>,
+    /// A copy of the message, there exactly for a put.
+    pub payload: Option<Payload>,
+}
+
+/// Why an act is not prepared.
+#[derive(Clone, Copy, Debug, PartialEq, Eq, Error)]
+pub enum PrepareFault {
+    /// The process doesn't offer the act.
+    #[error("the process doesn't offer the act")]
+    NoAct,
+    /// Memory ran out.
+    #[error("out of memory")]
+    Memory,
+}
+
+impl From<Memory> for PrepareFault {
+    ghost use Rattle.std.specs.Prelude.{◌≡◌};
+    ghost use Rattle.dpoc_process.specs.declared.runs.PrepareFault.TheVariants.{Memory as no_memory};
+
+    ghost from_gives = { λ _ fault. fault ≡ no_memory };
+
+    fn from(_error: Memory) -> PrepareFault {
+        PrepareFault::Memory
+    }
+}

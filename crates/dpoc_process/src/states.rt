@@ -1,0 +1,79 @@
+//! A role whose process is kept as a tree.
+
+ghost use Rattle.std.specs.Prelude.{◌≡◌};
+ghost use Rattle.dioc_terms.specs.KeptStores.{store_of};
+ghost use Rattle.dioc_terms.specs.Processes.{process};
+
+use crate::offered::{add_offers, is_ended};
+use crate::ready::{Ready, advanced, clear, keep_ready, make_ready};
+use crate::roles::Runs;
+use crate::runs::{Got, PrepareFault, Prepared};
+use dioc_terms::{Act, Memory, Proc, Role, Store};
+use std::alloc::Global;
+use std::mem;
+
+/// A role that runs, with its process as a tree. A step copies nothing of the process but the body
+/// of a loop, once a turn.
+#[derive(Drop)]
+pub struct RoleState {
+    role: Role,
+    proc: Proc,
+    store: Store,
+    ready: Option<Ready>,
+}
+
+impl RoleState {
+    ghost use Rattle.dpoc_process.specs.KeptStates.{seat_of};
+    ghost use Rattle.dpoc_process.specs.RoleLaws.{seat};
+
+    /// The role with this process and this store. It takes no memory.
+    pub fn new(role: Role, proc: Proc, store: Store) -> RoleState
+        ensures { seat_of result ≡ seat role (process proc) (store_of store) }
+    {
+        RoleState {
+            role,
+            proc,
+            store,
+            ready: None,
+        }
+    }
+}
+
+impl Runs for RoleState {
+    ghost use Rattle.dpoc_process.specs.KeptStates.{seat_of, IsReady};
+
+    ghost seat = { seat_of };
+
+    ghost is_ready = { IsReady };
+
+    fn acts(&self, alloc: Global) -> Result<Vec<Act>, Memory> {
+        let mut acts = Vec::new(alloc);
+        add_offers(alloc, &self.role, &self.proc, &mut acts)?;
+        Ok(acts)
+    }
+
+    fn prepare(&mut self, alloc: Global, act: &Act) -> Result<Prepared, PrepareFault> {
+        clear(&mut self.ready);
+        match make_ready(alloc, &self.role, &self.proc, &mut self.store, act) {
+            Ok((ready, prepared)) => {
+                keep_ready(&mut self.ready, ready);
+                Ok(prepared)
+            }
+            Err(fault) => Err(fault),
+        }
+    }
+
+    fn advance(&mut self, act: &Act, got: Got) {
+        let ready = self.ready.take().unwrap();
+        let proc = mem::replace(&mut self.proc, Proc::Skip);
+        self.proc = advanced(&self.role, act, proc, &mut self.store, ready, got);
+    }
+
+    fn is_done(&self) -> bool {
+        is_ended(&self.proc)
+    }
+
+    fn store(&self) -> &Store {
+        &self.store
+    }
+}
