@@ -9,6 +9,7 @@ mod expressions;
 mod indices;
 mod lexemes;
 mod links;
+mod nets;
 mod rules;
 mod services;
 mod sizes;
@@ -47,6 +48,7 @@ pub fn answer(alloc: Global, case: &Case) -> Result<Vec<u8>, Problem> {
         b"is_aux" => auxiliary::answer_is_aux(alloc, case, &mut out)?,
         b"leader_plan" => auxiliary::answer_plan(alloc, case, &mut out)?,
         b"read_bundle" => bundles::answer(alloc, case, &mut out)?,
+        b"net_steps" => nets::answer(alloc, case, &mut out)?,
         b"read_words" => words::answer(alloc, case, &mut out)?,
         b"serve_alone" => services::answer(alloc, case, &mut out)?,
         _ => return Err(Problem::Bad("there is no such call")),
