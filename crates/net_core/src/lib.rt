@@ -1,10 +1,9 @@
-//! The network of a bundle, stepped entry by entry, and which bundles may run.
+//! The network of a bundle, stepped entry by entry, its schedule, and what holds of its runs.
 #![tactic(auto)]
 
 mod laws;
 mod moves;
 mod network;
-mod refusals;
 mod runs;
 #[cfg(test)]
 mod tests;
@@ -15,5 +14,4 @@ pub use laws::{
 };
 pub use moves::{Finish, Move, StepFault};
 pub use network::Net;
-pub use refusals::{Refusal, Where, Which, accept};
 pub use runs::run_first;

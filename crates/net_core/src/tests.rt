@@ -1,7 +1,7 @@
 //! Each public call with values that were worked out by hand, on `aioc { hi: a(1) -> b(x) }`.
 
-ghost use Rattle.std.specs.Prelude.{◌≡◌, true, IfOk};
-ghost use Rattle.dioc_terms.specs.Bundles.{IsFormed, is_identifier};
+ghost use Rattle.std.specs.Prelude.{◌≡◌, IfOk};
+ghost use Rattle.dioc_terms.specs.Bundles.{IsFormed};
 ghost use Rattle.dioc_terms.specs.Supported.{IsSupported};
 ghost use Rattle.dioc_terms.specs.Plain.{PlainBundle, plain};
 ghost use Rattle.net_core.specs.Net.{IsNetOf};
@@ -11,6 +11,7 @@ use dioc_terms::{
     Act, Bundle, Choreo, Entry, Expr, Index, Items, Key, Memory, Name, NameFault, Note, Role, Tag,
     Trace, Value, roles,
 };
+use rule_checks::accept;
 use std::alloc::Global;
 use std::process::Abort;
 use std::test::Fail;
@@ -23,9 +24,8 @@ fn role(alloc: Global, bytes: &[u8]) -> Result<Role, NameFault>
     Ok(Role(Name::read(alloc, bytes)?))
 }
 
-/// `hi: a(1) -> b(x)`, with the receiver's name in place of `b`.
-fn interaction(alloc: Global, receiver: &[u8]) -> Result<Bundle, NameFault>
-    requires { is_identifier receiver.now ≡ true }
+/// `hi: a(1) -> b(x)`.
+fn interaction(alloc: Global) -> Result<Bundle, NameFault>
     ensures formed { IfOk result (λ bundle. IsFormed (plain bundle)) }
     ensures supported { IfOk result (λ bundle. IsSupported (plain bundle)) }
 {
@@ -34,7 +34,7 @@ fn interaction(alloc: Global, receiver: &[u8]) -> Result<Bundle, NameFault>
         op: Name::read(alloc, b"hi")?,
         from: role(alloc, b"a")?,
         expr: Expr::Const(Value::Int(1)),
-        to: role(alloc, receiver)?,
+        to: role(alloc, b"b")?,
         var: Name::read(alloc, b"x")?,
     };
     let cast = roles(alloc, &choreo)?;
@@ -65,8 +65,8 @@ struct Trial {
 fn start(alloc: Global, limit: u64) -> Result<Trial, Fail>
     ensures { IfOk result (λ trial. IsNetOf (plain trial.bundle) trial.net) }
 {
-    let bundle = interaction(alloc, b"b")?;
-    accept(&bundle)?;
+    let bundle = interaction(alloc)?;
+    accept(alloc, &bundle)?;
     let net = Net::start(alloc, &bundle, limit)?;
     Ok(Trial { bundle, net })
 }
@@ -140,25 +140,6 @@ fn take_entry(alloc: Global) -> Result<Entry, NameFault> {
         key: key(alloc, 0)?,
         var: Some(Name::read(alloc, b"x")?),
     })
-}
-
-fn to_oneself(alloc: Global) -> Result<Bundle, NameFault>
-    ensures formed { IfOk result (λ bundle. IsFormed (plain bundle)) }
-    ensures supported { IfOk result (λ bundle. IsSupported (plain bundle)) }
-{
-    interaction(alloc, b"a")
-}
-
-#[test]
-fn refuses_a_message_to_oneself(rt: HostRuntime) -> Result<(), Fail> {
-    let bundle = to_oneself(rt.alloc())?;
-    assert!(&rt;
-        matches!(
-            accept(&bundle),
-            Err(Refusal::SelfMessage(Where::Program, FIRST))
-        )
-    );
-    Ok(())
 }
 
 /// A role's deed, the answer, and the number of entries after it.
