@@ -4,7 +4,7 @@ use Rattle.limits.specs.Limits.{most_bytes}
 use Rattle.dioc_terms.specs.Plain.{PlainBundle}
 use Rattle.dioc_syntax.specs.Grammar.{OneBundle, Spells}
 use Rattle.marked_laws.proofs.Shapes.{none_some}
-use Rattle.net_core.specs.declared.refusals.Refusal.{Refusal}
+use Rattle.rule_checks.specs.declared.refusals.Refusal.{Refusal}
 use Rattle.command_words.specs.declared.commands.Command.{Command}
 use Rattle.command_words.specs.declared.commands.Command.TheVariants as command
 use Rattle.aioc_top.specs.Replies.{Reply, Replies, refusal_of}

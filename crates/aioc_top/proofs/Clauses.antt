@@ -14,7 +14,7 @@ use Rattle.marked_laws.proofs.Shapes.{none_some, some_same}
 use Rattle.marked_laws.specs.Network.{Network, network_start, network_run, network_ended}
 use Rattle.net_core.specs.Headline.{EveryRun}
 use Rattle.net_core.specs.Laws.{RunsAreSound}
-use Rattle.net_core.specs.Refusals.{IsAccepted}
+use Rattle.rule_checks.specs.Refusals.{IsAccepted}
 use Rattle.command_words.specs.declared.commands.Options.{Options}
 use Rattle.command_words.specs.declared.commands.Command.{Command}
 use Rattle.command_words.specs.declared.commands.Command.TheVariants as command

@@ -3,6 +3,5 @@ pub mod Causes
 pub mod Clauses
 mod Examples
 pub mod FaultLemmas
-pub mod Pieces
 pub mod Printing
 pub mod Table

@@ -13,8 +13,8 @@ use Rattle.marked_laws.specs.Network.{Network, network_run, network_ended}
 use Rattle.trace_text.specs.Lines.{text, line_end}
 use Rattle.trace_text.specs.Json.{json_text}
 use Rattle.net_core.specs.Schedule.{sched, IsPrompt}
-use Rattle.net_core.specs.Refusals.{refusal}
-use Rattle.net_core.specs.declared.refusals.Refusal.{Refusal}
+use Rattle.rule_checks.specs.Refusals.{refusal}
+use Rattle.rule_checks.specs.declared.refusals.Refusal.{Refusal}
 use Rattle.command_words.specs.declared.commands.Options.{Options}
 use Rattle.command_words.specs.declared.commands.Command.{Command}
 use Rattle.command_words.specs.declared.commands.Command.TheVariants as command

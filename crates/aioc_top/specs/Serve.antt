@@ -8,9 +8,9 @@ use Rattle.dioc_terms.specs.declared.entries.Entry.{Entry}
 use Rattle.dioc_terms.specs.Plain.{PlainBundle}
 use Rattle.dioc_syntax.specs.Grammar.{Spells}
 use Rattle.marked_laws.specs.Network.{Network, network_ended}
-use Rattle.net_core.specs.declared.refusals.Refusal.{Refusal}
+use Rattle.rule_checks.specs.declared.refusals.Refusal.{Refusal}
 use Rattle.net_core.specs.Headline.{Headline}
-use Rattle.net_core.specs.Refusals.{IsAccepted}
+use Rattle.rule_checks.specs.Refusals.{IsAccepted}
 use Rattle.command_words.specs.declared.commands.Options.{Options}
 use Rattle.command_words.specs.declared.commands.Command.{Command}
 use Rattle.command_words.specs.declared.commands.Command.TheVariants as command

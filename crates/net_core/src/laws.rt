@@ -26,9 +26,7 @@ fn known()
 pub fn accepted_is_sound()
     ensures { AcceptedIsSound }
 {
-    dioc_terms::mentions_are_roles();
-    dioc_terms::casts_are_roles();
-    connectedness::gaps_are_found();
+    rule_checks::accepted_may_run();
 }
 
 /// A law: after any run of an accepted bundle each move of its network can be done, and there is

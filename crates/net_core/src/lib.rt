@@ -1,13 +1,10 @@
-//! The network of a bundle, stepped entry by entry, and which bundles may run.
+//! The network of a bundle, stepped entry by entry, its schedule, and what holds of its runs.
 #![tactic(auto)]
 
 mod laws;
 mod moves;
 mod network;
-mod refusals;
 mod runs;
-#[cfg(test)]
-mod tests;
 
 pub use laws::{
     accepted_is_sound, every_run, moves_are_steps, runs_are_sound, schedules_are_prompt,
@@ -15,5 +12,4 @@ pub use laws::{
 };
 pub use moves::{Finish, Move, StepFault};
 pub use network::Net;
-pub use refusals::{Refusal, Where, Which, accept};
 pub use runs::run_first;

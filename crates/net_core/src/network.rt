@@ -8,7 +8,7 @@ ghost use Rattle.dioc_terms.specs.Supported.{IsSupported};
 ghost use Rattle.dioc_terms.specs.Plain.{PlainBundle, plain, setting};
 ghost use Rattle.marked_laws.specs.Network.{network_ended};
 ghost use Rattle.net_core.specs.Net.{IsNetOf, IsStepOf, network_of, step_fault, move_at, offer_at, put_entry, take_entry};
-ghost use Rattle.net_core.specs.Refusals.{IsAccepted};
+ghost use Rattle.rule_checks.specs.Refusals.{IsAccepted};
 ghost use Rattle.net_core.specs.Schedule.{moves};
 
 use crate::moves::{Move, StepFault};

@@ -1,8 +1,8 @@
 //! The limits of a bundle, but for those of a rule's body.
 //!
 //! The book is followed through the script by the names of its rules alone, since rules of one name
-//! never stand in it together. The count ends as soon as there are too many names, so a removal moves
-//! at most 256 of them, and the time grows with the size of the bundle.
+//! never stand in it together. The count ends as soon as there are too many names, so a removal
+//! moves at most 256 of them, and the time grows with the size of the bundle.
 
 ghost use Rattle.std.specs.Prelude.{◌≡◌, None, map, IfErr, IfOk, OnOk};
 ghost use Rattle.limits.specs.Limits.{most_nodes, most_rules};
@@ -32,7 +32,8 @@ pub(crate) fn within_limits(alloc: Global, bundle: &Bundle) -> Result<(), Refusa
 
 fn few_nodes(choreo: &Choreo) -> Result<(), Refusal>
     ensures ok { OnOk result (too_many Which.Nodes most_nodes (nodes (term choreo.now)) ≡ None) }
-    ensures refused { IfErr result (IsRefusalOf (too_many Which.Nodes most_nodes (nodes (term choreo.now)))) }
+    ensures refused { IfErr result
+        (IsRefusalOf (too_many Which.Nodes most_nodes (nodes (term choreo.now)))) }
 {
     few(Which::Nodes, nodes(choreo), MOST_NODES)
 }

@@ -24,10 +24,10 @@ use std::alloc::Global;
 /// refusal; `Memory` may come at any place.
 ///
 /// The order is: too many nodes, roles, rules at once, changes; of the inputs the first role that
-/// isn't in the cast; of the choreography the first interaction of a role with itself, and the first
-/// sequence that isn't linked; and then the refusals of the rules, rule by rule, as `admit` has
-/// them, the script's adds last. The time grows with the size of the bundle times the number of
-/// roles, of which there are at most 32 where it matters.
+/// isn't in the cast; of the choreography the first interaction of a role with itself, and the
+/// first sequence that isn't linked; and then the refusals of the rules, rule by rule, as `admit`
+/// has them, the script's adds last. The time grows with the size of the bundle times the number
+/// of roles, of which there are at most 32 where it matters.
 pub fn accept(alloc: Global, bundle: &Bundle) -> Result<(), Refusal>
     requires formed { IsFormed (plain bundle.now) }
     ensures accepted { OnOk result (IsAccepted (plain bundle.now)) }
@@ -57,7 +57,8 @@ pub fn admit(alloc: Global, bundle: &Bundle, number: u32) -> Result<(), Refusal>
 
 fn admit_body(alloc: Global, cast: &[Role], number: u32, body: &Choreo) -> Result<(), Refusal>
     ensures ok { OnOk result (first_refusal (body_tests cast.now number (term body.now)) ≡ None) }
-    ensures refused { IfErr result (IsRefusalOf (first_refusal (body_tests cast.now number (term body.now)))) }
+    ensures refused { IfErr result
+        (IsRefusalOf (first_refusal (body_tests cast.now number (term body.now)))) }
 {
     mentions_are_roles();
     let at = Where::Rule(number);
@@ -71,7 +72,8 @@ fn admit_body(alloc: Global, cast: &[Role], number: u32, body: &Choreo) -> Resul
 fn sound_program(alloc: Global, bundle: &Bundle) -> Result<(), Refusal>
     requires formed { IsFormed (plain bundle.now) }
     ensures ok { OnOk result (first_refusal (program_tests (plain bundle.now)) ≡ None) }
-    ensures refused { IfErr result (IsRefusalOf (first_refusal (program_tests (plain bundle.now)))) }
+    ensures refused { IfErr result
+        (IsRefusalOf (first_refusal (program_tests (plain bundle.now)))) }
 {
     casts_are_roles();
     let cast = bundle.cast.as_slice();
@@ -96,7 +98,8 @@ fn known_inputs(alloc: Global, inputs: &[(Role, Values)], cast: &[Role]) -> Resu
 /// Whether the cast has the roles of a rule's body.
 fn known_body(alloc: Global, at: Where, body: &Choreo, cast: &[Role]) -> Result<(), Refusal>
     ensures ok { OnOk result (unknown_role at cast.now (mentions (term body.now)) ≡ None) }
-    ensures refused { IfErr result (IsRefusalOf (unknown_role at cast.now (mentions (term body.now)))) }
+    ensures refused { IfErr result
+        (IsRefusalOf (unknown_role at cast.now (mentions (term body.now)))) }
 {
     let named = roles(alloc, body)?;
     all_known(alloc, at, named.as_slice(), cast)
@@ -207,7 +210,8 @@ fn admit_all(alloc: Global, bundle: &Bundle) -> Result<(), Refusal>
 
 fn admit_opening(alloc: Global, bundle: &Bundle) -> Result<(), Refusal>
     ensures ok { OnOk result (first_refusal (opening_tests (plain bundle.now)) ≡ None) }
-    ensures refused { IfErr result (IsRefusalOf (first_refusal (opening_tests (plain bundle.now)))) }
+    ensures refused { IfErr result
+        (IsRefusalOf (first_refusal (opening_tests (plain bundle.now)))) }
 {
     for number in 0..bundle.opening {
         admit(alloc, bundle, number)?;

@@ -5,7 +5,7 @@ ghost use Rattle.dioc_terms.specs.Messages.{is_aux, visible};
 ghost use Rattle.dioc_terms.specs.Plain.{PlainBundle, plain};
 ghost use Rattle.dioc_terms.specs.Supported.{IsSupported};
 ghost use Rattle.net_core.specs.Net.{IsNetOf};
-ghost use Rattle.net_core.specs.Refusals.{IsAccepted};
+ghost use Rattle.rule_checks.specs.Refusals.{IsAccepted};
 ghost use Rattle.net_core.specs.Runs.{Finishes};
 ghost use Rattle.trace_text.specs.Lines.{text};
 ghost use Rattle.aioc_top.specs.Replies.{reply_of, run_reply, step_history};
