@@ -6,10 +6,12 @@ mod choreographies;
 mod expressions;
 mod lexemes;
 mod links;
+mod projections;
 mod services;
 mod sizes;
 mod spellings;
 mod tokenizing;
+mod traces;
 mod values;
 
 use crate::cases::Case;
@@ -32,6 +34,10 @@ pub fn answer(alloc: Global, case: &Case) -> Result<Vec<u8>, Problem> {
         b"roles" => casts::answer(alloc, case, &mut out)?,
         b"check" => links::answer(alloc, case, &mut out)?,
         b"read_bundle" => bundles::answer(alloc, case, &mut out)?,
+        b"project" => projections::answer(alloc, case, &mut out)?,
+        b"read_trace" => traces::answer_trace(alloc, case, &mut out)?,
+        b"trace_line" => traces::answer_line(alloc, case, false, &mut out)?,
+        b"json_line" => traces::answer_line(alloc, case, true, &mut out)?,
         b"serve_alone" => services::answer(alloc, case, &mut out)?,
         _ => return Err(Problem::Bad("there is no such call")),
     }
