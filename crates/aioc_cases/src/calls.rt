@@ -10,11 +10,13 @@ mod indices;
 mod lexemes;
 mod links;
 mod nets;
+mod projections;
 mod rules;
 mod services;
 mod sizes;
 mod spellings;
 mod tokenizing;
+mod traces;
 mod values;
 mod words;
 
@@ -50,6 +52,10 @@ pub fn answer(alloc: Global, case: &Case) -> Result<Vec<u8>, Problem> {
         b"read_bundle" => bundles::answer(alloc, case, &mut out)?,
         b"net_steps" => nets::answer(alloc, case, &mut out)?,
         b"read_words" => words::answer(alloc, case, &mut out)?,
+        b"project" => projections::answer(alloc, case, &mut out)?,
+        b"read_trace" => traces::answer_trace(alloc, case, &mut out)?,
+        b"trace_line" => traces::answer_line(alloc, case, false, &mut out)?,
+        b"json_line" => traces::answer_line(alloc, case, true, &mut out)?,
         b"serve_alone" => services::answer(alloc, case, &mut out)?,
         _ => return Err(Problem::Bad("there is no such call")),
     }

@@ -4,4 +4,5 @@ pub mod Clauses
 mod Examples
 pub mod FaultLemmas
 pub mod Printing
+pub mod Projected
 pub mod Table

@@ -6,6 +6,7 @@ ghost use Rattle.dioc_terms.specs.Messages.{visible};
 ghost use Rattle.trace_book.specs.Histories.{is_of};
 
 use crate::doers::is_of;
+use aux_messages::is_aux;
 use dioc_terms::{Entry, Memory, Role};
 use std::alloc::Global;
 use std::marker::Model;
@@ -66,7 +67,7 @@ impl History {
         ensures pushed { self.new.entries ≡ self.old.entries ++ entry ∷ [] }
         ensures room_left { self.old.room ≤ self.new.room + 1 }
     {
-        let is_visible = !entry.is_aux();
+        let is_visible = !is_aux(&entry);
         if is_visible {
             self.visible_count += 1;
         }
@@ -111,7 +112,7 @@ impl History {
         let mut history = History::new(*self.entries.allocator());
         let entries = self.entries.as_slice();
         for entry in entries {
-            if !entry.is_aux() {
+            if !is_aux(entry) {
                 history.push_copy(entry)?;
             }
         }

@@ -1,0 +1,36 @@
+//! `project ROLE: TEXT`: the process of one role of a choreography.
+
+use crate::cases::Case;
+use crate::problems::Problem;
+use crate::wholes::whole_choreo;
+use dioc_terms::{Choreo, Memory, Name, NameFault, Role, casts_are_roles, roles};
+use projection::project;
+use std::alloc::Global;
+use trace_text::write_process;
+
+/// Appends the text of the role's process.
+pub fn answer(alloc: Global, case: &Case, out: &mut Vec<u8>) -> Result<(), Problem> {
+    let role = role_of(alloc, case)?;
+    let choreo = whole_choreo(alloc, case)?;
+    Ok(write_projection(alloc, &choreo, &role, out)?)
+}
+
+fn role_of(alloc: Global, case: &Case) -> Result<Role, Problem> {
+    match Name::read(alloc, case.option()?) {
+        Ok(name) => Ok(Role(name)),
+        Err(NameFault::NotAName) => Err(Problem::Bad("the role is no name")),
+        Err(NameFault::Memory) => Err(Problem::Memory),
+    }
+}
+
+fn write_projection(
+    alloc: Global,
+    choreo: &Choreo,
+    role: &Role,
+    out: &mut Vec<u8>,
+) -> Result<(), Memory> {
+    casts_are_roles();
+    let cast = roles(alloc, choreo)?;
+    let proc = project(alloc, choreo, role, cast.as_slice())?;
+    write_process(&proc, out)
+}

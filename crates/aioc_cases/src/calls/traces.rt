@@ -1,0 +1,89 @@
+//! `read_trace: TEXT`: the lines of a trace up to a `}`. `trace_line: TEXT` and `json_line: TEXT`:
+//! a line, written again as it is and as JSON.
+
+use crate::cases::Case;
+use crate::problems::Problem;
+use crate::wholes::write_place;
+use aioc_tokens::{TokenFault, tokens};
+use dioc_terms::{Entry, Memory, Trace};
+use std::alloc::Global;
+use text_pieces::{write_bytes, write_number};
+use trace_text::{TraceFault, read_trace, write_json_line, write_last, write_line};
+
+// What stands at the front of a text.
+#[derive(Drop)]
+enum Lines {
+    // The lines up to a `}`, which is the token of this number.
+    Closed(Trace, usize),
+    // The line of this number is none.
+    Bad(u64),
+    // This byte is in no token.
+    BadByte(usize),
+}
+
+fn front_lines(alloc: Global, text: &[u8]) -> Result<Lines, Problem> {
+    let found = match tokens(alloc, text) {
+        Ok(found) => found,
+        Err(TokenFault::BadByte(byte)) => return Ok(Lines::BadByte(byte)),
+        Err(TokenFault::Memory) => return Err(Problem::Memory),
+    };
+    match read_trace(alloc, text, &found, 0) {
+        Ok((trace, close)) => Ok(Lines::Closed(trace, close)),
+        Err(TraceFault::BadLine(number)) => Ok(Lines::Bad(number)),
+        Err(TraceFault::Memory) => Err(Problem::Memory),
+    }
+}
+
+/// Appends the lines as they are written, and `closed by token N`; `bad line N`; or `bad byte N`.
+pub fn answer_trace(alloc: Global, case: &Case, out: &mut Vec<u8>) -> Result<(), Problem> {
+    match front_lines(alloc, &case.text)? {
+        Lines::Closed(trace, close) => {
+            write_trace(&trace, false, out)?;
+            write_place("closed by token", close, out)?;
+        }
+        Lines::Bad(number) => {
+            write_bytes(b"bad line ", out)?;
+            write_number(number, out)?;
+        }
+        Lines::BadByte(byte) => write_place("bad byte", byte, out)?,
+    }
+    Ok(())
+}
+
+/// Appends the line as it is written, or as JSON; or `none`.
+pub fn answer_line(
+    alloc: Global,
+    case: &Case,
+    json: bool,
+    out: &mut Vec<u8>,
+) -> Result<(), Problem> {
+    let mut text = case.text.clone()?;
+    text.push(b'}')?;
+    match front_lines(alloc, &text)? {
+        Lines::Closed(trace, _) => write_trace(&trace, json, out)?,
+        _ => write_bytes(b"none", out)?,
+    }
+    Ok(())
+}
+
+fn write_trace(trace: &Trace, json: bool, out: &mut Vec<u8>) -> Result<(), Memory> {
+    for entry in trace.entries.as_slice() {
+        write_entry(entry, json, out)?;
+        write_bytes(b"\n", out)?;
+    }
+    match &trace.last {
+        Some(last) => {
+            write_last(last, json, out)?;
+            write_bytes(b"\n", out)
+        }
+        None => Ok(()),
+    }
+}
+
+fn write_entry(entry: &Entry, json: bool, out: &mut Vec<u8>) -> Result<(), Memory> {
+    if json {
+        write_json_line(entry, out)
+    } else {
+        write_line(entry, out)
+    }
+}
