@@ -1,0 +1,2 @@
+pub mod LeaderLemmas
+pub mod PlanLemmas

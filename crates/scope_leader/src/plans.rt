@@ -1,0 +1,191 @@
+//! The parts of an update.
+
+ghost use Rattle.std.specs.Prelude.{◌≡◌, ◌<◌, ◌&&◌, not, true, IfOk, filter, suc};
+ghost use Rattle.dioc_terms.specs.declared.names.Role.{Role as OneRole};
+ghost use Rattle.dioc_terms.specs.declared.processes.Tag.TheVariants.{Begin};
+ghost use Rattle.dioc_terms.specs.Equality.{member};
+ghost use Rattle.dioc_terms.specs.Processes.{process, letters, load, Part, More};
+ghost use Rattle.dioc_terms.specs.Terms.{term, is_in};
+ghost use Rattle.process_steps.specs.Steps.{key, letters_to};
+ghost use Rattle.projection.specs.Projection.{projected};
+ghost use Rattle.scope_leader.specs.Plans.{part_of, is_told, told, begins};
+
+use dioc_terms::{
+    Choreo, Key, Memory, Messages, Parts, Payload, Role, ScopeHead, Tag, give_up, new_box, stamped,
+    stamped_bodies,
+};
+use projection::project;
+use std::alloc::Global;
+
+/// The parts of an update that replaces a scope: the leader's own part of the rule's body, stamped
+/// with the update's number and one level higher than the scope, and the `!begin` messages that
+/// carry the parts of the scope's other roles, in the order of the cast. A role of the scope that
+/// the body doesn't name is told as well: its part has nothing to do.
+///
+/// The roles of the scope are in the cast, and those of the body are among them. Scopes below level
+/// 16 alone are replaced.
+pub fn plan_update(
+    alloc: Global,
+    head: &ScopeHead,
+    cast: &[Role],
+    epoch: u32,
+    body: &Choreo,
+) -> Result<Parts, Memory>
+    requires level { head.now.level < 16 }
+    requires cast { (q : OneRole) → member q head.now.roles ≡ true → member q cast.now ≡ true }
+    requires body { (q : OneRole) → is_in q (term body.now) ≡ true → member q head.now.roles
+        ≡ true }
+    ensures own { IfOk result (λ parts.
+        process parts.own ≡ part_of cast.now head.now epoch (term body.now) head.now.leader) }
+    ensures tell { IfOk result (λ parts.
+        letters parts.tell ≡ begins cast.now head.now epoch (term body.now)) }
+{
+    stamped_bodies();
+    let body = stamped(alloc, body, epoch, head.level + 1)?;
+    let parts = parts(alloc, head, cast, epoch, &body);
+    drop(body);
+    parts
+}
+
+/// The parts of a body that is stamped.
+fn parts(
+    alloc: Global,
+    head: &ScopeHead,
+    cast: &[Role],
+    epoch: u32,
+    body: &Choreo,
+) -> Result<Parts, Memory>
+    requires { (q : OneRole) → is_in q (term body.now) ≡ true → member q cast.now ≡ true }
+    ensures own { IfOk result (λ parts.
+        process parts.own ≡ projected cast.now (term body.now) head.now.leader) }
+    ensures tell { IfOk result (λ parts.
+        letters parts.tell ≡ letters_to head.now.leader (told cast.now head.now) head.now.index
+        Begin (λ q. Part epoch (projected cast.now (term body.now) q))) }
+{
+    let own = project(alloc, body, &head.leader, cast)?;
+    match begins(alloc, head, cast, cast, epoch, body) {
+        Ok(tell) => Ok(Parts { own, tell }),
+        Err(fault) => give_up(own, fault),
+    }
+}
+
+/// The messages to those of these roles that are told, with their parts of the stamped body.
+fn begins(
+    alloc: Global,
+    head: &ScopeHead,
+    roles: &[Role],
+    cast: &[Role],
+    epoch: u32,
+    body: &Choreo,
+) -> Result<Messages, Memory>
+    requires { (q : OneRole) → is_in q (term body.now) ≡ true → member q cast.now ≡ true }
+    ensures { IfOk result (λ messages.
+        letters messages ≡ letters_to head.now.leader (filter (is_told head.now) roles.now)
+        head.now.index Begin
+        (λ q. Part epoch (projected cast.now (term body.now) q))) }
+{
+    match roles {
+        [] => Ok(Messages::Nothing),
+        [role, rest @ ..] => {
+            let rest = begins(alloc, head, rest, cast, epoch, body)?;
+            if is_told(head, role) {
+                return begin(alloc, head, role, cast, epoch, body, rest);
+            }
+            Ok(rest)
+        }
+    }
+}
+
+/// Whether the role is one of the scope's, and another one leads it.
+fn is_told(head: &ScopeHead, role: &Role) -> bool
+    ensures { result ≡ is_told head.now role.now }
+{
+    is_one_of(role, head.roles.as_slice()) && *role != head.leader
+}
+
+/// Whether the role is one of these.
+fn is_one_of(role: &Role, roles: &[Role]) -> bool
+    ensures { result ≡ member role.now roles.now }
+{
+    roles.iter().any(|one| role == one)
+}
+
+/// The message with the role's part, and those after it.
+fn begin(
+    alloc: Global,
+    head: &ScopeHead,
+    role: &Role,
+    cast: &[Role],
+    epoch: u32,
+    body: &Choreo,
+    rest: Messages,
+) -> Result<Messages, Memory>
+    requires { (q : OneRole) → is_in q (term body.now) ≡ true → member q cast.now ≡ true }
+    ensures { IfOk result (λ messages.
+        letters messages ≡ More (key head.now.leader role.now head.now.index Begin)
+        (Part epoch (projected cast.now (term body.now) role.now)) (letters rest)) }
+{
+    match begin_key(alloc, head, role) {
+        Ok(key) => begin_with(alloc, key, role, cast, epoch, body, rest),
+        Err(fault) => give_up(rest, fault),
+    }
+}
+
+fn begin_with(
+    alloc: Global,
+    key: Key,
+    role: &Role,
+    cast: &[Role],
+    epoch: u32,
+    body: &Choreo,
+    rest: Messages,
+) -> Result<Messages, Memory>
+    requires { (q : OneRole) → is_in q (term body.now) ≡ true → member q cast.now ≡ true }
+    ensures { IfOk result (λ messages.
+        letters messages ≡ More key (Part epoch (projected cast.now (term body.now) role.now))
+        (letters rest)) }
+{
+    match boxed_part(alloc, role, cast, epoch, body) {
+        Ok(part) => more(alloc, key, part, rest),
+        Err(fault) => give_up((key, rest), fault),
+    }
+}
+
+/// The role's part of the body, as a message carries it.
+fn boxed_part(
+    alloc: Global,
+    role: &Role,
+    cast: &[Role],
+    epoch: u32,
+    body: &Choreo,
+) -> Result<Box<Payload>, Memory>
+    requires { (q : OneRole) → is_in q (term body.now) ≡ true → member q cast.now ≡ true }
+    ensures { IfOk result (λ part.
+        load part.value ≡ Part epoch (projected cast.now (term body.now) role.now)) }
+{
+    let proc = project(alloc, body, role, cast)?;
+    new_box(alloc, Payload::Part { epoch, proc })
+}
+
+/// The message, and those after it.
+fn more(alloc: Global, key: Key, payload: Box<Payload>, rest: Messages) -> Result<Messages, Memory>
+    ensures { IfOk result (λ messages.
+        letters messages ≡ More key (load payload.value) (letters rest)) }
+{
+    match new_box(alloc, rest) {
+        Ok(rest) => Ok(Messages::More(key, payload, rest)),
+        Err(fault) => give_up((key, payload), fault),
+    }
+}
+
+/// The key of the message that tells the role the begin of the scope.
+fn begin_key(alloc: Global, head: &ScopeHead, role: &Role) -> Result<Key, Memory>
+    ensures { IfOk result (λ made. made ≡ key head.now.leader role.now head.now.index Begin) }
+{
+    Ok(Key {
+        from: head.leader.copy(alloc)?,
+        to: role.copy(alloc)?,
+        index: head.index,
+        tag: Tag::Begin,
+    })
+}
