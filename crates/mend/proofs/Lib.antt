@@ -1,0 +1,13 @@
+mod Apart
+mod Beside
+mod Books
+mod Connecting
+mod Dropping
+mod Erased
+mod Finding
+mod Keeping
+mod Lessening
+mod Rows
+mod Simulation
+mod TraceRows
+mod Unmending

@@ -1,0 +1,5 @@
+pub mod Dropped
+pub mod Laws
+pub mod Mended
+pub mod Names
+pub mod Traces
