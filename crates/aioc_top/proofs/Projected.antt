@@ -11,11 +11,11 @@ use Rattle.dioc_terms.specs.Processes.{Process}
 use Rattle.dioc_terms.specs.Terms as term
 use Rattle.dioc_terms.specs.Terms.{Term, is_in, nodes, others, head_of}
 use Rattle.projection.specs.Projection.{projected}
-use Rattle.net_core.specs.declared.refusals.Refusal.{Refusal}
-use Rattle.net_core.specs.declared.refusals.Refusal.TheVariants.{TooMany}
-use Rattle.net_core.specs.declared.refusals.Which.{Which}
-use Rattle.net_core.specs.declared.refusals.Which.TheVariants.{Nodes}
-use Rattle.net_core.specs.Refusals.{IsAccepted, first_refusal, refusal, too_many}
+use Rattle.rule_checks.specs.declared.refusals.Refusal.{Refusal}
+use Rattle.rule_checks.specs.declared.refusals.Refusal.TheVariants.{TooMany}
+use Rattle.rule_checks.specs.declared.refusals.Which.{Which}
+use Rattle.rule_checks.specs.declared.refusals.Which.TheVariants.{Nodes}
+use Rattle.rule_checks.specs.Refusals.{IsAccepted, first_refusal, refusal, too_many}
 use Rattle.trace_text.specs.Process.{has_text}
 
 both : (a b : Bool) → a ≡ true → b ≡ true → (a && b) ≡ true

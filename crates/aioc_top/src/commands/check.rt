@@ -2,7 +2,7 @@
 
 ghost use Rattle.std.specs.Prelude.{◌≡◌, IfOk};
 ghost use Rattle.dioc_terms.specs.Plain.{plain};
-ghost use Rattle.net_core.specs.Refusals.{IsAccepted};
+ghost use Rattle.rule_checks.specs.Refusals.{IsAccepted};
 ghost use Rattle.aioc_top.specs.Replies.{check_line, done, reply_of};
 
 use crate::replies::{End, Written};
