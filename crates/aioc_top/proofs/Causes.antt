@@ -14,6 +14,8 @@ use Rattle.aioc_top.specs.Words.{is_built}
 -- a command that is built has one reply to a bundle
 pub one_reply : (found : Command) (b : PlainBundle) (reply other : Reply) → is_built found ≡ true → Replies found b reply → Replies found b other → reply ≡ other
 one_reply (command.Step options) b reply other built h k = h ∙ sym k
+one_reply command.Check b reply other built h k = h ∙ sym k
+one_reply command.Project b reply other built h k = h ∙ sym k
 one_reply _ b reply other built h k = absurd (true≢false (sym built))
 
 -- bytes that spell a bundle are not too many

@@ -19,8 +19,8 @@ use Rattle.command_words.specs.declared.commands.Options.{Options}
 use Rattle.command_words.specs.declared.commands.Command.{Command}
 use Rattle.command_words.specs.declared.commands.Command.TheVariants as command
 use Rattle.aioc_top.specs.Calls.{Call, Judges, Happens, IsRead, ReadsTo, Says, Writes}
-use Rattle.aioc_top.specs.Replies.{Reply, Replies, is_finished, refusal_of, run_reply, step_history}
-use Rattle.aioc_top.specs.Serve.{ComesExactly, Complete, GivesUp, HeadlineHolds, PartPrinted, ReadsAll, RunPrinted, SaysWhy, Silent, StepText, UsageComes, has_printed}
+use Rattle.aioc_top.specs.Replies.{Reply, Replies, is_finished, refusal_of, run_reply, step_history, line_of_text, check_line, project_text as project_lines}
+use Rattle.aioc_top.specs.Serve.{CheckText, ComesExactly, Complete, GivesUp, HeadlineHolds, PartPrinted, ProjectText, ReadsAll, RunPrinted, SaysWhy, Silent, StepText, TextPrinted, UsageComes, has_printed}
 use Rattle.aioc_top.specs.Verdicts.{Verdict, TooLong, Unspelled, Refused, Replied, MayReply, Cause, Comes, status_of, status_of_end}
 use Rattle.aioc_top.specs.Words.{is_built}
 use Rattle.aioc_top.specs.declared.replies.End.{End}
@@ -239,6 +239,13 @@ module _ (one : OneBundle) (call : Call) (all_built : (found : Command) → call
       by status.Syntax h = answered status.Syntax h
       by status.Refused h = answered status.Refused h
 
+-- a status that prints tells a verdict
+printing : (t : Status) → has_printed t ≡ true → tells_verdict t ≡ true
+printing status.Done e = refl
+printing status.Limit e = refl
+printing status.No e = refl
+printing _ e = absurd (true≢false (sym e))
+
 -- ---- the text of a run
 
 -- how a run's reply ends, where the network after it is known
@@ -296,9 +303,32 @@ module _ (formed : SpelledAreFormed) (every : EveryRun) (sound : RunsAreSound) (
       let its = reply_told call s prints (told call s (printing s prints) h) in
       let command : its.1.command ≡ command.Step options = some_same (sym its.1.asked ∙ is) in
       run_printed its.1.bytes call.source call.out call.out_after s its.0 its.1.read (subst (λ c. MayReply c its.1.bytes its.0) command its.1.comes) its.2 its.3
-    where
-      printing : (t : Status) → has_printed t ≡ true → tells_verdict t ≡ true
-      printing status.Done e = refl
-      printing status.Limit e = refl
-      printing status.No e = refl
-      printing _ e = absurd (true≢false (sym e))
+
+-- ---- the text of a command that says something of a bundle
+
+-- what was printed is the text of an accepted bundle, where each reply of the command is that text
+module _ (formed : SpelledAreFormed) (wanted : Command) (text_of : PlainBundle → List ℕ)
+    (only : (b : PlainBundle) (reply : Reply) → Replies wanted b reply → reply ≡ record { end = end.Done; text = text_of b }) where
+  pub text_printed : (call : Call) (s : Status) → Happens call s → call.asked ≡ Some wanted → has_printed s ≡ true
+      → TextPrinted text_of s call.source call.out call.out_after
+  text_printed call s h is prints =
+      let its = reply_told call s prints (told call s (printing s prints) h) in
+      let same : its.1.command ≡ wanted = some_same (sym its.1.asked ∙ is) in
+      let comes : MayReply wanted its.1.bytes its.0 = subst (λ c. MayReply c its.1.bytes its.0) same its.1.comes in
+      let b = comes.bundle in
+      let replies = only b its.0 comes.replies in
+      record {
+        bytes = its.1.bytes;
+        read = its.1.read;
+        bundle = b;
+        spells = comes.spells;
+        accepted = record { formed = formed its.1.bytes b comes.spells; no_refusal = comes.accepted };
+        printed = subst (λ (r : Reply). Appends call.out.taken call.out_after.taken r.text) replies its.3;
+        done = its.2 ∙ ap (λ (r : Reply). status_of_end r.end) replies;
+      }
+
+pub check_text : SpelledAreFormed → (call : Call) (s : Status) → Happens call s → CheckText call.asked s call.source call.out call.out_after
+check_text formed call s h is prints = text_printed formed command.Check (λ b. line_of_text (check_line b)) (λ b reply e. e) call s h is prints
+
+pub project_text : SpelledAreFormed → (call : Call) (s : Status) → Happens call s → ProjectText call.asked s call.source call.out call.out_after
+project_text formed call s h is prints = text_printed formed command.Project project_lines (λ b reply e. e) call s h is prints

@@ -10,7 +10,7 @@ use Rattle.dioc_terms.specs.Plain.{PlainBundle}
 use Rattle.net_core.proofs.Examples.{program, hello, hello_run, put, take_op, at, val}
 use Rattle.command_words.specs.declared.commands.Options.{Options}
 use Rattle.aioc_top.specs.declared.replies.End.TheVariants as end
-use Rattle.aioc_top.specs.Replies.{Reply, run_reply, step_history, check_line, replay_reply, gen_line, line_of_text}
+use Rattle.aioc_top.specs.Replies.{Reply, run_reply, step_history, check_line, project_text, replay_reply, gen_line, line_of_text}
 
 -- `aioc { hi: a(1) -> b(x) }`
 abbrev greeting : PlainBundle
@@ -57,6 +57,10 @@ step-json = refl
 check-accepts : check_line greeting ≡ codes "accepted: roles 2, nodes 1, rules 0, changes 0"
 unfolding digits
 check-accepts = refl
+
+project-shows : project_text greeting ≡ lines_of (codes "a = hi#0.0(1) to b" ∷ codes "b = hi#0.0(x) from a" ∷ [])
+unfolding digits
+project-shows = refl
 
 -- a whole trace, one entry too few where the section says that it has ended, one that isn't played, and none at all
 replay-yes : replay_reply (judged hello_run (Some (last.Ended 2))) ≡ record { end = end.Done; text = line_of_text (codes "yes 2") }

@@ -5,4 +5,5 @@ mod Examples
 pub mod FaultLemmas
 pub mod Pieces
 pub mod Printing
+pub mod Projected
 pub mod Table

@@ -5,8 +5,7 @@ use Rattle.std.specs.Option.{option_map_or}
 use Rattle.dioc_terms.specs.declared.entries.Entry.{Entry}
 use Rattle.dioc_terms.specs.declared.bundles.Last.{Last}
 use Rattle.dioc_terms.specs.Plain.{PlainBundle, setting}
-use Rattle.trace_text.specs.Json.{json_text}
-use Rattle.trace_text.specs.Lines.{text}
+use Rattle.trace_text.specs.Runs.{run_text}
 use Rattle.marked_laws.specs.Network.{Network, network_run, network_start, network_ended}
 use Rattle.net_core.specs.declared.moves.Finish.{Finish}
 use Rattle.net_core.specs.declared.moves.Finish.TheVariants as finish
@@ -18,8 +17,8 @@ use Rattle.net_core.proofs.NetLemmas.{network_is, runs_at}
 use Rattle.command_words.specs.declared.commands.Options.{Options}
 use Rattle.aioc_top.specs.declared.replies.End.TheVariants as end
 use Rattle.aioc_top.specs.declared.replies.Written.{Written}
-use Rattle.aioc_top.specs.Replies.{Reply, reply_of, run_reply, run_text, shown, last_of, is_finished, step_history}
-use Rattle.aioc_top.specs.Endings.{end_of, last_for, printed}
+use Rattle.aioc_top.specs.Replies.{Reply, reply_of, run_reply, last_of, is_finished, step_history}
+use Rattle.aioc_top.specs.Endings.{end_of, last_for}
 
 network_runs : (b : PlainBundle) (net : NetState) → IsNetOf b net → network_run b net.history ≡ Some (network_of b net)
 network_runs b net is = ap (network_run b) is.history ∙ runs_at b net (computes b net is) net.phase ∙ ap Some (sym (network_is b net is))
@@ -53,16 +52,15 @@ finished_by b old new how finishes =
     ap (λ o. option_map_or (network_ended b.cast) o false) (network_runs b new finishes.net) ∙ ended_by b old new how finishes
 
 pub replied : (options : Options) (b : PlainBundle) (old new : NetState) (how : Finish) (written : Written)
-    → options.seed ≡ None → options.json ≡ false → old.history ≡ [] → old.limit ≡ options.steps → Finishes b old new how → written.end ≡ end_of how
-    → written.text.items ≡ text (printed options.aux new.history) (last_for how (length new.history))
+    → options.seed ≡ None → old.history ≡ [] → old.limit ≡ options.steps → Finishes b old new how → written.end ≡ end_of how
+    → written.text.items ≡ run_text options.aux options.json new.history (last_for how (length new.history))
     → reply_of written ≡ run_reply options b (step_history options b)
-replied options b old new how written no_seed no_json none limit finishes ends wrote =
+replied options b old new how written no_seed none limit finishes ends wrote =
     let H = step_history options b in
     let history : new.history ≡ H = history_is options b old new how no_seed none limit finishes in
     let over : is_end how ≡ is_finished b H = sym (finished_by b old new how finishes) ∙ ap (is_finished b) history in
     let end_is : written.end ≡ (if is_finished b H then end.Done else end.Limit) = ends ∙ end_by how ∙ ap (λ t. if t then end.Done else end.Limit) over in
-    let text_is : written.text.items ≡ run_text options H (last_of (is_finished b H) (length H)) =
-    wrote ∙ (λ j. text (printed options.aux (history j)) (last_for how (length (history j))))
-    ∙ ap (text (shown options H)) (last_by how (length H) ∙ ap (λ t. last_of t (length H)) over)
-    ∙ ap (λ json. if json then json_text (shown options H) (last_of (is_finished b H) (length H)) else text (shown options H) (last_of (is_finished b H) (length H))) (sym no_json) in
+    let text_is : written.text.items ≡ run_text options.aux options.json H (last_of (is_finished b H) (length H)) =
+    wrote ∙ (λ j. run_text options.aux options.json (history j) (last_for how (length (history j))))
+    ∙ ap (run_text options.aux options.json H) (last_by how (length H) ∙ ap (λ t. last_of t (length H)) over) in
     λ j. record { end = end_is j; text = text_is j }

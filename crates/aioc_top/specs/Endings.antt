@@ -1,9 +1,7 @@
 -- How the end of a run of the machine is told.
-use Rattle.std.specs.Prelude.{ℕ, List, Bool, if◌then◌else◌}
-use Rattle.dioc_terms.specs.declared.entries.Entry.{Entry}
+use Rattle.std.specs.Prelude.{ℕ}
 use Rattle.dioc_terms.specs.declared.bundles.Last.{Last}
 use Rattle.dioc_terms.specs.declared.bundles.Last.TheVariants as last
-use Rattle.dioc_terms.specs.Messages.{visible}
 use Rattle.net_core.specs.declared.moves.Finish.{Finish}
 use Rattle.net_core.specs.declared.moves.Finish.TheVariants as finish
 use Rattle.aioc_top.specs.declared.replies.End.{End}
@@ -16,7 +14,3 @@ end_of finish.Limit = end.Limit
 abbrev pub last_for : Finish → ℕ → Last
 last_for finish.Ended n = last.Ended n
 last_for finish.Limit n = last.Stopped n
-
--- all entries, or the visible ones alone
-abbrev pub printed : Bool → List Entry → List Entry
-printed aux entries = if aux then entries else visible entries

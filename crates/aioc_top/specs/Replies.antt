@@ -1,17 +1,20 @@
 -- What each command may answer to an accepted bundle: how it ends, and its text.
-use Rattle.std.specs.Prelude.{◌≡◌, ◌⊎◌, ◌≤◌, ℕ, suc, List, ◌∷◌, [], ◌++◌, length, Bool, true, false, Option, Some, None, if◌then◌else◌, codes, decimal}
+use Rattle.std.specs.Prelude.{◌≡◌, ◌⊎◌, ◌≤◌, ℕ, suc, List, ◌∷◌, [], ◌++◌, length, Bool, true, false, Option, Some, None, if◌then◌else◌, codes, decimal, flat_map}
 use Rattle.std.specs.Option.{option_map_or}
+use Rattle.dioc_terms.specs.declared.names.Role.{Role}
 use Rattle.dioc_terms.specs.declared.entries.Entry.{Entry}
 use Rattle.dioc_terms.specs.declared.bundles.Last.{Last}
 use Rattle.dioc_terms.specs.declared.bundles.Last.TheVariants as last
 use Rattle.dioc_terms.specs.Messages.{visible}
 use Rattle.dioc_terms.specs.Plain.{PlainBundle}
-use Rattle.dioc_terms.specs.Terms.{nodes}
+use Rattle.dioc_terms.specs.Terms.{Term, nodes}
+use Rattle.projection.specs.Projection.{projected}
 use Rattle.global_steps.specs.Follow.{State, play, stray}
 use Rattle.global_steps.specs.Running as running
 use Rattle.marked_laws.specs.Network.{Network, network_run, network_ended}
-use Rattle.trace_text.specs.Lines.{text, line_end}
-use Rattle.trace_text.specs.Json.{json_text}
+use Rattle.trace_text.specs.Lines.{line_end}
+use Rattle.trace_text.specs.Process.{process_text}
+use Rattle.trace_text.specs.Runs.{run_text}
 use Rattle.net_core.specs.Schedule.{sched, IsPrompt}
 use Rattle.net_core.specs.Refusals.{refusal}
 use Rattle.net_core.specs.declared.refusals.Refusal.{Refusal}
@@ -36,23 +39,15 @@ reply_of written = record { end = written.end; text = written.text.items }
 abbrev pub is_finished : PlainBundle → List Entry → Bool
 is_finished b H = option_map_or (network_ended b.cast) (network_run b H) false
 
--- the entries of a history that are printed
-abbrev pub shown : Options → List Entry → List Entry
-shown options H = if options.aux then H else visible H
-
 -- the last line counts all entries
 abbrev pub last_of : Bool → ℕ → Last
 last_of finished n = if finished then last.Ended n else last.Stopped n
-
-abbrev pub run_text : Options → List Entry → Last → List ℕ
-run_text options H last_line =
-    if options.json then json_text (shown options H) last_line else text (shown options H) last_line
 
 -- the reply that prints a history
 abbrev pub run_reply : Options → PlainBundle → List Entry → Reply
 run_reply options b H = record {
   end = if is_finished b H then end.Done else end.Limit;
-  text = run_text options H (last_of (is_finished b H) (length H));
+  text = run_text options.aux options.json H (last_of (is_finished b H) (length H));
 }
 
 -- the history of `step`: the run that the schedule takes
@@ -118,6 +113,15 @@ gen_line number size b H updates = codes "gen " ++ decimal number ++ codes " " +
     ++ decimal (length (visible H))
     ++ codes ", updates " ++ decimal updates ++ codes ", played yes"
 
+-- ---- a line for each role
+
+abbrev pub role_line : List Role → Term → Role → List ℕ
+role_line cast I r = line_of_text (r.0 ++ codes " = " ++ process_text (projected cast I r))
+
+-- the process of each role of the cast, in its order
+abbrev pub project_text : PlainBundle → List ℕ
+project_text b = flat_map (role_line b.cast b.choreo) b.cast
+
 -- ---- all commands
 
 -- the first refusal of a command that reads one bundle
@@ -130,5 +134,6 @@ Replies (command.Step options) b reply = reply ≡ run_reply options b (step_his
 Replies (command.Run options) b reply =
     (H : List Entry) × IsThreadRun b options.steps H × (reply ≡ run_reply options b H)
 Replies command.Check b reply = reply ≡ done (check_line b)
+Replies command.Project b reply = reply ≡ record { end = end.Done; text = project_text b }
 Replies command.Replay b reply = reply ≡ replay_reply b
 Replies _ b reply = ⊥

@@ -16,7 +16,7 @@ use Rattle.command_words.specs.declared.commands.Command.{Command}
 use Rattle.command_words.specs.declared.commands.Command.TheVariants as command
 use Rattle.aioc_top.specs.Calls.{IsRead, SaysLine}
 use Rattle.aioc_top.specs.Messages.{usage_line, read_fault_line, write_fault_line, too_long_line, memory_line, syntax_line, refusal_line}
-use Rattle.aioc_top.specs.Replies.{Reply, Replies, refusal_of, run_reply, step_history}
+use Rattle.aioc_top.specs.Replies.{Reply, Replies, refusal_of, run_reply, step_history, line_of_text, check_line, project_text}
 use Rattle.aioc_top.specs.Verdicts.{Replied, Comes, Cause, MayReply, Refuses, status_of_end}
 use Rattle.aioc_top.specs.declared.status.Status.{Status}
 use Rattle.aioc_top.specs.declared.status.Status.TheVariants as status
@@ -59,6 +59,30 @@ abbrev pub HeadlineHolds : Option Command → Status → SourceState → SinkSta
 HeadlineHolds asked result source out out_after =
     (options : Options) → asked ≡ Some (command.Step options) → has_printed result ≡ true
     → RunPrinted options result source out out_after
+
+-- The text of a command that says something of a bundle was printed: that of an accepted bundle
+-- which the bytes spell, and these are the source's where it tells them.
+pub record TextPrinted (text_of : PlainBundle → List ℕ) (result : Status) (source : SourceState)
+    (out out_after : SinkState) : Type 0 where
+  pub bytes : List ℕ
+  pub read : IsRead source bytes
+  pub bundle : PlainBundle
+  pub spells : Spells bytes bundle
+  pub accepted : IsAccepted bundle
+  pub printed : Appends out.taken out_after.taken (text_of bundle)
+  pub done : result ≡ status.Done
+
+-- with `check` it is the line that tells how large the bundle is
+abbrev pub CheckText : Option Command → Status → SourceState → SinkState → SinkState → Type 0
+CheckText asked result source out out_after =
+    asked ≡ Some command.Check → has_printed result ≡ true
+    → TextPrinted (λ b. line_of_text (check_line b)) result source out out_after
+
+-- with `project` a line for each role
+abbrev pub ProjectText : Option Command → Status → SourceState → SinkState → SinkState → Type 0
+ProjectText asked result source out out_after =
+    asked ≡ Some command.Project → has_printed result ≡ true
+    → TextPrinted project_text result source out out_after
 
 -- memory ran out, or a device failed: nothing in the bytes makes it come
 abbrev pub GivesUp : Status → Type 0

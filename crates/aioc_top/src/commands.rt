@@ -1,3 +1,5 @@
 //! The commands: one module for each, from an accepted bundle to its text.
 
+pub mod check;
+pub mod project;
 pub mod step;

@@ -11,6 +11,8 @@ ghost use Rattle.aioc_top.specs.Replies.{Replies, reply_of};
 ghost use Rattle.aioc_top.specs.Verdicts.{Comes, Replied, IsReplied};
 ghost use Rattle.aioc_top.specs.Words.{is_built};
 
+use crate::commands::check::check;
+use crate::commands::project::project;
 use crate::commands::step::step;
 use crate::faults::{Fault, make_refusal_line, make_syntax_line};
 use crate::replies::Written;
@@ -82,6 +84,8 @@ fn do_command(alloc: Global, command: &Command, bundle: &Bundle) -> Result<Writt
 {
     match command {
         Command::Step(options) => step(alloc, options, bundle),
+        Command::Check => check(alloc, bundle),
+        Command::Project => project(alloc, bundle),
         _ => unreachable!(),
     }
 }

@@ -8,7 +8,7 @@ ghost use Rattle.net_core.specs.Laws.{RunsAreSound};
 ghost use Rattle.aioc_top.specs.Calls.{Happens, PrintsReply, SaysLine};
 ghost use Rattle.aioc_top.specs.Faults.{line_of, status_of};
 ghost use Rattle.aioc_top.specs.Replies.{reply_of};
-ghost use Rattle.aioc_top.specs.Serve.{ComesExactly, Complete, HeadlineHolds, ReadsAll, SaysWhy, Silent, StepText, UsageComes};
+ghost use Rattle.aioc_top.specs.Serve.{CheckText, ComesExactly, Complete, HeadlineHolds, ProjectText, ReadsAll, SaysWhy, Silent, StepText, UsageComes};
 ghost use Rattle.aioc_top.specs.Words.{asked, is_built};
 ghost use Rattle.command_words.specs.Commands.{spelled};
 
@@ -42,16 +42,23 @@ pub fn serve_alone<S: Source, O: Sink, E: Sink>(
     ensures step_text { StepText (asked (spelled words.now)) result (S.state source.old)
         (O.state out.old) (O.state out.new) }
 
-    // The headline of the history behind that text: the choreography itself plays it, with the same
-    // changes at the same places; no two pending messages can be confused; nothing gets stuck. And
-    // so it is of every run of an accepted bundle.
+    // With `check` the line that says how large the bundle is, with `project` a line for each role.
+    ensures check_text { CheckText (asked (spelled words.now)) result (S.state source.old)
+        (O.state out.old) (O.state out.new) }
+    ensures project_text { ProjectText (asked (spelled words.now)) result (S.state source.old)
+        (O.state out.old) (O.state out.new) }
+
+    // The headline of the history behind the text of `step`: the choreography itself plays it, with
+    // the same changes at the same places; no two pending messages can be confused; nothing gets
+    // stuck. And so it is of every run of an accepted bundle.
     ensures headline { HeadlineHolds (asked (spelled words.now)) result (S.state source.old)
         (O.state out.old) (O.state out.new) }
     ensures every_run { EveryRun }
 
     // When each status comes.
     ensures usage { UsageComes result (asked (spelled words.now)) }
-    ensures done { ComesExactly Status.Done result (asked (spelled words.now)) (S.state source.old) }
+    ensures done { ComesExactly Status.Done result (asked (spelled words.now))
+        (S.state source.old) }
     ensures limit { ComesExactly Status.Limit result (asked (spelled words.now))
         (S.state source.old) }
     ensures no { ComesExactly Status.No result (asked (spelled words.now)) (S.state source.old) }

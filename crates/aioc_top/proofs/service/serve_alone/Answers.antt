@@ -9,6 +9,12 @@ pub returns-clause-step_text : goal.returns-clause-step_text
 returns-clause-step_text g c options is prints =
     clauses.step_text c.know_laws.ensures.formed c.know_laws.ensures.every_run c.know_laws.ensures.sound options _ c.do_words.result c.do_words.ensures is prints
 
+pub returns-clause-check_text : goal.returns-clause-check_text
+returns-clause-check_text g c = clauses.check_text c.know_laws.ensures.formed _ c.do_words.result c.do_words.ensures
+
+pub returns-clause-project_text : goal.returns-clause-project_text
+returns-clause-project_text g c = clauses.project_text c.know_laws.ensures.formed _ c.do_words.result c.do_words.ensures
+
 pub returns-clause-headline : goal.returns-clause-headline
 returns-clause-headline g c options is prints =
     (clauses.step_text c.know_laws.ensures.formed c.know_laws.ensures.every_run c.know_laws.ensures.sound options _ c.do_words.result c.do_words.ensures is prints).0
