@@ -1,11 +1,11 @@
 -- Who begins a part, and who is in each group that ends one, asked by recursion: what the code asks is what the definitions say.
-use Rattle.std.proofs.Common.{◌≡◌, List, [], ◌∷◌, ◌++◌, Bool, true, false, ◌&&◌, if◌then◌else◌, refl, sym, ap, ap₂, ◌∙◌}
+use Rattle.std.proofs.Common.{◌≡◌, List, Bool, true, false, ◌&&◌, if◌then◌else◌, refl, sym, ap₂, ◌∙◌}
 use Rattle.std.specs.Prelude.{find}
 use Rattle.std.specs.List.{list_all}
 use Rattle.std.proofs.lemmas.List.Folds.{list_all-append}
 use Rattle.dioc_terms.specs.declared.names.Role.{Role}
 use Rattle.dioc_terms.specs.Terms.{Term, Skip, Com, Set, Input, Seq, Par, If, While, Scope, empty}
-use Rattle.connectedness.specs.ByCases.{begins, attends_ends}
+use Rattle.connectedness.specs.ByCases.{begins}
 use Rattle.connectedness.specs.Connected.{starters, in_each_group, linked}
 use Rattle.connectedness.specs.Laws.{RolesAtEnds}
 use Rattle.mend.specs.Building.{attended}

@@ -1,11 +1,11 @@
 -- How large a mended choreography can be.
-use Rattle.std.proofs.Common.{◌≡◌, ℕ, suc, ◌+◌, ◌*◌, ◌≤◌, List, Bool, true, false, ◌&&◌, if◌then◌else◌, Option, Some, None, refl, sym, ap, ap₂, ◌∙◌, arith}
+use Rattle.std.proofs.Common.{◌≡◌, ℕ, suc, ◌+◌, ◌*◌, ◌≤◌, List, Bool, true, false, ◌&&◌, if◌then◌else◌, Option, Some, None, refl, ap, ap₂, ◌∙◌, arith}
 use Rattle.std.proofs.lemmas.Bool.{cond_both}
 use Rattle.dioc_terms.specs.declared.names.Role.{Role}
 use Rattle.dioc_terms.specs.Equality.{role_eq}
-use Rattle.dioc_terms.specs.Terms.{Term, Skip, Com, Set, Input, Seq, Par, If, While, Scope, empty, is_in, nodes, index_at, indexed_from, constructs}
+use Rattle.dioc_terms.specs.Terms.{Term, Skip, Com, Set, Input, Seq, Par, If, While, Scope, empty, is_in, nodes, indexed_from, constructs}
 use Rattle.connectedness.specs.Connected.{linked}
-use Rattle.mend.specs.Mended.{message, told, asked, closed, opened, first_starter, through, join, joined, added, numbered, mended}
+use Rattle.mend.specs.Mended.{told, asked, closed, opened, first_starter, through, join, joined, added, numbered, mended}
 use Rattle.mend.proofs.Connecting.{closed-empty, opened-empty}
 
 -- at how many places closing may add a message

@@ -1,5 +1,5 @@
 -- What the laws say of a choreography that is mended.
-use Rattle.std.proofs.Common.{◌≡◌, List, [], Option, Some, None, refl, sym, ap, ◌∙◌}
+use Rattle.std.proofs.Common.{◌≡◌, List, [], None, sym, ap, ◌∙◌}
 use Rattle.dioc_terms.specs.declared.names.Role.{Role}
 use Rattle.dioc_terms.specs.Terms.{Term, is_in, self_messages, indexed}
 use Rattle.connectedness.specs.Connected.{connected}

@@ -1,11 +1,11 @@
 -- How building grows a term, and how far.
-use Rattle.std.proofs.Common.{◌≡◌, ℕ, suc, ◌+◌, ◌*◌, ◌≤◌, ◌<◌, List, [], ◌∷◌, Bool, true, false, ◌&&◌, if◌then◌else◌, Option, Some, None, refl, sym, ap, ap₂, ◌∙◌, subst, arith}
-use Rattle.std.proofs.lemmas.Bool.{and_parts, cond-true, cond-false, cond_both}
+use Rattle.std.proofs.Common.{suc, ◌+◌, ◌≤◌, ◌<◌, List, Bool, true, false, ◌&&◌, Option, Some, None, arith}
+use Rattle.std.proofs.lemmas.Bool.{cond_both}
 use Rattle.dioc_terms.specs.declared.names.Role.{Role}
 use Rattle.dioc_terms.specs.Equality.{role_eq}
 use Rattle.dioc_terms.specs.Terms.{Term, Skip, Com, Set, Input, Seq, Par, If, While, Scope, empty, is_in, nodes}
 use Rattle.connectedness.specs.Connected.{linked}
-use Rattle.mend.specs.Mended.{message, told, asked, closed, opened, first_starter, through, join, joined, mended}
+use Rattle.mend.specs.Mended.{told, asked, closed, opened, first_starter, through, join}
 
 told-grows : (t : Bool) (W : Term) (r k : Role) → nodes W ≤ nodes (told t W r k)
 told-grows true W r k = omega arith
