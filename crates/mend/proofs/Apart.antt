@@ -1,11 +1,8 @@
 -- No two parts side by side share an index, from the start and after each step; so an entry that one part plays, no other part does.
-use Rattle.std.proofs.Common.{◌≡◌, ℕ, suc, ◌+◌, ◌≤◌, ◌<◌, List, [], ◌∷◌, Bool, true, false, ◌&&◌, ◌||◌, not, if◌then◌else◌, Option, Some, None, refl, sym, ap, ap₂, ◌∙◌, subst, ⊎_elim, ◌⊎◌, inl, inr, arith}
-use Rattle.std.specs.Prelude.{◌==◌}
-use Rattle.std.proofs.lemmas.Bool.{and_parts, and_from, or_cases, or_left, or_right, or_parts, or_from, both_ways, cases_Bool, cond-true, cond-false, cond_both, eqb-true}
+use Rattle.std.proofs.Common.{◌≡◌, ℕ, suc, List, Bool, true, false, ◌&&◌, ◌||◌, not, if◌then◌else◌, Some, refl, sym, ap, ap₂, ◌∙◌, ⊎_elim, ◌⊎◌, inl, inr}
+use Rattle.std.proofs.lemmas.Bool.{or_left, or_right, both_ways}
 use Rattle.dioc_terms.specs.declared.names.Role.{Role}
 use Rattle.dioc_terms.specs.declared.names.Index.{Index}
-use Rattle.dioc_terms.specs.declared.values.Value.{Value}
-use Rattle.dioc_terms.specs.declared.processes.Key.{Key}
 use Rattle.dioc_terms.specs.declared.processes.ScopeHead.{ScopeHead}
 use Rattle.dioc_terms.specs.declared.entries.Entry.{Entry}
 use Rattle.dioc_terms.specs.declared.entries.Entry.TheVariants as entry
@@ -19,8 +16,8 @@ use Rattle.dioc_terms.specs.Stores.{Store, next_input}
 use Rattle.dioc_terms.specs.Terms as term
 use Rattle.dioc_terms.specs.Terms.{Term, is_in, at_epoch, index_at, indexed, indexed_from, stamped, constructs, head_of}
 use Rattle.dioc_terms.specs.Values.{eval, is_true}
-use Rattle.global_steps.specs.Running.{Running, Skip, Com, Set, Input, Seq, Par, If, While, Scope, Fly, Bar, Again, started, ended, light, is_due}
-use Rattle.global_steps.specs.Follow.{Effect, Leaves, Assigns, Reads, BookChoice, KeepsBody, TakesRule, operation, is_doer_due, while_plays, scope_plays, plays}
+use Rattle.global_steps.specs.Running.{Running, Skip, Com, Set, Input, Seq, Par, If, While, Scope, Fly, Bar, Again, started, ended, light}
+use Rattle.global_steps.specs.Follow.{Effect, Leaves, BookChoice, KeepsBody, TakesRule, operation, is_doer_due, while_plays, scope_plays, plays}
 
 -- Attempts
 pub when_does : {D A : Type 0} (t : Bool) (m : Attempt D A) (c : D) (x : A) → when t m ≡ Does c x → (t ≡ true) × (m ≡ Does c x)

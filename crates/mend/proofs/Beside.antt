@@ -1,24 +1,24 @@
 -- The mended text lies beside the input's, with its own marks and as an update.
-use Rattle.std.proofs.Common.{◌≡◌, ℕ, suc, ◌+◌, List, [], ◌∷◌, ◌++◌, length, Bool, true, false, ◌&&◌, ◌||◌, if◌then◌else◌, Option, Some, None, refl, sym, ap, ap₂, ◌∙◌, subst, arith}
+use Rattle.std.proofs.Common.{◌≡◌, ℕ, suc, ◌+◌, List, [], ◌∷◌, ◌++◌, length, Bool, true, false, ◌&&◌, Option, Some, None, refl, sym, ap, ap₂, ◌∙◌, subst, arith}
 use Rattle.std.specs.Prelude.{codes, slice_get, unwrap_or}
 use Rattle.std.proofs.lemmas.Bool.{cond-true, cond-false, cond_both}
 use Rattle.std.proofs.lemmas.List.{length-append}
 use Rattle.dioc_terms.specs.declared.names.Role.{Role}
 use Rattle.dioc_terms.specs.declared.names.Index.{Index}
 use Rattle.dioc_terms.specs.declared.values.Value.TheVariants.{Nil}
-use Rattle.dioc_terms.specs.Equality.{role_eq, member}
+use Rattle.dioc_terms.specs.Equality.{role_eq}
 use Rattle.dioc_terms.specs.Expressions.{Const}
 use Rattle.dioc_terms.specs.TermLaws.{MentionsAreRoles, StampedBodies}
 use Rattle.dioc_terms.specs.Terms.{Term, Skip, Com, Set, Input, Seq, Par, If, While, Scope, empty, is_in, at_epoch, index_at, indexed, indexed_from, stamped, constructs}
 use Rattle.connectedness.specs.Connected.{linked}
 use Rattle.connectedness.specs.Laws.{RolesAtEnds}
 use Rattle.index_marks.specs.Indices.{indices}
-use Rattle.mend.specs.Names.{begins_sq, sq_name, variables_of, names_in, taken_name, taken_variable}
+use Rattle.mend.specs.Names.{begins_sq, sq_name, variables_of, names_in, taken_name}
 use Rattle.mend.specs.Mended.{message, told, asked, closed, opened, first_starter, through, join, joined, added, numbered, mended}
 use Rattle.mend.specs.Traces.{index_before}
 use Rattle.mend.proofs.Connecting.{joined-roles}
 use Rattle.mend.proofs.Dropping.{sq_name_begins, find_parts, first_free, rest_free}
-use Rattle.mend.proofs.Erased.{erased, nameless, erased-indexed, erased-numbered, is_in-erased}
+use Rattle.mend.proofs.Erased.{nameless, erased-indexed, erased-numbered, is_in-erased}
 use Rattle.mend.proofs.Keeping.{marked_stamped}
 use Rattle.mend.proofs.Lessening.{AddedTerm, added_seq, added_com, Mends, m_skip, m_com, m_set, m_input, m_seq, m_par, m_if, m_while, m_scope, m_before, m_behind}
 

@@ -1,8 +1,8 @@
 -- The book of the mended bundle and the input's: the same numbers in the same order, the same answers; and no two rules of a book have one name.
-use Rattle.std.proofs.Common.{◌≡◌, ℕ, zero, suc, List, [], ◌∷◌, ◌++◌, Bool, true, false, ◌&&◌, ◌||◌, not, if◌then◌else◌, filter, map, Option, Some, None, refl, sym, ap, ap₂, ◌∙◌, subst, ⊎_elim, ◌⊎◌, inl, inr}
+use Rattle.std.proofs.Common.{◌≡◌, ℕ, zero, suc, List, [], ◌∷◌, Bool, true, false, ◌&&◌, not, if◌then◌else◌, filter, map, Option, Some, None, refl, sym, ap, ap₂, ◌∙◌, subst, ⊎_elim}
 use Rattle.std.specs.Prelude.{◌==◌, find, slice_get, option_map, nat_lt, unwrap_or}
 use Rattle.std.specs.List.{list_all, list_any}
-use Rattle.std.proofs.lemmas.Bool.{and_parts, and_from, or_cases, or_left, or_right, or_parts, or_from, both_ways, cases_Bool, cond-true, cond-false, cond_both, eqb-true, eq-eqb}
+use Rattle.std.proofs.lemmas.Bool.{or_cases, or_left, or_right, or_parts, or_from, both_ways, cases_Bool, cond-true, cond-false, cond_both, eqb-true, eq-eqb}
 use Rattle.std.proofs.lemmas.Option.{slice_get-map}
 use Rattle.dioc_terms.specs.declared.names.Role.{Role}
 use Rattle.dioc_terms.specs.declared.values.Value.{Value}
@@ -11,7 +11,7 @@ use Rattle.dioc_terms.specs.declared.processes.ScopeHead.{ScopeHead}
 use Rattle.dioc_terms.specs.declared.bundles.Change.{Change}
 use Rattle.dioc_terms.specs.declared.bundles.Change.TheVariants as change
 use Rattle.dioc_terms.specs.declared.entries.Entry.{Entry}
-use Rattle.dioc_terms.specs.Equality.{role_eq, name_eq, member}
+use Rattle.dioc_terms.specs.Equality.{member}
 use Rattle.dioc_terms.specs.EqualityLemmas.{equality-decides}
 use Rattle.dioc_terms.specs.Expressions.{Expression, Const, Var, Prop, Env, Not, Neg, Bin}
 use Rattle.limits.specs.Limits.{top_level}
@@ -21,7 +21,7 @@ use Rattle.dioc_terms.specs.Stores.{Store, variable}
 use Rattle.dioc_terms.specs.TermLaws.{MentionsAreRoles}
 use Rattle.dioc_terms.specs.Terms.{Term, is_in, mentions}
 use Rattle.dioc_terms.specs.Values.{value_in, operate, negated, denied, is_true, bound, holds}
-use Rattle.global_steps.specs.Follow.{change_entry, shows}
+use Rattle.global_steps.specs.Follow.{shows}
 use Rattle.mend.specs.Names.{begins_sq, variables_of, taken_variable}
 use Rattle.mend.specs.Mended.{mended}
 use Rattle.mend.specs.Traces.{IsMendableRule, mended_rule, body_named}

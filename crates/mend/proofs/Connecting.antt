@@ -1,16 +1,16 @@
 -- Closing, opening and joining: who begins and ends what comes out, that it is connected, and its roles.
-use Rattle.std.proofs.Common.{◌≡◌, ℕ, List, [], ◌∷◌, ◌++◌, Bool, true, false, ◌&&◌, ◌||◌, if◌then◌else◌, Option, Some, None, refl, sym, ap, ap₂, ◌∙◌, subst, ⊎_elim}
-use Rattle.std.specs.Prelude.{◌↔◌, find}
+use Rattle.std.proofs.Common.{◌≡◌, List, [], ◌∷◌, ◌++◌, Bool, true, false, ◌&&◌, ◌||◌, if◌then◌else◌, Option, Some, None, refl, sym, ap, ap₂, ◌∙◌, subst, ⊎_elim}
+use Rattle.std.specs.Prelude.{find}
 use Rattle.std.specs.List.{list_all}
 use Rattle.std.proofs.lemmas.Bool.{and_parts, and_from, and_cases, or_left, or_right, or_cases, or_parts, both_ways, cases_Bool, cond-true, cond-false, cond_both}
 use Rattle.dioc_terms.specs.declared.names.Role.{Role}
 use Rattle.dioc_terms.specs.declared.names.Index.{Index}
 use Rattle.dioc_terms.specs.Equality.{role_eq, member}
 use Rattle.dioc_terms.specs.EqualityLemmas.{equality-decides}
-use Rattle.dioc_terms.specs.Terms.{Term, Skip, Com, Set, Input, Seq, Par, If, While, Scope, empty, is_in, self_messages, index_at, indexed, indexed_from}
+use Rattle.dioc_terms.specs.Terms.{Term, Skip, Com, Set, Input, Seq, Par, If, While, Scope, empty, is_in, self_messages, index_at}
 use Rattle.dioc_terms.specs.TermLaws.{MentionsAreRoles}
 use Rattle.connectedness.specs.ByCases.{begins, attends_ends}
-use Rattle.connectedness.specs.Connected.{starters, in_each_group, linked, connected}
+use Rattle.connectedness.specs.Connected.{starters, linked, connected}
 use Rattle.connectedness.specs.Laws.{RolesAtEnds, HasRoles}
 use Rattle.mend.specs.Mended.{message, told, asked, closed, opened, first_starter, through, join, joined, numbered, mended}
 use Rattle.mend.specs.Laws.{MendedConnected, StaysAsItIs}

@@ -3,10 +3,8 @@ use Rattle.std.proofs.Common.{◌≡◌, ℕ, ◌+◌, List, [], ◌∷◌, ◌+
 use Rattle.std.specs.Prelude.{find, codes, option_map}
 use Rattle.std.proofs.lemmas.Bool.{cases_Bool, cond-true, cond-false, cond_both}
 use Rattle.dioc_terms.specs.declared.names.Role.{Role}
-use Rattle.dioc_terms.specs.declared.names.Index.{Index}
 use Rattle.dioc_terms.specs.Equality.{role_eq}
-use Rattle.dioc_terms.specs.Expressions.{Expression}
-use Rattle.dioc_terms.specs.Terms.{Term, Skip, Com, Set, Input, Seq, Par, If, While, Scope, empty, is_in, indexed, indexed_from, index_at}
+use Rattle.dioc_terms.specs.Terms.{Term, Skip, Com, Set, Input, Seq, Par, If, While, Scope, empty, is_in, indexed, index_at}
 use Rattle.connectedness.specs.Connected.{linked}
 use Rattle.mend.specs.Names.{begins_sq, sq_name, variables_of, names_in, taken_name}
 use Rattle.mend.specs.Mended.{message, told, asked, closed, opened, first_starter, through, join, joined, added, numbered, mended}

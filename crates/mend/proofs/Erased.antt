@@ -1,5 +1,5 @@
 -- Terms without their marks: what is asked of them is the same, and a text's marks come back.
-use Rattle.std.proofs.Common.{◌≡◌, ℕ, suc, ◌+◌, List, [], ◌∷◌, ◌++◌, Bool, true, false, ◌&&◌, ◌||◌, if◌then◌else◌, map, refl, sym, ap, ap₂, ◌∙◌}
+use Rattle.std.proofs.Common.{◌≡◌, ℕ, suc, ◌+◌, List, [], ◌∷◌, ◌++◌, Bool, true, false, ◌&&◌, if◌then◌else◌, map, refl, sym, ap, ap₂, ◌∙◌}
 use Rattle.std.specs.List.{list_all}
 use Rattle.std.proofs.lemmas.List.{map-append}
 use Rattle.dioc_terms.specs.declared.names.Role.{Role}
@@ -8,7 +8,6 @@ use Rattle.dioc_terms.specs.Equality.{role_eq, member}
 use Rattle.dioc_terms.specs.Terms.{Term, Skip, Com, Set, Input, Seq, Par, If, While, Scope, empty, mentions, is_in, self_messages, constructs, index_at, indexed_from}
 use Rattle.dioc_terms.specs.TermLaws.{MentionsAreRoles}
 use Rattle.connectedness.specs.Connected.{starters, groups, connected}
-use Rattle.mend.specs.Names.{begins_sq}
 use Rattle.mend.specs.Mended.{added, numbered}
 
 -- the term without indices and levels, with each operation changed

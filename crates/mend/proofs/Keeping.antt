@@ -1,5 +1,5 @@
 -- Parts side by side keep sharing no index: what a step leaves has the indices that were there, and those of the next update.
-use Rattle.std.proofs.Common.{◌≡◌, ℕ, suc, ◌+◌, ◌≤◌, ◌<◌, List, [], ◌∷◌, Bool, true, false, ◌&&◌, ◌||◌, not, if◌then◌else◌, Option, Some, None, refl, sym, ap, ap₂, ◌∙◌, subst, ⊎_elim, ◌⊎◌, inl, inr, arith}
+use Rattle.std.proofs.Common.{◌≡◌, ℕ, suc, ◌+◌, ◌≤◌, ◌<◌, List, Bool, true, false, ◌&&◌, ◌||◌, not, if◌then◌else◌, refl, sym, ap, ap₂, ◌∙◌, subst, ⊎_elim, ◌⊎◌, inl, inr, arith}
 use Rattle.std.proofs.lemmas.Bool.{or_cases, or_left, or_right, both_ways, cases_Bool, cond_both}
 use Rattle.dioc_terms.specs.declared.names.Role.{Role}
 use Rattle.dioc_terms.specs.declared.names.Index.{Index}
@@ -7,9 +7,8 @@ use Rattle.dioc_terms.specs.declared.values.Value.{Value}
 use Rattle.dioc_terms.specs.declared.processes.ScopeHead.{ScopeHead}
 use Rattle.dioc_terms.specs.declared.entries.Entry.{Entry}
 use Rattle.dioc_terms.specs.declared.entries.Entry.TheVariants as entry
-use Rattle.dioc_terms.specs.declared.entries.Note.TheVariants as note
 use Rattle.dioc_terms.specs.declared.entries.Chosen.TheVariants as chosen
-use Rattle.dioc_terms.specs.Attempts.{Attempt, Stuck, Does, under, orelse, when}
+use Rattle.dioc_terms.specs.Attempts.{Does, under, when}
 use Rattle.dioc_terms.specs.Equality.{index_eq, entry_eq}
 use Rattle.dioc_terms.specs.EqualityLemmas.{equality-decides}
 use Rattle.dioc_terms.specs.Expressions.{Expression}
@@ -17,8 +16,8 @@ use Rattle.dioc_terms.specs.Stores.{Store, next_input}
 use Rattle.dioc_terms.specs.Terms as term
 use Rattle.dioc_terms.specs.Terms.{Term, is_in, at_epoch, index_at, indexed, indexed_from, stamped, constructs, head_of}
 use Rattle.dioc_terms.specs.Values.{eval, is_true}
-use Rattle.global_steps.specs.Running.{Running, Skip, Com, Set, Input, Seq, Par, If, While, Scope, Fly, Bar, Again, started, ended, light, is_due}
-use Rattle.global_steps.specs.Follow.{Effect, Leaves, Assigns, Reads, BookChoice, KeepsBody, TakesRule, operation, is_doer_due, updates_after, while_plays, scope_plays, plays}
+use Rattle.global_steps.specs.Running.{Running, Skip, Com, Set, Input, Seq, Par, If, While, Scope, Fly, Bar, Again, started, ended, light}
+use Rattle.global_steps.specs.Follow.{Effect, Leaves, Assigns, Reads, BookChoice, KeepsBody, TakesRule, is_doer_due, updates_after, while_plays, scope_plays, plays}
 use Rattle.mend.proofs.Apart.{entry_is, when_does, under_does, orelse_does, text_has, has, SingleText, Single, has_started, single_started}
 
 index_same : (i j : Index) → index_eq i j ≡ true → i ≡ j

@@ -1,5 +1,5 @@
 -- Worked rows: closing, opening, joining and mending, each as a theorem by computation.
-use Rattle.std.proofs.Common.{◌≡◌, ℕ, List, [], ◌∷◌, Option, Some, None, Bool, true, false, pos, refl}
+use Rattle.std.proofs.Common.{◌≡◌, ℕ, [], ◌∷◌, Some, false, pos, refl}
 use Rattle.std.specs.Prelude.{codes}
 use Rattle.dioc_terms.specs.declared.names.Role.{Role}
 use Rattle.dioc_terms.specs.declared.values.Value.TheVariants.{Nil, Int}

@@ -1,6 +1,6 @@
 -- One entry: where it is of an added message, the input has nothing to do; any other one the input plays too.
-use Rattle.std.proofs.Common.{◌≡◌, ℕ, suc, List, [], ◌∷◌, Bool, true, false, ◌&&◌, ◌||◌, not, if◌then◌else◌, Option, Some, None, refl, sym, ap, ap₂, ◌∙◌, subst, ⊎_elim, ◌⊎◌, inl, inr}
-use Rattle.std.proofs.lemmas.Bool.{and_parts, and_from, both_ways, cases_Bool, cond-true, cond-false, not_from_false, not-true}
+use Rattle.std.proofs.Common.{◌≡◌, ℕ, suc, List, Bool, true, false, ◌&&◌, not, if◌then◌else◌, Some, None, refl, sym, ap, ap₂, ◌∙◌, subst, ⊎_elim}
+use Rattle.std.proofs.lemmas.Bool.{and_parts, and_from, both_ways, cond-true, not_from_false, not-true}
 use Rattle.dioc_terms.specs.declared.names.Role.{Role}
 use Rattle.dioc_terms.specs.declared.names.Index.{Index}
 use Rattle.dioc_terms.specs.declared.values.Value.{Value}
@@ -12,16 +12,15 @@ use Rattle.dioc_terms.specs.declared.entries.Chosen.TheVariants as chosen
 use Rattle.dioc_terms.specs.Attempts.{Attempt, Stuck, Does, under, orelse, when}
 use Rattle.dioc_terms.specs.Equality.{entry_eq}
 use Rattle.dioc_terms.specs.Expressions.{Expression}
-use Rattle.dioc_terms.specs.Messages.{doer}
 use Rattle.dioc_terms.specs.Stores.{Store, next_input}
 use Rattle.dioc_terms.specs.Terms as term
 use Rattle.dioc_terms.specs.Terms.{Term, is_in, stamped, head_of}
 use Rattle.dioc_terms.specs.Values.{eval, is_true}
-use Rattle.global_steps.specs.Running.{Running, Skip, Com, Set, Input, Seq, Par, If, While, Scope, Fly, Bar, Again, started, ended, light, is_due}
+use Rattle.global_steps.specs.Running.{Running, Skip, Seq, Par, Fly, Bar, Again, started, ended, light}
 use Rattle.global_steps.specs.Follow.{Effect, Leaves, Assigns, Reads, BookChoice, KeepsBody, TakesRule, operation, is_doer_due, while_plays, scope_plays, plays}
 use Rattle.mend.specs.Names.{begins_sq, taken_variable}
 use Rattle.mend.specs.Traces.{is_added_entry, reindexed}
-use Rattle.mend.proofs.Apart.{when_does, under_does, orelse_does, entry_is, entry_itself, has, Single, first_stuck}
+use Rattle.mend.proofs.Apart.{when_does, under_does, orelse_does, entry_is, entry_itself, Single, first_stuck}
 use Rattle.mend.proofs.Lessening.{Mends, AddedRun, run_seq, waits, flies, is_over, Less, l_skip, l_com, l_fly, l_set, l_input, l_seq, l_par, l_if, l_while, l_again, l_scope, l_bar, l_before, l_behind, starts, less_ended, less_light, less_due}
 
 -- what an added message does to a store: nothing, or it sets a variable of its own

@@ -1,5 +1,5 @@
 -- The whole trace: the mended bundle's state and the input's go side by side.
-use Rattle.std.proofs.Common.{◌≡◌, ℕ, zero, suc, ◌+◌, ◌≤◌, List, [], ◌∷◌, ◌++◌, length, Bool, true, false, ◌&&◌, ◌||◌, not, if◌then◌else◌, filter, map, Option, Some, None, IsSome, refl, sym, ap, ap₂, ◌∙◌, subst, ⊎_elim, ◌⊎◌, inl, inr, append_assoc, arith}
+use Rattle.std.proofs.Common.{◌≡◌, ℕ, suc, ◌+◌, ◌≤◌, List, [], ◌∷◌, ◌++◌, length, Bool, true, false, ◌&&◌, ◌||◌, not, if◌then◌else◌, filter, map, Option, Some, None, IsSome, refl, sym, ap, ap₂, ◌∙◌, subst, ⊎_elim, ◌⊎◌, inl, inr, append_assoc, arith}
 use Rattle.std.specs.Prelude.{All, slice_get, option_and_then, option_map, unwrap_or, nat_le}
 use Rattle.std.specs.Option.{option_map_or}
 use Rattle.std.proofs.lemmas.Bool.{and_parts, and_from, both_ways, cases_Bool, cond-true, cond-false, not_from_true, not_from_false, le-leb}
@@ -20,22 +20,22 @@ use Rattle.dioc_terms.specs.Equality.{role_eq, name_eq, member}
 use Rattle.dioc_terms.specs.EqualityLemmas.{equality-decides}
 use Rattle.dioc_terms.specs.Expressions.{Expression}
 use Rattle.dioc_terms.specs.Plain.{PlainRule, PlainBundle, Setting, setting}
-use Rattle.dioc_terms.specs.Rules.{Book, apply, choose, is_named, opening_order}
+use Rattle.dioc_terms.specs.Rules.{Book, apply, choose}
 use Rattle.dioc_terms.specs.Stores.{Store, variable, set_variable, next_input, drop_input}
 use Rattle.dioc_terms.specs.TermLaws.{MentionsAreRoles, CastsAreRoles, StampedBodies}
 use Rattle.dioc_terms.specs.Terms.{Term, Skip, is_in, at_epoch, index_at, indexed, stamped, head_of, roles_in, cast_of}
 use Rattle.dioc_terms.specs.Terms as term
 use Rattle.dioc_terms.specs.Values.{eval}
 use Rattle.connectedness.specs.Laws.{RolesAtEnds}
-use Rattle.global_steps.specs.Running.{Running, started}
-use Rattle.global_steps.specs.Follow.{Effect, Leaves, Assigns, Reads, affected, BookChoice, KeepsBody, TakesRule, book_choice, plays, State, updated, shows, updates_after, follow_role, follow_change, follow, play_start, play_from, play}
+use Rattle.global_steps.specs.Running.{Running}
+use Rattle.global_steps.specs.Follow.{Effect, Leaves, Assigns, Reads, affected, KeepsBody, TakesRule, book_choice, plays, State, updated, shows, updates_after, follow_role, follow_change, follow, play_start, play_from}
 use Rattle.mend.specs.Laws.{MendedConnected}
 use Rattle.mend.specs.Mended.{mended}
-use Rattle.mend.specs.Names.{begins_sq, taken_name, taken_variable}
-use Rattle.mend.specs.Traces.{is_added_entry, reindexed, lessened, index_before, text_at, original, body_named, body_in, bodies_from, trace_before, untimed, at_once, IsMendable, IsMendableRule, mended_rule, mended_bundle, PlaysWithout}
-use Rattle.mend.proofs.Apart.{text_has, has, SingleText, Single, has_started, single_started}
+use Rattle.mend.specs.Names.{begins_sq, taken_variable}
+use Rattle.mend.specs.Traces.{is_added_entry, reindexed, lessened, index_before, text_at, original, body_named, body_in, bodies_from, untimed, at_once, IsMendable, IsMendableRule, mended_bundle, PlaysWithout}
+use Rattle.mend.proofs.Apart.{text_has, SingleText, Single, has_started, single_started}
 use Rattle.mend.proofs.Beside.{stamped_beside, program_beside}
-use Rattle.mend.proofs.Books.{value_same, Unique, unique_opening, unique_apply, chosen_body, none_at, some_at, same_opening, same_apply, same_shows, Alike, variable_same, same_choice}
+use Rattle.mend.proofs.Books.{value_same, Unique, unique_opening, unique_apply, chosen_body, none_at, some_at, same_opening, same_apply, same_shows, Alike, same_choice}
 use Rattle.mend.proofs.Keeping.{Old, between, single_stamped, marked_stamped, keeps}
 use Rattle.mend.proofs.Lessening.{Mends, Less, starts}
 use Rattle.mend.proofs.Simulation.{IsIdle, leaves, assigns, SameChoice, idles, goes}

@@ -1,5 +1,5 @@
 -- What holds of mended choreographies.
-use Rattle.std.specs.Prelude.{◌≡◌, ◌↔◌, ℕ, [], List, true, None}
+use Rattle.std.specs.Prelude.{◌≡◌, ◌↔◌, [], List, true, None}
 use Rattle.std.specs.List.{list_all}
 use Rattle.dioc_terms.specs.declared.names.Role.{Role}
 use Rattle.dioc_terms.specs.Equality.{role_eq}

@@ -1,3 +1,5 @@
+pub mod Building
+pub mod Calls
 pub mod Dropped
 pub mod Laws
 pub mod Mended

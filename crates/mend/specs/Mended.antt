@@ -1,6 +1,6 @@
 -- A choreography with the messages that connect it. Where a sequence isn't linked, one role is let
 -- know of each ending of the first part, and lets know whoever begins the second.
-use Rattle.std.specs.Prelude.{ℕ, suc, ◌+◌, List, Bool, ◌&&◌, ◌||◌, if◌then◌else◌, Option, Some, None, codes, find}
+use Rattle.std.specs.Prelude.{ℕ, ◌+◌, List, Bool, ◌&&◌, if◌then◌else◌, Option, Some, None, codes, find}
 use Rattle.dioc_terms.specs.declared.names.Role.{Role}
 use Rattle.dioc_terms.specs.declared.values.Value.TheVariants.{Nil}
 use Rattle.dioc_terms.specs.Equality.{role_eq, member}

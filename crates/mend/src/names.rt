@@ -56,7 +56,7 @@ fn taken(name: &Name) -> Option<&Name>
 }
 
 /// Whether a name begins with `sq_`.
-fn is_taken(name: &Name) -> bool
+pub(crate) fn is_taken(name: &Name) -> bool
     ensures { result ≡ begins_sq name.now }
 {
     name.bytes().starts_with(b"sq_")
