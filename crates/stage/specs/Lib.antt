@@ -1,0 +1,4 @@
+pub mod Owners
+pub mod Roles
+pub mod Seats
+pub mod Laws
