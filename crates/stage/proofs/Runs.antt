@@ -1,5 +1,5 @@
 -- What the entries of others leave alone, and what an own entry makes of a role.
-use Rattle.std.proofs.Common.{◌≡◌, ◌⊎◌, List, [], ◌∷◌, ◌++◌, length, Bool, true, false, ◌==◌, filter, Option, Some, None, refl, sym, ap, ap₂, ◌∙◌, subst, ⊎_elim, eq-eqb, append-nil}
+use Rattle.std.proofs.Common.{◌≡◌, List, [], ◌∷◌, ◌++◌, length, Bool, true, false, ◌==◌, filter, Option, Some, None, refl, sym, ap, ap₂, ◌∙◌, subst, ⊎_elim, eq-eqb, append-nil}
 use Rattle.std.specs.Prelude.{option_and_then}
 use Rattle.std.specs.Option.{option_map_or}
 use Rattle.std.proofs.lemmas.Bool.{cond-true, cond-false, cases_Bool}
