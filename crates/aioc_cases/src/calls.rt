@@ -1,24 +1,18 @@
 //! The calls that a case can name, each in a module of its own.
 
-mod auxiliary;
 mod bundles;
 mod casts;
 mod choreographies;
-mod copies;
 mod expressions;
-mod indices;
 mod lexemes;
 mod links;
-mod nets;
 mod projections;
-mod rules;
 mod services;
 mod sizes;
 mod spellings;
 mod tokenizing;
 mod traces;
 mod values;
-mod words;
 
 use crate::cases::Case;
 use crate::problems::Problem;
@@ -33,25 +27,13 @@ pub fn answer(alloc: Global, case: &Case) -> Result<Vec<u8>, Problem> {
         b"tokens" => tokenizing::answer(alloc, case, &mut out)?,
         b"lexemes" => lexemes::answer(alloc, case, &mut out)?,
         b"read_expr" => expressions::answer(alloc, case, &mut out)?,
-        b"eval" => values::answer_eval(alloc, case, &mut out)?,
-        b"holds" => values::answer_holds(alloc, case, &mut out)?,
+        b"eval" => values::answer(alloc, case, &mut out)?,
         b"read_choreo" => choreographies::answer(alloc, case, &mut out)?,
-        b"copy" => copies::answer_copy(alloc, case, &mut out)?,
-        b"stamped" => copies::answer_stamped(alloc, case, &mut out)?,
-        b"copy_put" => copies::answer_put(alloc, case, &mut out)?,
-        b"copy_part" => copies::answer_part(alloc, case, &mut out)?,
-        b"indices" => indices::answer(alloc, case, &mut out)?,
         b"nodes" => sizes::answer_nodes(alloc, case, &mut out)?,
         b"depth" => sizes::answer_depth(alloc, case, &mut out)?,
         b"roles" => casts::answer(alloc, case, &mut out)?,
         b"check" => links::answer(alloc, case, &mut out)?,
-        b"read_rule" => rules::answer_rule(alloc, case, &mut out)?,
-        b"read_change" => rules::answer_change(alloc, case, &mut out)?,
-        b"is_aux" => auxiliary::answer_is_aux(alloc, case, &mut out)?,
-        b"leader_plan" => auxiliary::answer_plan(alloc, case, &mut out)?,
         b"read_bundle" => bundles::answer(alloc, case, &mut out)?,
-        b"net_steps" => nets::answer(alloc, case, &mut out)?,
-        b"read_words" => words::answer(alloc, case, &mut out)?,
         b"project" => projections::answer(alloc, case, &mut out)?,
         b"read_trace" => traces::answer_trace(alloc, case, &mut out)?,
         b"trace_line" => traces::answer_line(alloc, case, false, &mut out)?,

@@ -1,12 +1,8 @@
 //! What the readers of the grammar find at the front of a text.
 
-ghost use Rattle.std.specs.Prelude.{◌≤◌, length, IfOk, IfSome};
-ghost use Rattle.aioc_tokens.specs.Lexing.{Lexes};
-ghost use Rattle.limits.specs.Limits.{greatest_place};
-
 use crate::cases::Case;
 use crate::problems::Problem;
-use aioc_tokens::{Token, TokenFault, tokens};
+use aioc_tokens::{TokenFault, tokens};
 use dioc_syntax::read_choreo;
 use dioc_terms::{Choreo, Expr, Memory, SyntaxFault};
 use expr_syntax::{ExprKind, read_expr};
@@ -32,24 +28,6 @@ pub enum Front<T> {
     Nothing(usize),
     /// This byte is in no token.
     BadByte(usize),
-}
-
-/// The tokens of a text, at most as many as a reader takes; `None` where a byte is in no token, with
-/// `bad byte N` appended.
-pub fn cut(alloc: Global, text: &[u8], out: &mut Vec<u8>) -> Result<Option<Vec<Token>>, Problem>
-    ensures tokens { IfOk result (λ found. IfSome found (λ them. Lexes 0 text.now them.items)) }
-    ensures few { IfOk result (λ found. IfSome found
-        (λ them. length them.items ≤ greatest_place)) }
-{
-    match tokens(alloc, text) {
-        Ok(found) if found.len() <= MOST_TOKENS => Ok(Some(found)),
-        Ok(_) => Err(Problem::Bad("the text has too many tokens")),
-        Err(TokenFault::BadByte(byte)) => {
-            write_place("bad byte", byte, out)?;
-            Ok(None)
-        }
-        Err(TokenFault::Memory) => Err(Problem::Memory),
-    }
 }
 
 /// The expression of this kind at the front of a text.
@@ -91,23 +69,15 @@ pub fn front_choreo(alloc: Global, text: &[u8], version: u32) -> Result<Front<Ch
     }
 }
 
-/// The expression of this kind that the whole text is, if it is one.
-pub fn expr_of(alloc: Global, text: &[u8], kind: ExprKind) -> Result<Option<Expr>, Problem> {
-    match front_expr(alloc, text, kind)? {
+/// The expression of steps that a case's whole text is.
+pub fn whole_expr(alloc: Global, case: &Case) -> Result<Expr, Problem> {
+    match front_expr(alloc, &case.text, ExprKind::Step)? {
         Front::Found {
             value,
             is_whole: true,
             ..
-        } => Ok(Some(value)),
-        _ => Ok(None),
-    }
-}
-
-/// The expression of steps that a case's whole text is.
-pub fn whole_expr(alloc: Global, case: &Case) -> Result<Expr, Problem> {
-    match expr_of(alloc, &case.text, ExprKind::Step)? {
-        Some(expr) => Ok(expr),
-        None => Err(Problem::Bad("the text is no expression")),
+        } => Ok(value),
+        _ => Err(Problem::Bad("the text is no expression")),
     }
 }
 

@@ -19,8 +19,7 @@ pub fn answer(alloc: Global, case: &Case, out: &mut Vec<u8>) -> Result<(), Probl
     Ok(())
 }
 
-/// The version of the grammar that a case asks for.
-pub fn version_of(case: &Case) -> Result<u32, Problem> {
+fn version_of(case: &Case) -> Result<u32, Problem> {
     match case.option()? {
         b"1" => Ok(1),
         b"2" => Ok(2),
