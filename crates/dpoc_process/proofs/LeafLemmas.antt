@@ -18,7 +18,7 @@ use Rattle.dpoc_process.specs.Changes.{changed, replaced}
 use Rattle.dpoc_process.specs.Growth.{value_at, growth, grown, leads_loop, leader_end, write_at, value_in, written, entry_at, load_at}
 use Rattle.dpoc_process.specs.Handed.{Handed, Empty, Message, Kept, Parted, IsKept, IsReplaced, StandsFor, given_like}
 use Rattle.process_steps.specs.Laws.{is_done}
-use Rattle.dpoc_process.specs.RoleLaws.{seat, AdvancesAreSteps, IsShown, PreparedIsDone}
+use Rattle.dpoc_process.specs.RoleLaws.{local, AdvancesAreSteps, IsShown, PreparedIsDone}
 use Rattle.dpoc_process.specs.RoleSteps.{entry_before, sent}
 use Rattle.process_steps.specs.Steps.{Deed, Puts, Takes, Sets, Inputs, Picks, Chooses, Given, Alone, Got, FromBook, Decision, Keeps, Replaces, key, after, telling, gathering, letters_to, while_leads, while_follows, take_value, take_flag, take_any, take_begin, begin_scope, choose_scope, store_after, step}
 
@@ -396,7 +396,7 @@ advances-are_steps me s a P R h given acts can stands =
       deed = made.deed;
       left = replaced me a P (grown (growth me (value_at s R) R) h);
       does = replaced-steps me s a given P (grown (growth me (value_at s R) R) h) acts made.does;
-      becomes = ap (λ t. seat me (replaced me a P (grown (growth me (value_at s R) R) h)) t)
+      becomes = ap (λ t. local me (replaced me a P (grown (growth me (value_at s R) R) h)) t)
           (sym made.stored);
     }
 

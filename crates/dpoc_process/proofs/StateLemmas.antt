@@ -12,9 +12,9 @@ use Rattle.dpoc_process.specs.declared.runs.Prepared.{Prepared}
 use Rattle.dpoc_process.specs.Acting.{acting, lead_of, head_of}
 use Rattle.dpoc_process.specs.Changes.{replaced}
 use Rattle.dpoc_process.specs.Growth.{Growth, Write, value_at, growth, grown, write_at, value_in, written}
-use Rattle.dpoc_process.specs.Handed.{Handed, Brings, StandsFor, CanDo}
+use Rattle.dpoc_process.specs.Handed.{Handed, Brings, StandsFor, IsEnabled}
 use Rattle.dpoc_process.specs.KeptReady.{Shows}
-use Rattle.dpoc_process.specs.RoleLaws.{seat}
+use Rattle.dpoc_process.specs.RoleLaws.{local}
 use Rattle.dpoc_process.specs.RoleSteps.{IsPrepared, IsStep}
 use Rattle.process_steps.specs.Steps.{Given, offers, is_offered}
 
@@ -36,7 +36,7 @@ module _ (me : Role) (a : Act) (P : Process) where
 module _ (me : Role) (s : Store) (a : Act) (P : Process) {R : Process}
     (acts : acting me a P ≡ Some R) where
   -- what is shown of the part is what is shown of the process
-  pub shows-prepared : {p : Prepared} → Shows me a (value_at s R) R p → IsPrepared (seat me P s) a p
+  pub shows-prepared : {p : Prepared} → Shows me a (value_at s R) R p → IsPrepared (local me P s) a p
   shows-prepared shows = record {
     act = shows.act;
     can_act = offered_where_acting me a P acts;
@@ -47,15 +47,15 @@ module _ (me : Role) (s : Store) (a : Act) (P : Process) {R : Process}
   }
 
   -- a change that grows as the one that was made ready, and what is written so, are the step
-  pub state-steps : (h : Handed) (g : Growth) (w : Write) → CanDo (seat me P s) a h → g
+  pub state-steps : (h : Handed) (g : Growth) (w : Write) → IsEnabled (local me P s) a h → g
       ≡ growth me (value_at s R) R → w ≡ write_at (value_at s R) R
-      → (given : Given) → Brings (seat me P s) a h given
-      → IsStep (seat me P s) a given (seat me (replaced me a P (grown g h))
+      → (given : Given) → Brings (local me P s) a h given
+      → IsStep (local me P s) a given (local me (replaced me a P (grown g h))
       (written w (value_in h) s))
   state-steps h g w can is_growth is_write given brings =
       let stands : StandsFor me (lead_of R) h given = subst
       (λ part. StandsFor me (option_and_then lead_of part) h given) acts brings in
-      subst (IsStep (seat me P s) a given)
-      (ap₂ (λ g w. seat me (replaced me a P (grown g h)) (written w (value_in h) s)) (sym is_growth)
+      subst (IsStep (local me P s) a given)
+      (ap₂ (λ g w. local me (replaced me a P (grown g h)) (written w (value_in h) s)) (sym is_growth)
       (sym is_write))
       (advances-are_steps me s a P R h given acts can stands)

@@ -6,7 +6,7 @@ use Rattle.dioc_terms.specs.declared.processes.ScopeHead.{ScopeHead}
 use Rattle.dioc_terms.specs.declared.entries.Act.{Act}
 use Rattle.dioc_terms.specs.Processes.{Process, Seq, Par, ScopeLead}
 use Rattle.process_steps.specs.Steps.{ended, offers, is_offered}
-use Rattle.dpoc_process.specs.Seats.{Seat}
+use Rattle.dpoc_process.specs.LocalStates.{LocalState}
 
 -- the part that does the act, neither a sequence nor a parallel; of a parallel that in the left
 -- part, where there is one
@@ -31,7 +31,7 @@ lead_of (ScopeLead head others P) = Some (record { head = head; others = others 
 lead_of _ = None
 
 -- the scope for which the act chooses; none for every other act
-abbrev pub acting_lead : Seat → Act → Option Lead
+abbrev pub acting_lead : LocalState → Act → Option Lead
 acting_lead s a = option_and_then lead_of (acting s.role a s.process)
 
 abbrev pub head_of : Lead → ScopeHead

@@ -9,7 +9,7 @@ use Rattle.dpoc_process.specs.declared.runs.Got.{Got as GotValue}
 use Rattle.dpoc_process.specs.declared.runs.Got.TheVariants as got
 use Rattle.dpoc_process.specs.Acting.{Lead, acting_lead}
 use Rattle.process_steps.specs.Laws.{is_done}
-use Rattle.dpoc_process.specs.Seats.{Seat, step_at}
+use Rattle.dpoc_process.specs.LocalStates.{LocalState, step_at}
 use Rattle.process_steps.specs.Steps.{Given, Alone, Got, FromBook, Decision, Keeps, Replaces, letters_to}
 
 pub data Handed : Type 0 where
@@ -60,7 +60,7 @@ StandsFor me lead (Message l) given = given ≡ Got l
 StandsFor me lead Kept given = IsKept lead given
 StandsFor me lead (Parted own ms) given = IsReplaced me lead own ms given
 
-abbrev pub Brings : Seat → Act → Handed → Given → Type 0
+abbrev pub Brings : LocalState → Act → Handed → Given → Type 0
 Brings s a h given = StandsFor s.role (acting_lead s a) h given
 
 -- something of this kind from outside; of what the book says only that it says something
@@ -71,5 +71,5 @@ given_like Kept = FromBook (λ head. Keeps)
 given_like (Parted own ms) = FromBook (λ head. Keeps)
 
 -- with what is handed the act can be done
-abbrev pub CanDo : Seat → Act → Handed → Type 0
-CanDo s a h = is_done (step_at s a (given_like h)) ≡ true
+abbrev pub IsEnabled : LocalState → Act → Handed → Type 0
+IsEnabled s a h = is_done (step_at s a (given_like h)) ≡ true

@@ -8,10 +8,10 @@ use Rattle.dpoc_process.specs.declared.states.RoleState.{RoleState}
 use Rattle.dpoc_process.specs.Acting.{acting}
 use Rattle.dpoc_process.specs.Growth.{value_at}
 use Rattle.dpoc_process.specs.KeptReady.{IsReadyFor}
-use Rattle.dpoc_process.specs.Seats.{Seat}
+use Rattle.dpoc_process.specs.LocalStates.{LocalState}
 
-abbrev pub seat_of : RoleState → Seat
-seat_of state = record {
+abbrev pub local_of : RoleState → LocalState
+local_of state = record {
   role = state.role;
   process = process state.proc;
   store = store_of

@@ -8,25 +8,25 @@ use Rattle.dioc_terms.specs.Stores.{Store}
 use Rattle.dpoc_process.specs.Acting.{acting, lead_of}
 use Rattle.dpoc_process.specs.Changes.{replaced}
 use Rattle.dpoc_process.specs.Growth.{value_at, growth, grown, write_at, value_in, written, entry_at, load_at}
-use Rattle.dpoc_process.specs.Handed.{Handed, StandsFor, CanDo}
+use Rattle.dpoc_process.specs.Handed.{Handed, StandsFor, IsEnabled}
 use Rattle.dpoc_process.specs.RoleSteps.{entry_before, sent, IsStep}
-use Rattle.dpoc_process.specs.Seats.{Seat}
+use Rattle.dpoc_process.specs.LocalStates.{LocalState}
 use Rattle.process_steps.specs.Steps.{Deed, Given, step}
 
-abbrev pub seat : Role → Process → Store → Seat
-seat me P s = record { role = me; process = P; store = s }
+abbrev pub local : Role → Process → Store → LocalState
+local me P s = record { role = me; process = P; store = s }
 
 -- a role with the part R that does the act: what was made ready of R, with what is handed, gives
 -- the step
-abbrev pub advanced : Role → Store → Act → Process → Process → Handed → Seat
+abbrev pub advanced : Role → Store → Act → Process → Process → Handed → LocalState
 advanced me s a P R h =
-    seat me (replaced me a P (grown (growth me (value_at s R) R) h))
+    local me (replaced me a P (grown (growth me (value_at s R) R) h))
     (written (write_at (value_at s R) R) (value_in h) s)
 
 abbrev pub AdvancesAreSteps : Type 0
 AdvancesAreSteps = (me : Role) (s : Store) (a : Act) (P R : Process) (h : Handed) (given : Given)
-    → acting me a P ≡ Some R → CanDo (seat me P s) a h → StandsFor me (lead_of R) h given
-    → IsStep (seat me P s) a given (advanced me s a P R h)
+    → acting me a P ≡ Some R → IsEnabled (local me P s) a h → StandsFor me (lead_of R) h given
+    → IsStep (local me P s) a given (advanced me s a P R h)
 
 -- what the part shows before the act is done is what the step does
 pub record IsShown (me : Role) (s : Store) (R : Process) (d : Deed) : Type 0 where

@@ -6,7 +6,7 @@ use Rattle.dioc_terms.specs.Attempts.{Does}
 use Rattle.dioc_terms.specs.Processes.{Process, Load, load}
 use Rattle.dpoc_process.specs.declared.runs.Prepared.{Prepared}
 use Rattle.dpoc_process.specs.Acting.{acting_lead, head_of}
-use Rattle.dpoc_process.specs.Seats.{Seat, offered, step_at, seat_done}
+use Rattle.dpoc_process.specs.LocalStates.{LocalState, offered, step_at, local_done}
 use Rattle.process_steps.specs.Steps.{Deed, Puts, Chooses, Given, entry_of, is_offered}
 
 -- what is known of the entry before the act is done: all of it, but for a scope, whose choice isn't
@@ -21,7 +21,7 @@ sent (Puts k l) = Some l
 sent _ = None
 
 -- what is shown of an act before it is done, whatever may come with it
-pub record IsPrepared (s : Seat) (a : Act) (p : Prepared) : Type 0 where
+pub record IsPrepared (s : LocalState) (a : Act) (p : Prepared) : Type 0 where
   pub act : p.act ≡ a
   pub can_act : is_offered a (offered s) ≡ true
   pub head : p.head ≡ option_map head_of (acting_lead s a)
@@ -31,8 +31,8 @@ pub record IsPrepared (s : Seat) (a : Act) (p : Prepared) : Type 0 where
       → option_map load p.payload ≡ sent d
 
 -- the role did the act with what came from outside
-pub record IsStep (s : Seat) (a : Act) (given : Given) (after : Seat) : Type 0 where
+pub record IsStep (s : LocalState) (a : Act) (given : Given) (after : LocalState) : Type 0 where
   pub deed : Deed
   pub left : Process
   pub does : step_at s a given ≡ Does deed left
-  pub becomes : after ≡ seat_done s deed left
+  pub becomes : after ≡ local_done s deed left

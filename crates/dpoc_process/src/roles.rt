@@ -3,9 +3,9 @@
 ghost use Rattle.std.specs.Prelude.{◌≡◌, ◌↔◌, false, IfOk, IsErrOf, OnErr, OnOk};
 ghost use Rattle.dioc_terms.specs.declared.entries.Act.{Act as OneAct};
 ghost use Rattle.dioc_terms.specs.KeptStores.{store_of};
-ghost use Rattle.dpoc_process.specs.Handed.{handed, Brings, CanDo};
+ghost use Rattle.dpoc_process.specs.Handed.{handed, Brings, IsEnabled};
 ghost use Rattle.dpoc_process.specs.RoleSteps.{IsPrepared, IsStep};
-ghost use Rattle.dpoc_process.specs.Seats.{Seat, offered};
+ghost use Rattle.dpoc_process.specs.LocalStates.{LocalState, offered};
 ghost use Rattle.process_steps.specs.Steps.{Given, ended, is_offered};
 
 use crate::runs::{Got, PrepareFault, Prepared};
@@ -16,7 +16,7 @@ use std::alloc::Global;
 /// memory that its step takes, and then the role advances by it and takes none.
 pub trait Runs: Drop {
     // the role, its process and its store
-    ghost seat: { Self → Seat };
+    ghost local: { Self → LocalState };
 
     // the act is prepared, and nothing was done since
     ghost is_ready: { Self → OneAct → Type 0 };
@@ -24,7 +24,7 @@ pub trait Runs: Drop {
     /// The acts that the process offers, from left to right in it, takes included whether or not
     /// their message is there.
     fn acts(&self, alloc: Global) -> Result<Vec<Act>, Memory>
-        ensures { IfOk result (λ acts. acts.items ≡ offered (seat self.now)) };
+        ensures { IfOk result (λ acts. acts.items ≡ offered (local self.now)) };
 
     /// Makes the role ready for an act, and shows what is known of the act before it is done.
     ///
@@ -33,29 +33,29 @@ pub trait Runs: Drop {
     /// `advance`, and after an error for none. The error is `NoAct` exactly where the process
     /// doesn't offer the act, and `Memory` where memory runs out.
     fn prepare(&mut self, alloc: Global, act: &Act) -> Result<Prepared, PrepareFault>
-        ensures same { seat self.new ≡ seat self.old }
+        ensures same { local self.new ≡ local self.old }
         ensures ready { OnOk result (is_ready self.new act.now) }
         ensures ready_alone { (other : OneAct) → is_ready self.new other → other ≡ act.now }
         ensures unready { OnErr result ((other : OneAct) → ¬ is_ready self.new other) }
         ensures no_act { IsErrOf result PrepareFault.NoAct ↔
-            (is_offered act.now (offered (seat self.old)) ≡ false) }
-        ensures shown { IfOk result (IsPrepared (seat self.old) act.now) };
+            (is_offered act.now (offered (local self.old)) ≡ false) }
+        ensures shown { IfOk result (IsPrepared (local self.old) act.now) };
 
     /// Does an act for which the role is ready, with what comes with it: the message of a take,
     /// what the book says of a scope, else nothing. It takes no memory. The act can be done with
     /// that: a message is one that the process can take there.
     fn advance(&mut self, act: &Act, got: Got)
         requires ready { is_ready self.old act.now }
-        requires can { CanDo (seat self.old) act.now (handed got) }
-        ensures steps { (given : Given) → Brings (seat self.old) act.now (handed got) given →
-            IsStep (seat self.old) act.now given (seat self.new) }
+        requires can { IsEnabled (local self.old) act.now (handed got) }
+        ensures steps { (given : Given) → Brings (local self.old) act.now (handed got) given →
+            IsStep (local self.old) act.now given (local self.new) }
         ensures unready { (other : OneAct) → ¬ is_ready self.new other };
 
     /// Whether nothing is left to do. It takes no memory.
     fn is_done(&self) -> bool
-        ensures { result ≡ ended (seat self.now).process };
+        ensures { result ≡ ended (local self.now).process };
 
     /// The variables of the role, and the inputs that it has left. It takes no memory.
     fn store(&self) -> &Store
-        ensures { store_of result.now ≡ (seat self.now).store };
+        ensures { store_of result.now ≡ (local self.now).store };
 }

@@ -23,12 +23,12 @@ pub struct RoleState {
 }
 
 impl RoleState {
-    ghost use Rattle.dpoc_process.specs.KeptStates.{seat_of};
-    ghost use Rattle.dpoc_process.specs.RoleLaws.{seat};
+    ghost use Rattle.dpoc_process.specs.KeptStates.{local_of};
+    ghost use Rattle.dpoc_process.specs.RoleLaws.{local};
 
     /// The role with this process and this store. It takes no memory.
     pub fn new(role: Role, proc: Proc, store: Store) -> RoleState
-        ensures { seat_of result ≡ seat role (process proc) (store_of store) }
+        ensures { local_of result ≡ local role (process proc) (store_of store) }
     {
         RoleState {
             role,
@@ -40,9 +40,9 @@ impl RoleState {
 }
 
 impl Runs for RoleState {
-    ghost use Rattle.dpoc_process.specs.KeptStates.{seat_of, IsReady};
+    ghost use Rattle.dpoc_process.specs.KeptStates.{local_of, IsReady};
 
-    ghost seat = { seat_of };
+    ghost local = { local_of };
 
     ghost is_ready = { IsReady };
 

@@ -10,7 +10,7 @@ use Rattle.dioc_terms.specs.Processes.{Process, Seq, Par, IfLead, IfFollow, Whil
 use Rattle.dioc_terms.specs.Stores.{Store}
 use Rattle.dioc_terms.specs.Terms.{Term}
 use Rattle.dpoc_process.specs.Acting.{acting_lead, Lead}
-use Rattle.dpoc_process.specs.Seats.{Seat}
+use Rattle.dpoc_process.specs.LocalStates.{LocalState}
 use Rattle.process_steps.specs.Steps.{Deed, Puts, Given, Got, FromBook, Decision, Replaces, step}
 use Rattle.projection.specs.Projection.{projected}
 use Rattle.scope_leader.specs.Plans.{told}
@@ -67,6 +67,6 @@ pub record LeadersTell : Type 0 where
       → TellsAll cast me P → GivesTelling cast a given → step me s P a given ≡ Does d Q
       → TellsAll cast me Q × SendsTelling cast d
   -- and so it is with the scope that an act begins
-  pub scopes : (cast : List Role) (s : Seat) (a : Act) (scope : Lead)
+  pub scopes : (cast : List Role) (s : LocalState) (a : Act) (scope : Lead)
       → TellsAll cast s.role s.process
       → acting_lead s a ≡ Some scope → TellsOthers cast s.role scope.head scope.others

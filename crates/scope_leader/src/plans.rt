@@ -22,8 +22,7 @@ use std::alloc::Global;
 /// carry the parts of the scope's other roles, in the order of the cast. A role of the scope that
 /// the body doesn't name is told as well: its part has nothing to do.
 ///
-/// The roles of the scope are in the cast, and those of the body are among them. Scopes below level
-/// 16 alone are replaced.
+/// The roles of the body are in the cast. Scopes below level 16 alone are replaced.
 pub fn plan_update(
     alloc: Global,
     head: &ScopeHead,
@@ -32,9 +31,7 @@ pub fn plan_update(
     body: &Choreo,
 ) -> Result<Parts, Memory>
     requires level { head.now.level < 16 }
-    requires cast { (q : OneRole) → member q head.now.roles ≡ true → member q cast.now ≡ true }
-    requires body { (q : OneRole) → is_in q (term body.now) ≡ true → member q head.now.roles
-        ≡ true }
+    requires body { (q : OneRole) → is_in q (term body.now) ≡ true → member q cast.now ≡ true }
     ensures own { IfOk result (λ parts.
         process parts.own ≡ part_of cast.now head.now epoch (term body.now) head.now.leader) }
     ensures tell { IfOk result (λ parts.

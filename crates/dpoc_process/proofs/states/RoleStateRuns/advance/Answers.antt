@@ -7,7 +7,7 @@ use Rattle.dpoc_process.specs.Changes.{replaced}
 use Rattle.dpoc_process.specs.Growth.{grown, growth, value_at, write_at}
 use Rattle.dpoc_process.specs.Handed.{handed}
 use Rattle.dpoc_process.specs.KeptGrowth.{growth_of, write_of}
-use Rattle.dpoc_process.specs.RoleLaws.{seat}
+use Rattle.dpoc_process.specs.RoleLaws.{local}
 use Rattle.dpoc_process.specs.RoleSteps.{IsStep}
 use Rattle.dpoc_process.proofs.states.RoleStateRuns.advance.Goals as goal
 
@@ -31,7 +31,7 @@ returns-clause-steps c = λ given brings.
     c.advanced.ensures.changed
     ∙ ap (λ p. replaced me a (process p) (grown (growth_of c.unwrap-ready.result.growth) h))
     c.replace-proc.ensures.value in
-    subst (IsStep (seat me P s) a given) (ap₂ (seat me) (sym changed)
+    subst (IsStep (local me P s) a given) (ap₂ (local me) (sym changed)
     (sym c.advanced.ensures.stored))
     (state-steps me s a P ready.acts h (growth_of c.unwrap-ready.result.growth)
     (write_of c.unwrap-ready.result.write) c.requires.can

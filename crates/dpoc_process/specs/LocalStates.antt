@@ -7,19 +7,19 @@ use Rattle.dioc_terms.specs.Processes.{Process}
 use Rattle.dioc_terms.specs.Stores.{Store}
 use Rattle.process_steps.specs.Steps.{Deed, Given, offers, step, store_after}
 
-pub record Seat : Type 0 where
+pub record LocalState : Type 0 where
   pub role : Role
   pub process : Process
   pub store : Store
 
 -- the acts that the role can do next
-abbrev pub offered : Seat → List Act
+abbrev pub offered : LocalState → List Act
 offered s = offers s.role s.process
 
 -- its step by an act
-abbrev pub step_at : Seat → Act → Given → Attempt Deed Process
+abbrev pub step_at : LocalState → Act → Given → Attempt Deed Process
 step_at s a given = step s.role s.store s.process a given
 
 -- the role once this is done
-abbrev pub seat_done : Seat → Deed → Process → Seat
-seat_done s d P = record { role = s.role; process = P; store = store_after d s.store }
+abbrev pub local_done : LocalState → Deed → Process → LocalState
+local_done s d P = record { role = s.role; process = P; store = store_after d s.store }
