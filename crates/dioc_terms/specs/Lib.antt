@@ -15,7 +15,6 @@ pub mod RuleLaws
 pub mod Rules
 pub mod BorrowedValues
 pub mod Stores
-pub mod Supported
 pub mod TermLaws
 pub mod Terms
 pub mod Values
