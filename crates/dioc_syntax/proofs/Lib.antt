@@ -1,6 +1,3 @@
-pub mod Bundles
-pub mod Formed
-pub mod Unique
 pub mod Shorter
 pub mod Marks
 pub mod Tables

@@ -19,8 +19,8 @@ OneChoreography = (version room : ℕ) (from to end : List Lexeme) (whole other 
     → Longest (IsChoreography version room from) other end → (whole ≡ other) × (to ≡ end)
 
 -- a choreography has the indices that its text gives it
-abbrev pub ReadIsMarked : Type 0
-ReadIsMarked = (version room : ℕ) (from to : List Lexeme) (whole : Term)
+abbrev pub ReadIsIndexed : Type 0
+ReadIsIndexed = (version room : ℕ) (from to : List Lexeme) (whole : Term)
     → IsChoreography version room from whole to → whole ≡ indexed whole
 
 -- version 2 alone names further roles of a scope

@@ -4,4 +4,3 @@ pub mod Readers
 pub mod Writing
 pub mod Pieces
 pub mod Laws
-pub mod Grammar

@@ -1,17 +1,6 @@
 //! What holds of every text.
 
-ghost use Rattle.dioc_syntax.specs.Grammar.{OneBundle, SpelledAreFormed};
-ghost use Rattle.dioc_syntax.specs.Laws.{OneChoreography, ReadIsMarked, ReadIsFormed, WrittenIsSpelled, WrittenIsRead, WrittenTextIsRead};
-
-/// A law: a text spells at most one bundle. It does nothing.
-pub fn one_bundle()
-    ensures { OneBundle }
-{}
-
-/// A law: a bundle that a text spells is formed. It does nothing.
-pub fn spelled_are_formed()
-    ensures { SpelledAreFormed }
-{}
+ghost use Rattle.dioc_syntax.specs.Laws.{OneChoreography, ReadIsIndexed, ReadIsFormed, WrittenIsSpelled, WrittenIsRead, WrittenTextIsRead};
 
 /// A law: a place of a text has at most one longest choreography. It does nothing.
 pub fn one_choreography()
@@ -20,8 +9,8 @@ pub fn one_choreography()
 
 /// A law: a choreography that stands in a text has the indices that the text gives it. It does
 /// nothing.
-pub fn read_is_marked()
-    ensures { ReadIsMarked }
+pub fn read_is_indexed()
+    ensures { ReadIsIndexed }
 {}
 
 /// A law: a choreography that is read of a text of some bytes is formed, and names further roles of

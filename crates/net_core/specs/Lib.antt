@@ -1,5 +1,4 @@
 pub mod Headline
 pub mod Laws
 pub mod Net
-pub mod Runs
 pub mod Schedule

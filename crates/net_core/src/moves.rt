@@ -1,4 +1,4 @@
-//! What a network may do next, and how a run finishes.
+//! What a network may do next, and why it may not.
 
 ghost use Rattle.std.specs.Prelude.{◌≡◌};
 
@@ -10,13 +10,6 @@ use std::alloc::AllocFailed;
 pub enum Move {
     Change,
     Act(Role, Act),
-}
-
-/// How a run finished: its network has ended, or its history is full.
-#[derive(Clone, Copy, Debug, PartialEq, Eq)]
-pub enum Finish {
-    Ended,
-    Limit,
 }
 
 /// Why a step was refused. The answers but `Memory` come in this order.
