@@ -1,18 +1,109 @@
--- Words ask for commands that are built, and for no others.
-use Rattle.std.proofs.Common.{◌≡◌, ℕ, List, Bool, true, false, Option, Some, None, refl, sym, ap, ◌∙◌, subst, ⊎_elim}
-use Rattle.std.specs.Prelude.{option_and_then, if◌then◌else◌}
+-- Words ask for commands that are built, and for no others; and for no longer runs than they can say.
+use Rattle.std.proofs.Common.{◌≡◌, ◌≤◌, ◌×◌, ℕ, List, [], ◌∷◌, Bool, true, false, ◌&&◌, Option, Some, None, refl, sym, ap, ◌∙◌, subst, ⊎_elim, arith}
+use Rattle.std.specs.Prelude.{option_map, option_and_then, unwrap_or, nat_le, codes, if◌then◌else◌}
+use Rattle.std.specs.List.{list_all}
+use Rattle.std.specs.Str.{is_utf8}
+use Rattle.std.specs.Str.Parse.{digits_value}
 use Rattle.std.proofs.lemmas.Bool.{cases_Bool, cond-true, cond-false}
 use Rattle.marked_laws.proofs.Shapes.{none_some, some_same}
-use Rattle.command_words.specs.Commands.{command_of}
+use Rattle.command_words.specs.Words.{Text, text_of, given_by}
+use Rattle.command_words.specs.Commands.{Texts, command_of, named_first, command_by, command_with, options_of, gen_of, monitor_by, number_or, number_within, optional_number, are_digits, known_options, positional_names, verb_of, most_steps, usual_steps, most_seed}
+use Rattle.command_words.specs.declared.commands.Options.{Options}
 use Rattle.command_words.specs.declared.commands.Command.{Command}
-use Rattle.aioc_top.specs.Words.{asked, is_built}
+use Rattle.command_words.specs.declared.commands.Command.TheVariants as command
+use Rattle.command_words.specs.declared.commands.Verb.{Verb}
+use Rattle.command_words.specs.declared.commands.Verb.TheVariants.{Run, Step, Check, Project, Replay, Gen, Upgrade, Mend, Drive, Resume, Monitor, Sessions}
+use Rattle.aioc_top.specs.Words.{asked, is_built, IsShort, IsServed}
 
-kept : (found : Option Command) (other : Command) → option_and_then (λ c. if is_built c then Some c else None) found ≡ Some other → is_built other ≡ true
-kept None other h = absurd (none_some h)
-kept (Some found) other h = ⊎_elim
-    (λ yes. subst (λ c. is_built c ≡ true) (some_same (sym (cond-true (is_built found) (Some found) None yes) ∙ h)) yes)
-    (λ no. absurd (none_some (sym (cond-false (is_built found) (Some found) None no) ∙ h)))
-    (cases_Bool (is_built found))
+-- where a chain of two answers something, the first answered
+first_answered : {A B : Type 0} (f : A → Option B) (o : Option A) (y : B) → option_and_then f o ≡ Some y → (x : A) × (o ≡ Some x) × (f x ≡ Some y)
+first_answered f None y h = absurd (none_some h)
+first_answered f (Some x) y h = (x, refl, h)
+
+answered : {A B : Type 0} (f : A → B) (o : Option A) (y : B) → option_map f o ≡ Some y → (x : A) × (o ≡ Some x) × (f x ≡ y)
+answered f None y h = absurd (none_some h)
+answered f (Some x) y h = (x, refl, some_same h)
+
+-- what is kept where a test holds
+kept : {A : Type 0} (t : Bool) (x y : A) → (if t then Some x else None) ≡ Some y → (t ≡ true) × (x ≡ y)
+kept true x y h = (refl, some_same h)
+kept false x y h = absurd (none_some h)
+
+found_of : (words : List (List ℕ)) (found : Command) → asked words ≡ Some found → (command_of words ≡ Some found) × (is_built found ≡ true)
+found_of words found h =
+    let first = first_answered (λ c. if is_built c then Some c else None) (command_of words) found h in
+    let same = kept (is_built first.0) first.0 found first.2 in
+    (first.1 ∙ ap Some same.1, subst (λ c. is_built c ≡ true) same.1 same.0)
+
+second_true : (a b : Bool) → (a && b) ≡ true → b ≡ true
+second_true true b h = h
+second_true false b h = absurd cc
+
+within : (least most : ℕ) (text : Text) (n : ℕ) → number_within least most text ≡ Some n → n ≤ most
+within least most text n h =
+    let number = digits_value 10 text in
+    let is = kept (are_digits text && (nat_le least number && nat_le number most)) number n h in
+    let bounded : nat_le number most ≡ true = second_true (nat_le least number) (nat_le number most) (second_true (are_digits text) (nat_le least number && nat_le number most) is.0) in
+    subst (λ m. m ≤ most) is.1 (omega (arith, bounded))
+
+given_or_usual : (usual least most : ℕ) (text : Option Text) (n : ℕ) → usual ≤ most → number_or usual least most text ≡ Some n → n ≤ most
+given_or_usual usual least most None n few h = subst (λ m. m ≤ most) (some_same h) few
+given_or_usual usual least most (Some text) n few h =
+    let first = answered (λ number. unwrap_or number usual) (option_map Some (number_within least most text)) n h in
+    let second = answered Some (number_within least most text) first.0 first.1 in
+    let same : second.0 ≡ n = ap (λ o. unwrap_or o usual) second.2 ∙ first.2 in
+    subst (λ m. m ≤ most) same (within least most text second.0 second.1)
+
+module _ (verb : Verb) (texts : Texts) (few : usual_steps verb ≤ most_steps verb) where
+  bounded : (options : Options) → options_of verb texts ≡ Some options → options.steps ≤ most_steps verb
+  bounded options h =
+      let seed = first_answered _ (optional_number 0 most_seed (texts (codes "seed"))) options h in
+      let steps = first_answered _ (number_or (usual_steps verb) 1 (most_steps verb) (texts (codes "steps"))) options seed.2 in
+      let workers = answered _ (number_or 4 1 16 (texts (codes "workers"))) options steps.2 in
+      subst (λ m. m ≤ most_steps verb) (ap (λ (o : Options). o.steps) workers.2)
+      (given_or_usual (usual_steps verb) 1 (most_steps verb) (texts (codes "steps")) steps.0 few steps.1)
+
+short_with : (verb : Verb) (texts : Texts) (found : Command) → command_with verb texts ≡ Some found → IsShort found
+short_with Step texts found h =
+    let its = answered command.Step (options_of Step texts) found h in
+    subst IsShort its.2 (bounded Step texts (omega arith) its.0 its.1)
+short_with Run texts found h = let its = answered command.Run (options_of Run texts) found h in subst IsShort its.2 tt
+short_with Drive texts found h = let its = answered command.Drive (options_of Drive texts) found h in subst IsShort its.2 tt
+short_with Resume texts found h = let its = answered command.Resume (options_of Resume texts) found h in subst IsShort its.2 tt
+short_with Sessions texts found h = let its = answered command.Sessions (options_of Sessions texts) found h in subst IsShort its.2 tt
+short_with Check texts found h = subst IsShort (some_same h) tt
+short_with Project texts found h = subst IsShort (some_same h) tt
+short_with Replay texts found h = subst IsShort (some_same h) tt
+short_with Upgrade texts found h = subst IsShort (some_same h) tt
+short_with Mend texts found h = subst IsShort (some_same h) tt
+short_with Gen texts found h =
+    let number = first_answered _ (option_and_then (number_within 0 most_seed) (texts (codes "number"))) found h in
+    let size = answered _ (option_and_then (number_within 1 400) (texts (codes "size"))) found number.2 in
+    subst IsShort size.2 tt
+short_with Monitor texts found h =
+    let role = first_answered monitor_by (texts (codes "role")) found h in
+    let its = kept _ _ found role.2 in
+    subst IsShort its.1 tt
+
+short : (words : List Text) (found : Command) → command_of words ≡ Some found → IsShort found
+short words found h = by_words words (kept_words (list_all is_utf8 words) (named_first words) h)
+  where
+    kept_words : (t : Bool) (o : Option Command) → (if t then o else None) ≡ Some found → o ≡ Some found
+    kept_words true o e = e
+    kept_words false o e = absurd (none_some e)
+
+    by_words : (rest : List Text) → named_first rest ≡ Some found → IsShort found
+    by_words [] e = absurd (none_some e)
+    by_words (name ∷ others) e =
+        let verb = first_answered (command_by others) (verb_of name) found e in
+        let given = first_answered (λ g. command_with verb.0 (text_of g)) (given_by (known_options verb.0) (positional_names verb.0) others) found verb.2 in
+        short_with verb.0 (text_of given.0) found given.2
 
 pub asked_built : (words : List (List ℕ)) (found : Command) → asked words ≡ Some found → is_built found ≡ true
-asked_built words found h = kept (command_of words) found h
+asked_built words found h = (found_of words found h).1
+
+pub asked_served : (words : List (List ℕ)) (found : Command) → asked words ≡ Some found → IsServed found
+asked_served words found h = record {
+  built = (found_of words found h).1;
+  short = short words found (found_of words found h).0;
+}

@@ -2,7 +2,8 @@
 use Rattle.std.proofs.Common.{◌≡◌, ◌<◌, ◌≤◌, ℕ, List, length, true, false, true≢false, Option, Some, None, refl, sym, ap, ◌∙◌, subst, arith}
 use Rattle.limits.specs.Limits.{most_bytes}
 use Rattle.dioc_terms.specs.Plain.{PlainBundle}
-use Rattle.dioc_syntax.specs.Grammar.{OneBundle, Spells}
+use Rattle.bundle_text.specs.Grammar.{Spells}
+use Rattle.bundle_text.specs.Laws.{OneBundle}
 use Rattle.marked_laws.proofs.Shapes.{none_some}
 use Rattle.rule_checks.specs.declared.refusals.Refusal.{Refusal}
 use Rattle.command_words.specs.declared.commands.Command.{Command}
@@ -16,6 +17,8 @@ pub one_reply : (found : Command) (b : PlainBundle) (reply other : Reply) → is
 one_reply (command.Step options) b reply other built h k = h ∙ sym k
 one_reply command.Check b reply other built h k = h ∙ sym k
 one_reply command.Project b reply other built h k = h ∙ sym k
+one_reply command.Replay b reply other built h k = h ∙ sym k
+one_reply command.Upgrade b reply other built h k = h ∙ sym k
 one_reply _ b reply other built h k = absurd (true≢false (sym built))
 
 -- bytes that spell a bundle are not too many

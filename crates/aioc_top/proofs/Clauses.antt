@@ -9,18 +9,21 @@ use Rattle.aioc_io.specs.Sink.{SinkState}
 use Rattle.aioc_io.specs.Source.{SourceState}
 use Rattle.dioc_terms.specs.declared.entries.Entry.{Entry}
 use Rattle.dioc_terms.specs.Plain.{PlainBundle}
-use Rattle.dioc_syntax.specs.Grammar.{OneBundle, SpelledAreFormed, Spells}
+use Rattle.bundle_text.specs.Grammar.{Spells}
+use Rattle.bundle_text.specs.Laws.{OneBundle, SpelledIsFormed, WrittenIsSpelled}
+use Rattle.dioc_terms.specs.Bundles.{IsFormed}
 use Rattle.marked_laws.proofs.Shapes.{none_some, some_same}
 use Rattle.marked_laws.specs.Network.{Network, network_start, network_run, network_ended}
 use Rattle.net_core.specs.Headline.{EveryRun}
-use Rattle.net_core.specs.Laws.{RunsAreSound}
+use Rattle.marked_laws.specs.Versions.{RunsReadNoVersion, with_version}
+use Rattle.net_core.specs.Laws.{RunsAreSound, SchedulesReadNoVersion}
 use Rattle.rule_checks.specs.Refusals.{IsAccepted}
 use Rattle.command_words.specs.declared.commands.Options.{Options}
 use Rattle.command_words.specs.declared.commands.Command.{Command}
 use Rattle.command_words.specs.declared.commands.Command.TheVariants as command
 use Rattle.aioc_top.specs.Calls.{Call, Judges, Happens, IsRead, ReadsTo, Says, Writes}
-use Rattle.aioc_top.specs.Replies.{Reply, Replies, is_finished, refusal_of, run_reply, step_history, line_of_text, check_line, project_text as project_lines}
-use Rattle.aioc_top.specs.Serve.{CheckText, ComesExactly, Complete, GivesUp, HeadlineHolds, PartPrinted, ProjectText, ReadsAll, RunPrinted, SaysWhy, Silent, StepText, TextPrinted, UsageComes, has_printed}
+use Rattle.aioc_top.specs.Replies.{Reply, Replies, is_finished, refusal_of, run_reply, step_history, line_of_text, check_line, project_text as project_lines, replay_reply, upgrade_text as upgraded}
+use Rattle.aioc_top.specs.Serve.{CheckText, ComesExactly, Complete, GivesUp, HeadlineHolds, IsUpgraded, JudgementPrinted, PartPrinted, ProjectText, ReadsAll, ReplayText, RunPrinted, SaysWhy, Silent, StepText, TextPrinted, UpgradeText, UsageComes, has_printed}
 use Rattle.aioc_top.specs.Verdicts.{Verdict, TooLong, Unspelled, Refused, Replied, MayReply, Cause, Comes, status_of, status_of_end}
 use Rattle.aioc_top.specs.Words.{is_built}
 use Rattle.aioc_top.specs.declared.replies.End.{End}
@@ -266,7 +269,7 @@ ends_limit : (t : Bool) {A : Type 0} → (t ≡ true) ⊎ A → (status_of_end (
 ends_limit true h = (λ e. absurd (not_limit e), λ e. absurd (true≢false (e.1)))
 ends_limit false h = (λ e. (⊎_elim (λ is. absurd (true≢false (sym is))) (λ a. a) h, refl), λ e. refl)
 
-module _ (formed : SpelledAreFormed) (every : EveryRun) (sound : RunsAreSound) (options : Options) where
+module _ (formed : SpelledIsFormed) (every : EveryRun) (sound : RunsAreSound) (options : Options) where
   pub run_printed : (bytes : List ℕ) (source : SourceState) (out out_after : SinkState) (s : Status) (reply : Reply) → IsRead source bytes
       → MayReply (command.Step options) bytes reply → s ≡ status_of_end reply.end → Appends out.taken out_after.taken reply.text
       → (run : RunPrinted options s source out out_after) × (run.history ≡ step_history options run.bundle)
@@ -307,7 +310,7 @@ module _ (formed : SpelledAreFormed) (every : EveryRun) (sound : RunsAreSound) (
 -- ---- the text of a command that says something of a bundle
 
 -- what was printed is the text of an accepted bundle, where each reply of the command is that text
-module _ (formed : SpelledAreFormed) (wanted : Command) (text_of : PlainBundle → List ℕ)
+module _ (formed : SpelledIsFormed) (wanted : Command) (text_of : PlainBundle → List ℕ)
     (only : (b : PlainBundle) (reply : Reply) → Replies wanted b reply → reply ≡ record { end = end.Done; text = text_of b }) where
   pub text_printed : (call : Call) (s : Status) → Happens call s → call.asked ≡ Some wanted → has_printed s ≡ true
       → TextPrinted text_of s call.source call.out call.out_after
@@ -327,8 +330,59 @@ module _ (formed : SpelledAreFormed) (wanted : Command) (text_of : PlainBundle �
         done = its.2 ∙ ap (λ (r : Reply). status_of_end r.end) replies;
       }
 
-pub check_text : SpelledAreFormed → (call : Call) (s : Status) → Happens call s → CheckText call.asked s call.source call.out call.out_after
+pub check_text : SpelledIsFormed → (call : Call) (s : Status) → Happens call s → CheckText call.asked s call.source call.out call.out_after
 check_text formed call s h is prints = text_printed formed command.Check (λ b. line_of_text (check_line b)) (λ b reply e. e) call s h is prints
 
-pub project_text : SpelledAreFormed → (call : Call) (s : Status) → Happens call s → ProjectText call.asked s call.source call.out call.out_after
+pub project_text : SpelledIsFormed → (call : Call) (s : Status) → Happens call s → ProjectText call.asked s call.source call.out call.out_after
 project_text formed call s h is prints = text_printed formed command.Project project_lines (λ b reply e. e) call s h is prints
+
+-- ---- the judgement of a trace
+
+pub replay_text : SpelledIsFormed → (call : Call) (s : Status) → Happens call s → ReplayText call.asked s call.source call.out call.out_after
+replay_text formed call s h is prints =
+    let its = reply_told call s prints (told call s (printing s prints) h) in
+    let same : its.1.command ≡ command.Replay = some_same (sym its.1.asked ∙ is) in
+    let comes : MayReply command.Replay its.1.bytes its.0 = subst (λ c. MayReply c its.1.bytes its.0) same its.1.comes in
+    let b = comes.bundle in
+    record {
+      bytes = its.1.bytes;
+      read = its.1.read;
+      bundle = b;
+      spells = comes.spells;
+      accepted = record { formed = formed its.1.bytes b comes.spells; no_refusal = comes.accepted };
+      printed = subst (λ (r : Reply). Appends call.out.taken call.out_after.taken r.text) comes.replies its.3;
+      told = its.2 ∙ ap (λ (r : Reply). status_of_end r.end) comes.replies;
+    }
+
+-- ---- the bundle in its second version
+
+second_is_formed : (b : PlainBundle) → IsFormed b → IsFormed (with_version 2 b)
+second_is_formed b is = record {
+  version = inr refl;
+  cast = is.cast;
+  choreo = is.choreo;
+  rules = is.rules;
+  opening = is.opening;
+  added = is.added;
+  env = is.env;
+  inputs = is.inputs;
+  script = is.script;
+  trace = is.trace;
+  last = is.last;
+}
+
+module _ (written : WrittenIsSpelled) (runs : RunsReadNoVersion) (schedules : SchedulesReadNoVersion) where
+  upgraded_so : (b : PlainBundle) → IsAccepted b → IsUpgraded b
+  upgraded_so b is = record {
+    accepted = record { formed = second_is_formed b is.formed; no_refusal = schedules.refusals b 2 ∙ is.no_refusal };
+    spelled = written (with_version 2 b) (second_is_formed b is.formed);
+    refusals = schedules.refusals b 2;
+    plays = runs.plays b 2;
+    runs = runs.runs b 2;
+    schedules = schedules.schedules b 2;
+  }
+
+  pub upgrade_text : SpelledIsFormed → (call : Call) (s : Status) → Happens call s → UpgradeText call.asked s call.source call.out call.out_after
+  upgrade_text formed call s h is prints =
+      let text : TextPrinted upgraded s call.source call.out call.out_after = text_printed formed command.Upgrade upgraded (λ b reply e. e) call s h is prints in
+      (text, upgraded_so text.bundle text.accepted)

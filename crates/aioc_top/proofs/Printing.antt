@@ -1,43 +1,27 @@
 -- The text of a run that has finished is that of the schedule's run.
-use Rattle.std.proofs.Common.{◌≡◌, ◌-◌, ℕ, List, [], ◌++◌, length, Bool, true, false, Option, Some, None, refl, sym, ap, ◌∙◌, subst, ⊎_elim}
-use Rattle.std.specs.Prelude.{unwrap_or, ◌↔◌, if◌then◌else◌}
+use Rattle.std.proofs.Common.{◌≡◌, ◌↔◌, ℕ, List, [], length, Bool, true, false, Option, Some, None, refl, sym, ap, ◌∙◌, subst, arith}
+use Rattle.std.specs.Prelude.{unwrap_or, if◌then◌else◌}
 use Rattle.std.specs.Option.{option_map_or}
 use Rattle.dioc_terms.specs.declared.entries.Entry.{Entry}
 use Rattle.dioc_terms.specs.declared.bundles.Last.{Last}
-use Rattle.dioc_terms.specs.Plain.{PlainBundle, setting}
+use Rattle.dioc_terms.specs.Plain.{PlainBundle}
 use Rattle.trace_text.specs.Runs.{run_text}
 use Rattle.marked_laws.specs.Network.{Network, network_run, network_start, network_ended}
-use Rattle.net_core.specs.declared.moves.Finish.{Finish}
-use Rattle.net_core.specs.declared.moves.Finish.TheVariants as finish
-use Rattle.net_core.specs.Net.{NetState, IsNetOf, network_of}
-use Rattle.net_core.specs.Runs.{Finishes, run_of}
-use Rattle.net_core.specs.Schedule.{continued, sched}
-use Rattle.net_core.proofs.Interaction.{computes}
-use Rattle.net_core.proofs.NetLemmas.{network_is, runs_at}
+use Rattle.net_core.specs.Laws.{RunsAreSound, Arrives}
+use Rattle.net_core.specs.Schedule.{sched}
+use Rattle.role_network.specs.Nets.{network_at}
+use Rattle.rule_checks.specs.Refusals.{IsAccepted}
+use Rattle.schedule.specs.declared.runs.Finish.{Finish}
+use Rattle.schedule.specs.declared.runs.Finish.TheVariants as finish
 use Rattle.command_words.specs.declared.commands.Options.{Options}
 use Rattle.aioc_top.specs.declared.replies.End.TheVariants as end
 use Rattle.aioc_top.specs.declared.replies.Written.{Written}
 use Rattle.aioc_top.specs.Replies.{Reply, reply_of, run_reply, last_of, is_finished, step_history}
 use Rattle.aioc_top.specs.Endings.{end_of, last_for}
 
-network_runs : (b : PlainBundle) (net : NetState) → IsNetOf b net → network_run b net.history ≡ Some (network_of b net)
-network_runs b net is = ap (network_run b) is.history ∙ runs_at b net (computes b net is) net.phase ∙ ap Some (sym (network_is b net is))
-
--- what a net has made that had made nothing before is the run that the schedule takes
-history_is : (options : Options) (b : PlainBundle) (old new : NetState) (how : Finish) → options.seed ≡ None → old.history ≡ [] → old.limit ≡ options.steps
-    → Finishes b old new how → new.history ≡ step_history options b
-history_is options b old new how no_seed none limit finishes =
-    finishes.history
-    ∙ (λ j. none j ++ continued (setting b) None (limit j - length (none j)) (unwrap_or (network_run b (none j)) (network_start b)))
-    ∙ (λ j. sched b (sym no_seed j) options.steps)
-
 abbrev is_end : Finish → Bool
 is_end finish.Ended = true
 is_end finish.Limit = false
-
-ended_by : (b : PlainBundle) (old new : NetState) (how : Finish) → Finishes b old new how → network_ended b.cast (network_of b new) ≡ is_end how
-ended_by b old new finish.Ended finishes = finishes.ended.0 refl
-ended_by b old new finish.Limit finishes = (finishes.limit.0 refl).1
 
 end_by : (how : Finish) → end_of how ≡ (if is_end how then end.Done else end.Limit)
 end_by finish.Ended = refl
@@ -47,20 +31,34 @@ last_by : (how : Finish) (n : ℕ) → last_for how n ≡ last_of (is_end how) n
 last_by finish.Ended n = refl
 last_by finish.Limit n = refl
 
-finished_by : (b : PlainBundle) (old new : NetState) (how : Finish) → Finishes b old new how → is_finished b new.history ≡ is_end how
-finished_by b old new how finishes =
-    ap (λ o. option_map_or (network_ended b.cast) o false) (network_runs b new finishes.net) ∙ ended_by b old new how finishes
+-- how the run finished is how its network stands
+ended_by : (how : Finish) (t : Bool) {A : Type 0} → (how ≡ finish.Ended) ↔ (t ≡ true) → (how ≡ finish.Limit) ↔ (A × (t ≡ false)) → t ≡ is_end how
+ended_by finish.Ended t ended limit = ended.0 refl
+ended_by finish.Limit t ended limit = (limit.0 refl).1
 
-pub replied : (options : Options) (b : PlainBundle) (old new : NetState) (how : Finish) (written : Written)
-    → options.seed ≡ None → old.history ≡ [] → old.limit ≡ options.steps → Finishes b old new how → written.end ≡ end_of how
-    → written.text.items ≡ run_text options.aux options.json new.history (last_for how (length new.history))
-    → reply_of written ≡ run_reply options b (step_history options b)
-replied options b old new how written no_seed none limit finishes ends wrote =
-    let H = step_history options b in
-    let history : new.history ≡ H = history_is options b old new how no_seed none limit finishes in
-    let over : is_end how ≡ is_finished b H = sym (finished_by b old new how finishes) ∙ ap (is_finished b) history in
-    let end_is : written.end ≡ (if is_finished b H then end.Done else end.Limit) = ends ∙ end_by how ∙ ap (λ t. if t then end.Done else end.Limit) over in
-    let text_is : written.text.items ≡ run_text options.aux options.json H (last_of (is_finished b H) (length H)) =
-    wrote ∙ (λ j. run_text options.aux options.json (history j) (last_for how (length (history j))))
-    ∙ ap (run_text options.aux options.json H) (last_by how (length H) ∙ ap (λ t. last_of t (length H)) over) in
-    λ j. record { end = end_is j; text = text_is j }
+module _ (options : Options) (b : PlainBundle) (is : IsAccepted b) (sound : RunsAreSound) where
+  arrives : Arrives b options.steps (step_history options b)
+  arrives = sound b [] (network_start b) options.seed options.steps is refl (omega arith)
+
+  -- the network after the run, as a net tells it
+  finished_by : (H : List Entry) → H ≡ step_history options b → is_finished b H ≡ network_ended b.cast (network_at b H)
+  finished_by H same =
+      let runs : network_run b H ≡ Some arrives.network = ap (network_run b) same ∙ arrives.runs in
+      ap (λ o. option_map_or (network_ended b.cast) o false) runs
+      ∙ sym (ap (λ o. network_ended b.cast (unwrap_or o (network_start b))) runs)
+
+  pub replied : (H : List Entry) (how : Finish) (written : Written) {A : Type 0} → H ≡ step_history options b
+      → (how ≡ finish.Ended) ↔ (network_ended b.cast (network_at b H) ≡ true)
+      → (how ≡ finish.Limit) ↔ (A × (network_ended b.cast (network_at b H) ≡ false))
+      → written.end ≡ end_of how
+      → written.text.items ≡ run_text options.aux options.json H (last_for how (length H))
+      → reply_of written ≡ run_reply options b (step_history options b)
+  replied H how written same ended limit ends wrote =
+      let over : is_end how ≡ is_finished b (step_history options b) =
+      sym (ended_by how (network_ended b.cast (network_at b H)) ended limit) ∙ sym (finished_by H same) ∙ ap (is_finished b) same in
+      let end_is : written.end ≡ (if is_finished b (step_history options b) then end.Done else end.Limit) =
+      ends ∙ end_by how ∙ ap (λ t. if t then end.Done else end.Limit) over in
+      let text_is : written.text.items ≡ run_text options.aux options.json (step_history options b) (last_of (is_finished b (step_history options b)) (length (step_history options b))) =
+      wrote ∙ (λ j. run_text options.aux options.json (same j) (last_for how (length (same j))))
+      ∙ ap (run_text options.aux options.json (step_history options b)) (last_by how (length (step_history options b)) ∙ ap (λ t. last_of t (length (step_history options b))) over) in
+      λ j. record { end = end_is j; text = text_is j }

@@ -2,8 +2,8 @@
 use Rattle.std.specs.Prelude.{ℕ}
 use Rattle.dioc_terms.specs.declared.bundles.Last.{Last}
 use Rattle.dioc_terms.specs.declared.bundles.Last.TheVariants as last
-use Rattle.net_core.specs.declared.moves.Finish.{Finish}
-use Rattle.net_core.specs.declared.moves.Finish.TheVariants as finish
+use Rattle.schedule.specs.declared.runs.Finish.{Finish}
+use Rattle.schedule.specs.declared.runs.Finish.TheVariants as finish
 use Rattle.aioc_top.specs.declared.replies.End.{End}
 use Rattle.aioc_top.specs.declared.replies.End.TheVariants as end
 

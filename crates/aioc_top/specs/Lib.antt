@@ -1,6 +1,7 @@
 pub mod Calls
 pub mod Endings
 pub mod Faults
+pub mod Judging
 pub mod Messages
 pub mod Replies
 pub mod Serve

@@ -12,6 +12,8 @@ use Rattle.projection.specs.Projection.{projected}
 use Rattle.global_steps.specs.Follow.{State, play, stray}
 use Rattle.global_steps.specs.Running as running
 use Rattle.marked_laws.specs.Network.{Network, network_run, network_ended}
+use Rattle.marked_laws.specs.Versions.{with_version}
+use Rattle.bundle_text.specs.Writing.{bundle_text}
 use Rattle.trace_text.specs.Lines.{line_end}
 use Rattle.trace_text.specs.Process.{process_text}
 use Rattle.trace_text.specs.Runs.{run_text}
@@ -122,6 +124,12 @@ role_line cast I r = line_of_text (r.0 ++ codes " = " ++ process_text (projected
 abbrev pub project_text : PlainBundle → List ℕ
 project_text b = flat_map (role_line b.cast b.choreo) b.cast
 
+-- ---- the bundle itself
+
+-- the bundle as it is written with version 2
+abbrev pub upgrade_text : PlainBundle → List ℕ
+upgrade_text b = bundle_text (with_version 2 b)
+
 -- ---- all commands
 
 -- the first refusal of a command that reads one bundle
@@ -136,4 +144,5 @@ Replies (command.Run options) b reply =
 Replies command.Check b reply = reply ≡ done (check_line b)
 Replies command.Project b reply = reply ≡ record { end = end.Done; text = project_text b }
 Replies command.Replay b reply = reply ≡ replay_reply b
+Replies command.Upgrade b reply = reply ≡ record { end = end.Done; text = upgrade_text b }
 Replies _ b reply = ⊥

@@ -6,17 +6,21 @@ use Rattle.aioc_io.specs.Sink.{SinkState, TakesPart}
 use Rattle.aioc_io.specs.Source.{SourceState}
 use Rattle.dioc_terms.specs.declared.entries.Entry.{Entry}
 use Rattle.dioc_terms.specs.Plain.{PlainBundle}
-use Rattle.dioc_syntax.specs.Grammar.{Spells}
-use Rattle.marked_laws.specs.Network.{Network, network_ended}
+use Rattle.limits.specs.Limits.{most_bytes}
+use Rattle.bundle_text.specs.Grammar.{Spells}
+use Rattle.global_steps.specs.Follow.{play}
+use Rattle.marked_laws.specs.Network.{Network, network_ended, network_run}
+use Rattle.marked_laws.specs.Versions.{with_version}
+use Rattle.net_core.specs.Schedule.{sched}
 use Rattle.rule_checks.specs.declared.refusals.Refusal.{Refusal}
 use Rattle.net_core.specs.Headline.{Headline}
-use Rattle.rule_checks.specs.Refusals.{IsAccepted}
+use Rattle.rule_checks.specs.Refusals.{IsAccepted, refusal}
 use Rattle.command_words.specs.declared.commands.Options.{Options}
 use Rattle.command_words.specs.declared.commands.Command.{Command}
 use Rattle.command_words.specs.declared.commands.Command.TheVariants as command
 use Rattle.aioc_top.specs.Calls.{IsRead, SaysLine}
 use Rattle.aioc_top.specs.Messages.{usage_line, read_fault_line, write_fault_line, too_long_line, memory_line, syntax_line, refusal_line}
-use Rattle.aioc_top.specs.Replies.{Reply, Replies, refusal_of, run_reply, step_history, line_of_text, check_line, project_text}
+use Rattle.aioc_top.specs.Replies.{Reply, Replies, refusal_of, run_reply, step_history, line_of_text, check_line, project_text, replay_reply, upgrade_text}
 use Rattle.aioc_top.specs.Verdicts.{Replied, Comes, Cause, MayReply, Refuses, status_of_end}
 use Rattle.aioc_top.specs.declared.status.Status.{Status}
 use Rattle.aioc_top.specs.declared.status.Status.TheVariants as status
@@ -83,6 +87,41 @@ abbrev pub ProjectText : Option Command → Status → SourceState → SinkState
 ProjectText asked result source out out_after =
     asked ≡ Some command.Project → has_printed result ≡ true
     → TextPrinted project_text result source out out_after
+
+-- The judgement of the trace of an accepted bundle was printed, and the status tells it: `Done` where
+-- it is `yes`, `No` where it is `no`. The bytes that were read spell this bundle.
+pub record JudgementPrinted (result : Status) (source : SourceState) (out out_after : SinkState) :
+    Type 0 where
+  pub bytes : List ℕ
+  pub read : IsRead source bytes
+  pub bundle : PlainBundle
+  pub spells : Spells bytes bundle
+  pub accepted : IsAccepted bundle
+  pub printed : Appends out.taken out_after.taken (replay_reply bundle).text
+  pub told : result ≡ status_of_end (replay_reply bundle).end
+
+-- with `replay` it is the judgement of the trace section
+abbrev pub ReplayText : Option Command → Status → SourceState → SinkState → SinkState → Type 0
+ReplayText asked result source out out_after =
+    asked ≡ Some command.Replay → has_printed result ≡ true
+    → JudgementPrinted result source out out_after
+
+-- A bundle with version 2: it is accepted, and its text spells it where it isn't too long. It has
+-- the same first refusal, plays, runs and schedules as before.
+pub record IsUpgraded (b : PlainBundle) : Type 0 where
+  pub accepted : IsAccepted (with_version 2 b)
+  pub spelled : length (upgrade_text b) ≤ most_bytes → Spells (upgrade_text b) (with_version 2 b)
+  pub refusals : refusal (with_version 2 b) ≡ refusal b
+  pub plays : (trace : List Entry) → play (with_version 2 b) trace ≡ play b trace
+  pub runs : (history : List Entry) → network_run (with_version 2 b) history ≡ network_run b history
+  pub schedules : (seed : Option ℕ) (limit : ℕ) → sched (with_version 2 b) seed limit
+      ≡ sched b seed limit
+
+-- with `upgrade` it is the bundle as it is written with version 2
+abbrev pub UpgradeText : Option Command → Status → SourceState → SinkState → SinkState → Type 0
+UpgradeText asked result source out out_after =
+    asked ≡ Some command.Upgrade → has_printed result ≡ true
+    → (text : TextPrinted upgrade_text result source out out_after) × IsUpgraded text.bundle
 
 -- memory ran out, or a device failed: nothing in the bytes makes it come
 abbrev pub GivesUp : Status → Type 0

@@ -1,17 +1,30 @@
--- Which commands are built, and which of them words ask for.
-use Rattle.std.specs.Prelude.{ℕ, List, Bool, true, false, is_none, Option, Some, None, option_and_then, if◌then◌else◌}
-use Rattle.command_words.specs.Commands.{command_of}
+-- Which commands are built, which of them words ask for, and what holds of those.
+use Rattle.std.specs.Prelude.{◌≡◌, ◌≤◌, ℕ, List, Bool, true, false, Option, Some, None, option_and_then, if◌then◌else◌}
+use Rattle.command_words.specs.Commands.{command_of, most_steps}
 use Rattle.command_words.specs.declared.commands.Command.{Command}
 use Rattle.command_words.specs.declared.commands.Command.TheVariants as command
+use Rattle.command_words.specs.declared.commands.Verb.TheVariants.{Step}
 
--- the commands that are built: `step` without a seed, `check` and `project`
+-- the commands that are built
 abbrev pub is_built : Command → Bool
-is_built (command.Step options) = is_none options.seed
+is_built (command.Step options) = true
 is_built command.Check = true
 is_built command.Project = true
+is_built command.Replay = true
+is_built command.Upgrade = true
 is_built _ = false
 
 -- the command that the words ask for, where it is built
 abbrev pub asked : List (List ℕ) → Option Command
 asked words =
     option_and_then (λ found. if is_built found then Some found else None) (command_of words)
+
+-- a run is to have no more entries than words can ask for
+abbrev pub IsShort : Command → Type 0
+IsShort (command.Step options) = options.steps ≤ most_steps Step
+IsShort _ = Unit {0}
+
+-- what holds of each command that words ask for
+pub record IsServed (found : Command) : Type 0 where
+  pub built : is_built found ≡ true
+  pub short : IsShort found

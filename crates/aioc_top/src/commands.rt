@@ -2,4 +2,6 @@
 
 pub mod check;
 pub mod project;
+pub mod replay;
 pub mod step;
+pub mod upgrade;

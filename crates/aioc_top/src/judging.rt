@@ -4,34 +4,35 @@ ghost use Rattle.std.specs.Prelude.{◌≡◌, ◌≤◌, length, true, IfErr, I
 ghost use Rattle.dioc_terms.specs.Bundles.{IsFormed};
 ghost use Rattle.limits.specs.Limits.{most_bytes};
 ghost use Rattle.dioc_terms.specs.Plain.{plain};
-ghost use Rattle.dioc_terms.specs.Supported.{IsSupported};
 ghost use Rattle.rule_checks.specs.Refusals.{IsAccepted};
 ghost use Rattle.aioc_top.specs.Faults.{IsJudgedSo, IsRefusalFault, IsSyntaxFault, IsRefusedSo};
 ghost use Rattle.aioc_top.specs.Replies.{Replies, reply_of};
 ghost use Rattle.aioc_top.specs.Verdicts.{Comes, Replied, IsReplied};
-ghost use Rattle.aioc_top.specs.Words.{is_built};
+ghost use Rattle.aioc_top.specs.Words.{IsServed};
 
 use crate::commands::check::check;
 use crate::commands::project::project;
+use crate::commands::replay::replay;
 use crate::commands::step::step;
+use crate::commands::upgrade::upgrade;
 use crate::faults::{Fault, make_refusal_line, make_syntax_line};
 use crate::replies::Written;
 use command_words::Command;
-use dioc_syntax::read_bundle;
+use bundle_text::read_bundle;
 use dioc_terms::{Bundle, Memory, SyntaxFault};
 use rule_checks::{Refusal, accept};
 use std::alloc::Global;
 
 /// What the command replies to the bundle that the bytes spell, or why it doesn't.
 pub fn judge(alloc: Global, command: &Command, bytes: &[u8]) -> Result<Written, Fault>
-    requires built { is_built command.now ≡ true }
+    requires served { IsServed command.now }
     requires small { length bytes.now ≤ most_bytes }
     ensures reply { IfOk result
         (λ written. Comes command.now bytes.now (Replied (reply_of written))) }
     ensures fault { IfErr result (IsJudgedSo command.now bytes.now) }
 {
     match read_bundle(alloc, bytes) {
-        Ok(bundle) => reply_to(alloc, command, &bundle),
+        Ok(mut bundle) => reply_to(alloc, command, &mut bundle),
         Err(SyntaxFault::Syntax(byte)) => Err(syntax_fault(alloc, byte)),
         Err(SyntaxFault::Memory) => Err(Fault::Memory),
     }
@@ -47,12 +48,11 @@ fn syntax_fault(alloc: Global, byte: usize) -> Fault
 }
 
 // What the command replies to a formed bundle, or the first refusal of the bundle.
-fn reply_to(alloc: Global, command: &Command, bundle: &Bundle) -> Result<Written, Fault>
-    requires built { is_built command.now ≡ true }
-    requires formed { IsFormed (plain bundle.now) }
-    requires supported { IsSupported (plain bundle.now) }
-    ensures reply { IfOk result (IsReplied command.now (plain bundle.now)) }
-    ensures fault { IfErr result (IsRefusedSo command.now (plain bundle.now)) }
+fn reply_to(alloc: Global, command: &Command, bundle: &mut Bundle) -> Result<Written, Fault>
+    requires served { IsServed command.now }
+    requires formed { IsFormed (plain bundle.old) }
+    ensures reply { IfOk result (IsReplied command.now (plain bundle.old)) }
+    ensures fault { IfErr result (IsRefusedSo command.now (plain bundle.old)) }
 {
     match accept(alloc, bundle) {
         Ok(()) => match do_command(alloc, command, bundle) {
@@ -75,17 +75,18 @@ fn refusal_fault(alloc: Global, refusal: &Refusal) -> Fault
     }
 }
 
-// The reply of a command that is built.
-fn do_command(alloc: Global, command: &Command, bundle: &Bundle) -> Result<Written, Memory>
-    requires built { is_built command.now ≡ true }
-    requires accepted { IsAccepted (plain bundle.now) }
-    requires supported { IsSupported (plain bundle.now) }
-    ensures { IfOk result (λ written. Replies command.now (plain bundle.now) (reply_of written)) }
+// The reply of a command that is built. Only `upgrade` changes the bundle.
+fn do_command(alloc: Global, command: &Command, bundle: &mut Bundle) -> Result<Written, Memory>
+    requires served { IsServed command.now }
+    requires accepted { IsAccepted (plain bundle.old) }
+    ensures { IfOk result (λ written. Replies command.now (plain bundle.old) (reply_of written)) }
 {
     match command {
         Command::Step(options) => step(alloc, options, bundle),
         Command::Check => check(alloc, bundle),
         Command::Project => project(alloc, bundle),
+        Command::Replay => replay(alloc, bundle),
+        Command::Upgrade => upgrade(alloc, bundle),
         _ => unreachable!(),
     }
 }

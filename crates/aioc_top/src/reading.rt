@@ -4,7 +4,7 @@ ghost use Rattle.std.specs.Prelude.{◌≡◌, true, IfErr, IfOk};
 ghost use Rattle.aioc_top.specs.Faults.{ReadSo, Stops};
 ghost use Rattle.aioc_top.specs.Replies.{reply_of};
 ghost use Rattle.aioc_top.specs.Verdicts.{Replied};
-ghost use Rattle.aioc_top.specs.Words.{is_built};
+ghost use Rattle.aioc_top.specs.Words.{IsServed};
 
 use crate::faults::Fault;
 use crate::judging::judge;
@@ -16,7 +16,7 @@ use std::alloc::Global;
 
 /// What the command replies to all the bytes of the source, or why it doesn't.
 pub fn answer<S: Source>(alloc: Global, command: &Command, source: &mut S) -> Result<Written, Fault>
-    requires built { is_built command.now ≡ true }
+    requires served { IsServed command.now }
     ensures reply { IfOk result (λ written.
         ReadSo command.now (S.state source.old) (S.state source.new) (Replied (reply_of written))) }
     ensures fault { IfErr result (Stops command.now (S.state source.old) (S.state source.new)) }

@@ -2,14 +2,15 @@
 
 ghost use Rattle.std.specs.Prelude.{◌≡◌, Some, true};
 ghost use Rattle.aioc_io.specs.Faults.{Rose};
-ghost use Rattle.dioc_syntax.specs.Grammar.{OneBundle, SpelledAreFormed};
+ghost use Rattle.bundle_text.specs.Laws.{OneBundle, SpelledIsFormed, WrittenIsSpelled};
 ghost use Rattle.net_core.specs.Headline.{EveryRun};
-ghost use Rattle.net_core.specs.Laws.{RunsAreSound};
+ghost use Rattle.marked_laws.specs.Versions.{RunsReadNoVersion};
+ghost use Rattle.net_core.specs.Laws.{RunsAreSound, SchedulesReadNoVersion};
 ghost use Rattle.aioc_top.specs.Calls.{Happens, PrintsReply, SaysLine};
 ghost use Rattle.aioc_top.specs.Faults.{line_of, status_of};
 ghost use Rattle.aioc_top.specs.Replies.{reply_of};
-ghost use Rattle.aioc_top.specs.Serve.{CheckText, ComesExactly, Complete, HeadlineHolds, ProjectText, ReadsAll, SaysWhy, Silent, StepText, UsageComes};
-ghost use Rattle.aioc_top.specs.Words.{asked, is_built};
+ghost use Rattle.aioc_top.specs.Serve.{CheckText, ComesExactly, Complete, HeadlineHolds, ProjectText, ReadsAll, ReplayText, SaysWhy, Silent, StepText, UpgradeText, UsageComes};
+ghost use Rattle.aioc_top.specs.Words.{asked, IsServed};
 ghost use Rattle.command_words.specs.Commands.{spelled};
 
 use crate::faults::Fault;
@@ -19,9 +20,10 @@ use crate::status::Status;
 use crate::words::ask;
 use aioc_io::{Failed, Sink, Source, write_all};
 use command_words::Command;
-use dioc_syntax::{one_bundle, spelled_are_formed};
+use bundle_text::{one_bundle, spelled_is_formed, written_is_spelled};
 use dioc_terms::Memory;
-use net_core::{every_run, runs_are_sound};
+use marked_laws::runs_read_no_version;
+use net_core::{every_run, runs_are_sound, schedules_read_no_version};
 use std::alloc::Global;
 
 /// Does what the words after the program's name say: reads a bundle from the source, and writes the
@@ -42,10 +44,15 @@ pub fn serve_alone<S: Source, O: Sink, E: Sink>(
     ensures step_text { StepText (asked (spelled words.now)) result (S.state source.old)
         (O.state out.old) (O.state out.new) }
 
-    // With `check` the line that says how large the bundle is, with `project` a line for each role.
+    // With `check` the line that says how large the bundle is, with `project` a line for each role,
+    // with `replay` the judgement of the trace, with `upgrade` the bundle in its second version.
     ensures check_text { CheckText (asked (spelled words.now)) result (S.state source.old)
         (O.state out.old) (O.state out.new) }
     ensures project_text { ProjectText (asked (spelled words.now)) result (S.state source.old)
+        (O.state out.old) (O.state out.new) }
+    ensures replay_text { ReplayText (asked (spelled words.now)) result (S.state source.old)
+        (O.state out.old) (O.state out.new) }
+    ensures upgrade_text { UpgradeText (asked (spelled words.now)) result (S.state source.old)
         (O.state out.old) (O.state out.new) }
 
     // The headline of the history behind the text of `step`: the choreography itself plays it, with
@@ -89,14 +96,20 @@ pub fn serve_alone<S: Source, O: Sink, E: Sink>(
 // What the crates below prove of the bundles of a text and of their runs, together.
 fn know_laws()
     ensures one { OneBundle }
-    ensures formed { SpelledAreFormed }
+    ensures formed { SpelledIsFormed }
+    ensures written { WrittenIsSpelled }
     ensures every_run { EveryRun }
     ensures sound { RunsAreSound }
+    ensures runs { RunsReadNoVersion }
+    ensures schedules { SchedulesReadNoVersion }
 {
     one_bundle();
-    spelled_are_formed();
+    spelled_is_formed();
+    written_is_spelled();
     every_run();
     runs_are_sound();
+    runs_read_no_version();
+    schedules_read_no_version();
 }
 
 // Does what the words ask for, or says that they ask for nothing.
@@ -132,7 +145,7 @@ fn do_command<S: Source, O: Sink, E: Sink>(
     out: &mut O,
     err: &mut E,
 ) -> Status
-    requires built { is_built command.now ≡ true }
+    requires served { IsServed command.now }
     ensures { Happens (record {
       asked = Some command.now;
       source = S.state source.old;

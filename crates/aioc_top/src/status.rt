@@ -22,7 +22,7 @@ pub enum Status {
     Refused,
     /// The run has as many entries as are allowed, and its network has not ended.
     Limit,
-    /// A judged trace has an entry that isn't played. No command that is built today answers so.
+    /// A judged trace has an entry that isn't played, or ends too soon.
     No,
     /// Memory ran out.
     Memory,

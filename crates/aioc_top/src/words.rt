@@ -35,8 +35,8 @@ fn is_built(command: &Command) -> bool
     ensures { result ≡ is_built command.now }
 {
     match command {
-        Command::Step(options) => options.seed.is_none(),
-        Command::Check | Command::Project => true,
+        Command::Step(_) => true,
+        Command::Check | Command::Project | Command::Replay | Command::Upgrade => true,
         _ => false,
     }
 }

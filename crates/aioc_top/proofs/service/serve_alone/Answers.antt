@@ -15,6 +15,13 @@ returns-clause-check_text g c = clauses.check_text c.know_laws.ensures.formed _ 
 pub returns-clause-project_text : goal.returns-clause-project_text
 returns-clause-project_text g c = clauses.project_text c.know_laws.ensures.formed _ c.do_words.result c.do_words.ensures
 
+pub returns-clause-replay_text : goal.returns-clause-replay_text
+returns-clause-replay_text g c = clauses.replay_text c.know_laws.ensures.formed _ c.do_words.result c.do_words.ensures
+
+pub returns-clause-upgrade_text : goal.returns-clause-upgrade_text
+returns-clause-upgrade_text g c =
+    clauses.upgrade_text c.know_laws.ensures.written c.know_laws.ensures.runs c.know_laws.ensures.schedules c.know_laws.ensures.formed _ c.do_words.result c.do_words.ensures
+
 pub returns-clause-headline : goal.returns-clause-headline
 returns-clause-headline g c options is prints =
     (clauses.step_text c.know_laws.ensures.formed c.know_laws.ensures.every_run c.know_laws.ensures.sound options _ c.do_words.result c.do_words.ensures is prints).0

@@ -1,0 +1,142 @@
+//! `replay`: the judgement of a bundle's trace.
+
+ghost use Rattle.std.specs.Prelude.{◌≡◌, ◌<◌, ◌≤◌, [], length, true, false, not, Some, None, IfOk, MatchOption};
+ghost use Rattle.dioc_terms.specs.Bundles.{IsFormed};
+ghost use Rattle.dioc_terms.specs.Messages.{visible};
+ghost use Rattle.dioc_terms.specs.Plain.{plain};
+ghost use Rattle.global_follower.specs.KeptPlays.{setting_of, state_of};
+ghost use Rattle.global_steps.specs.Follow.{play_from, stray_from};
+ghost use Rattle.global_steps.specs.Running.{ended};
+ghost use Rattle.aioc_top.specs.Judging.{PlaysOn, is_cut_short};
+ghost use Rattle.aioc_top.specs.Replies.{replay_reply, reply_of, yes, no};
+
+use crate::replies::{End, Written};
+use aux_messages::is_aux;
+use dioc_terms::{Bundle, Entry, Last, Memory};
+use global_follower::{FollowFault, Follower};
+use std::alloc::Global;
+use text_pieces::{write_bytes, write_number};
+
+/// The judgement of the entries of the trace section by the choreography: `yes` with how many were
+/// judged, where each of them is played; else `no` with the number of the first that isn't, counted
+/// from 1. Auxiliary entries are passed over, and have numbers all the same. Where the section says
+/// that the run has ended and the choreography has not, the number is one past the last entry.
+pub fn replay(alloc: Global, bundle: &Bundle) -> Result<Written, Memory>
+    requires formed { IsFormed (plain bundle.now) }
+    ensures { IfOk result (λ written. reply_of written ≡ replay_reply (plain bundle.now)) }
+{
+    let entries = bundle.trace.entries.as_slice();
+    let mut follower = Follower::new(alloc, bundle)?;
+    match first_stray(alloc, &mut follower, entries)? {
+        Some(number) => say_no(alloc, number),
+        None => say_whole(alloc, &bundle.trace.last, follower.is_ended(), entries),
+    }
+}
+
+// The reply to a trace of which each entry is played.
+fn say_whole(
+    alloc: Global,
+    last: &Option<Last>,
+    is_over: bool,
+    entries: &[Entry],
+) -> Result<Written, Memory>
+    ensures short { is_cut_short last.now is_over ≡ true
+        → IfOk result (λ written. reply_of written ≡ no (length entries.now + 1)) }
+    ensures whole { is_cut_short last.now is_over ≡ false
+        → IfOk result (λ written. reply_of written ≡ yes (length (visible entries.now))) }
+{
+    if is_cut_short(last, is_over) {
+        say_no(alloc, entries.len() as u64 + 1)
+    } else {
+        say_yes(alloc, visible_len(entries))
+    }
+}
+
+// Whether the section says that the run has ended, and the choreography has not.
+fn is_cut_short(last: &Option<Last>, is_over: bool) -> bool
+    ensures { result ≡ is_cut_short last.now is_over }
+{
+    match last {
+        Some(Last::Ended(_)) => !is_over,
+        _ => false,
+    }
+}
+
+// Follows the entries up to the first that isn't played, and gives its number.
+fn first_stray(
+    alloc: Global,
+    follower: &mut Follower<'_>,
+    entries: &[Entry],
+) -> Result<Option<u64>, Memory>
+    requires { (state_of follower.old).entries ≡ 0 }
+    ensures stray { IfOk result (λ stray. stray
+        ≡ stray_from (setting_of follower.old) (state_of follower.old) 1 entries.now) }
+    ensures whole { IfOk result (λ stray. stray ≡ None
+        → play_from (setting_of follower.old) (state_of follower.old) (visible entries.now)
+        ≡ Some (state_of follower.new)) }
+{
+    let mut number: u64 = 0;
+    for entry in entries {
+        number += 1;
+        if !plays_on(alloc, follower, entry)? {
+            return Ok(Some(number));
+        }
+    }
+    Ok(None)
+}
+
+// Follows an entry that is visible, and says whether it is played; the others are passed over.
+fn plays_on(alloc: Global, follower: &mut Follower<'_>, entry: &Entry) -> Result<bool, Memory>
+    requires { (state_of follower.old).entries < 18446744073709551615 }
+    ensures setting { setting_of follower.new ≡ setting_of follower.old }
+    ensures plays { IfOk result (PlaysOn (setting_of follower.old) (state_of follower.old) entry.now
+        (state_of follower.new)) }
+{
+    if is_aux(entry) {
+        return Ok(true);
+    }
+    match follower.follow(alloc, entry) {
+        Ok(()) => Ok(true),
+        Err(FollowFault::Stray) => Ok(false),
+        Err(FollowFault::Memory) => Err(Memory),
+    }
+}
+
+// How many of the entries are visible.
+fn visible_len(entries: &[Entry]) -> u64
+    ensures { result ≡ length (visible entries.now) }
+{
+    let mut count: u64 = 0;
+    for entry in entries {
+        if !is_aux(entry) {
+            count += 1;
+        }
+    }
+    count
+}
+
+fn say_yes(alloc: Global, count: u64) -> Result<Written, Memory>
+    ensures { IfOk result (λ written. reply_of written ≡ yes count) }
+{
+    let mut text = Vec::new(alloc);
+    write_bytes(b"yes ", &mut text)?;
+    write_number(count, &mut text)?;
+    write_bytes(b"\n", &mut text)?;
+    Ok(Written {
+        end: End::Done,
+        text,
+    })
+}
+
+fn say_no(alloc: Global, number: u64) -> Result<Written, Memory>
+    ensures { IfOk result (λ written. reply_of written ≡ no number) }
+{
+    let mut text = Vec::new(alloc);
+    write_bytes(b"no ", &mut text)?;
+    write_number(number, &mut text)?;
+    write_bytes(b"\n", &mut text)?;
+    Ok(Written {
+        end: End::No,
+        text,
+    })
+}

@@ -1,0 +1,17 @@
+pub mod Results
+pub mod Repeated
+pub mod Unique
+pub mod TraceShorter
+pub mod Shorter
+pub mod Joins
+pub mod Found
+pub mod SectionSteps
+pub mod Numbers
+pub mod Wholes
+pub mod FormedParts
+pub mod Formed
+pub mod Continued
+pub mod RoundTrip
+pub mod ScriptAgain
+pub mod BundleAgain
+pub mod Spells

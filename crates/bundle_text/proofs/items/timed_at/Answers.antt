@@ -1,0 +1,20 @@
+use Rattle.std.proofs.Common.{◌+◌, subst}
+use Rattle.rule_syntax.specs.Readers.{ChangeAt}
+use Rattle.bundle_text.specs.Grammar.{inside_limit}
+use Rattle.bundle_text.proofs.Found.{untimed, unnumbered, unchanged, timed_found}
+use Rattle.bundle_text.proofs.items.timed_at.Goals as goal
+
+pub returns-then-not-named : goal.returns-then-not-named
+returns-then-not-named c = untimed c.args.text.now c.args.at c.args.version (λ is. let found = c.named.ensures.1 is in let missed = c.if-not-named.true in cc)
+
+pub returns-in-None : goal.returns-in-None
+returns-in-None c = unnumbered c.args.text.now c.args.at c.args.version (c.named.ensures.0 cc) c.in-None.ensures
+
+pub returns-in-Some-2 : goal.returns-in-Some-2
+returns-in-Some-2 c =
+    timed_found c.args.text.now c.args.at c.args.version (c.named.ensures.0 cc) c.in-Some.after c.in-Some-2.change c.in-Some-2.next c.in-Some.ensures
+    (subst (ChangeAt c.args.version inside_limit c.args.text.now (c.args.at + 2)) c.in-Some-2.is c.in_ok-change.ensures)
+
+pub returns-in-None-2 : goal.returns-in-None-2
+returns-in-None-2 c =
+    unchanged c.args.text.now c.args.at c.args.version (c.named.ensures.0 cc) (subst (ChangeAt c.args.version inside_limit c.args.text.now (c.args.at + 2)) c.in-None-2.is c.in_ok-change.ensures)

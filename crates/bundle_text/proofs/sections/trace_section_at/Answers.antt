@@ -1,0 +1,13 @@
+use Rattle.std.proofs.Common.{refl}
+use Rattle.bundle_text.specs.Readers.{found_in}
+use Rattle.bundle_text.proofs.Found.{trace_untaken, trace_taken}
+use Rattle.bundle_text.proofs.SectionSteps.{trace_filled}
+use Rattle.bundle_text.proofs.sections.trace_section_at.Goals as goal
+
+pub returns-in-Ok-clause-found : goal.returns-in-Ok-clause-found
+returns-in-Ok-clause-found c = λ version.
+    trace_taken c.args.text.now c.args.at version (found_in c.args.parts.now) _ c.in-Ok.trace c.in-Ok.next c.requires.named c.requires.opens c.in-Ok.ensures.found
+    (trace_filled (found_in c.args.parts.now) _ c.args.parts.now.trace c.in-Ok.trace c.fill.ensures (let found = c.is_some.ensures in let test = c.if-is_some.false in cc) refl)
+
+pub returns-in-Err-clause-stopped : goal.returns-in-Err-clause-stopped
+returns-in-Err-clause-stopped c = λ told version. trace_untaken c.args.text.now c.args.at version (found_in c.args.parts.now) c.requires.named c.requires.opens (c.in-Err.ensures.stopped told)

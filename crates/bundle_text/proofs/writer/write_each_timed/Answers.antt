@@ -1,0 +1,8 @@
+use Rattle.std.proofs.lemmas.Result.{err_from_is_err_and}
+use Rattle.text_pieces.proofs.KeptFronts.{front_after}
+use Rattle.bundle_text.proofs.writer.write_each_timed.Goals as goal
+
+pub returns-in_err-write_timed-clause-memory : goal.returns-in_err-write_timed-clause-memory
+returns-in_err-write_timed-clause-memory c =
+    let p = err_from_is_err_and c.from_residual.result c.from_residual.ensures.1 in
+    rw p.1 (front_after _ _ _ _ c.loop-timed.invariant c.in_err-write_timed.ensures.memory)

@@ -1,0 +1,6 @@
+pub mod Many
+pub mod Grammar
+pub mod Readers
+pub mod Writing
+pub mod Pieces
+pub mod Laws

@@ -1,0 +1,121 @@
+//! A bundle of the parts that were read.
+
+ghost use Rattle.std.specs.Prelude.{◌≡◌, ◌≢◌, ◌≤◌, ◌+◌, ◌<◌, ◌++◌, [], length, map, vec_len, IfOk, IfErr, OnOk};
+ghost use Rattle.limits.specs.Limits.{greatest_place};
+ghost use Rattle.dioc_terms.specs.Plain.{plain, plain_rule};
+ghost use Rattle.rule_syntax.specs.Grammar.{plain_change};
+ghost use Rattle.bundle_text.specs.Grammar.{IsOnly, IsMadeOf, with_added, added_rules, numbered_change, numbered};
+ghost use Rattle.bundle_text.specs.Readers.{listed_trace, found_in, plain_timed};
+
+use crate::parts::{Parts, ReadTimed};
+use crate::stops::{Stop, lost};
+use dioc_terms::{Bundle, Change, Items, Memory, Rule, Timed, Trace, roles};
+use rule_syntax::ReadChange;
+use std::alloc::Global;
+
+/// The rules of the book's start with those that a script adds behind them, and the script with
+/// their numbers.
+#[derive(Debug, Drop)]
+struct ScriptWithRules {
+    rules: Vec<Rule>,
+    script: Vec<Timed>,
+}
+
+/// A change as a bundle keeps it. A rule that it adds goes behind the others.
+fn change_of(change: ReadChange, rules: &mut Vec<Rule>) -> Result<Change, Memory>
+    requires { vec_len rules.old ≤ greatest_place }
+    ensures change { IfOk result (λ made.
+        made ≡ numbered_change (vec_len rules.old) (plain_change change)) }
+    ensures rules { OnOk result (map plain_rule rules.new.items
+        ≡ map plain_rule rules.old.items ++ with_added (plain_change change) []) }
+{
+    match change {
+        ReadChange::Add(rule) => {
+            let number = rules.len() as u32;
+            rules.push(rule)?;
+            Ok(Change::Add(number))
+        }
+        ReadChange::Drop(name) => Ok(Change::Drop(name)),
+        ReadChange::Env(key, value) => Ok(Change::Env(key, value)),
+    }
+}
+
+/// The rules of the book's start with those that the script adds behind them, and the script with
+/// their numbers.
+fn numbered(
+    alloc: Global,
+    opening: Vec<Rule>,
+    script: Vec<ReadTimed>,
+) -> Result<ScriptWithRules, Memory>
+    requires { vec_len opening + vec_len script ≤ greatest_place }
+    ensures rules { IfOk result (λ made. map plain_rule made.rules.items
+        ≡ map plain_rule opening.items ++ added_rules (map plain_timed script.items)) }
+    ensures script { IfOk result (λ made.
+        made.script.items ≡ numbered (vec_len opening) (map plain_timed script.items)) }
+{
+    let mut rules = opening;
+    let mut made = Vec::new(alloc);
+    for timed in script {
+        let after = timed.after;
+        let change = change_of(timed.change, &mut rules)?;
+        made.push(Timed { after, change })?;
+    }
+    Ok(ScriptWithRules {
+        rules,
+        script: made,
+    })
+}
+
+/// The trace that was read, or one without lines.
+fn trace_of(alloc: Global, found: Option<Trace>) -> Trace
+    ensures { IsOnly (listed_trace found) result }
+{
+    match found {
+        Some(trace) => trace,
+        None => Trace {
+            entries: Items::new(Vec::new(alloc)),
+            last: None,
+        },
+    }
+}
+
+/// The bundle of that version which has these parts. The place says where the text ends.
+pub fn bundle_of(alloc: Global, version: u32, parts: Parts, end: usize) -> Result<Bundle, Stop>
+    requires { vec_len parts.rules + vec_len parts.script ≤ greatest_place }
+    ensures found { IfOk result (λ b. IsMadeOf (found_in parts) (plain b)) }
+    ensures version { IfOk result (λ b. b.version ≡ version) }
+    ensures stopped { IfErr result (λ stop. stop ≢ Stop.Memory →
+        (found_in parts).choreos ≡ []) }
+{
+    let Parts {
+        choreo,
+        rules,
+        env,
+        inputs,
+        script,
+        trace,
+    } = parts;
+    let choreo = match choreo {
+        Some(choreo) => choreo,
+        None => return lost((rules, env, inputs, script, trace), Stop::At(end)),
+    };
+    let opening = rules.len() as u32;
+    let cast = match roles(alloc, &choreo) {
+        Ok(cast) => cast,
+        Err(Memory) => return lost((choreo, rules, env, inputs, script, trace), Stop::Memory),
+    };
+    match numbered(alloc, rules, script) {
+        Ok(numbered) => Ok(Bundle {
+            version,
+            cast,
+            choreo,
+            rules: Items::new(numbered.rules),
+            opening,
+            env: Items::new(env),
+            inputs: Items::new(inputs),
+            script: Items::new(numbered.script),
+            trace: trace_of(alloc, trace),
+        }),
+        Err(Memory) => lost((choreo, cast, env, inputs, trace), Stop::Memory),
+    }
+}

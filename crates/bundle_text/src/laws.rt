@@ -1,0 +1,31 @@
+//! What holds of every text of a bundle.
+
+ghost use Rattle.bundle_text.specs.Laws.{OneBundle, SpelledIsFormed, WrittenIsRead, WrittenIsSpelled, ReadIsWritten};
+
+/// A law: a text spells at most one bundle. It does nothing.
+pub fn one_bundle()
+    ensures { OneBundle }
+{}
+
+/// A law: a bundle that a text spells is formed. It does nothing.
+pub fn spelled_is_formed()
+    ensures { SpelledIsFormed }
+{}
+
+/// A law: what is written of a formed bundle reads as that bundle, however long the text is. It
+/// does nothing.
+pub fn written_is_read()
+    ensures { WrittenIsRead }
+{}
+
+/// A law: a formed bundle whose text isn't too long is spelled by that text. By `one_bundle` the
+/// text spells no other. It does nothing.
+pub fn written_is_spelled()
+    ensures { WrittenIsSpelled }
+{}
+
+/// A law: a bundle that was read within the limits is written within them, that of bytes aside. It
+/// does nothing.
+pub fn read_is_written()
+    ensures { ReadIsWritten }
+{}

@@ -1,0 +1,75 @@
+//! From the bytes of a text to its bundle.
+
+ghost use Rattle.std.specs.Prelude.{◌≡◌, ◌≢◌, ◌≤◌, [], length, IfOk, IfErr};
+ghost use Rattle.dioc_terms.specs.Bundles.{IsFormed};
+ghost use Rattle.limits.specs.Limits.{greatest_place};
+ghost use Rattle.dioc_terms.specs.Plain.{PlainBundle, plain};
+ghost use Rattle.bundle_text.specs.Grammar.{IsBundle, Spells, SpellsNone};
+ghost use Rattle.bundle_text.specs.Readers.{FindsVersion};
+
+use crate::bundles::bundle_of;
+use crate::sections::sections_at;
+use crate::stops::Stop;
+use aioc_tokens::{Lexed, TokenFault, place, tokens};
+use dioc_terms::{Bundle, SyntaxFault};
+use limits::MOST_BYTES;
+use expr_syntax::number_at;
+use std::alloc::Global;
+
+/// The bundle that the bytes spell.
+///
+/// The error is `Syntax` exactly where they spell none: its number is a byte near which the grammar
+/// wanted something else. It is `Memory` where memory runs out.
+pub fn read_bundle(alloc: Global, bytes: &[u8]) -> Result<Bundle, SyntaxFault>
+    ensures found { IfOk result (λ b. Spells bytes.now (plain b)) }
+    ensures syntax { IfErr result (λ fault. fault ≢ SyntaxFault.Memory → SpellsNone bytes.now) }
+    ensures formed { IfOk result (λ b. IsFormed (plain b)) }
+{
+    if bytes.len() > MOST_BYTES {
+        return Err(SyntaxFault::Syntax(MOST_BYTES));
+    }
+    let tokens = match tokens(alloc, bytes) {
+        Ok(tokens) => tokens,
+        Err(TokenFault::BadByte(at)) => return Err(SyntaxFault::Syntax(at)),
+        Err(TokenFault::Memory) => return Err(SyntaxFault::Memory),
+    };
+    match bundle_at(alloc, &Lexed::new(bytes, &tokens)) {
+        Ok(bundle) => Ok(bundle),
+        Err(Stop::At(at)) => Err(SyntaxFault::Syntax(place(bytes, &tokens, at))),
+        Err(Stop::Memory) => Err(SyntaxFault::Memory),
+    }
+}
+
+/// The bundle that is the whole text:
+///
+/// ```text
+/// bundle = [ "version" "2" ] section { section }
+/// ```
+fn bundle_at(alloc: Global, text: &Lexed<'_>) -> Result<Bundle, Stop>
+    requires { length text.now ≤ greatest_place }
+    ensures found { IfOk result (λ b. IsBundle text.now (plain b) []) }
+    ensures stopped { IfErr result (λ stop. stop ≢ Stop.Memory →
+        (b : PlainBundle) → IsBundle text.now b [] → ⊥) }
+{
+    let (version, at) = version_at(text);
+    let parts = sections_at(alloc, text, version, at)?;
+    bundle_of(alloc, version, parts, text.len())
+}
+
+/// The version of the bundle that the text begins with, 1 where none is written, and the place
+/// behind it:
+///
+/// ```text
+/// [ "version" "2" ]
+/// ```
+fn version_at(text: &Lexed<'_>) -> (u32, usize)
+    ensures { FindsVersion text.now result.0 result.1 }
+{
+    if !text.named(0, b"version") {
+        return (1, 0);
+    }
+    match number_at(text, 1, 2) {
+        Some(2) => (2, 2),
+        _ => (1, 0),
+    }
+}

@@ -1,0 +1,51 @@
+-- What a program's values say of how an entry is played.
+use Rattle.std.specs.Prelude.{List, [], Bool, true, false, Option, Some, None}
+use Rattle.dioc_terms.specs.Attempts.{Attempt, Stuck, Does}
+use Rattle.dioc_terms.specs.Plain.{PlainRule}
+use Rattle.dioc_terms.specs.Terms.{Term, Seq, Par}
+use Rattle.global_follower.specs.declared.effects.Effect.{Effect as KeptEffect}
+use Rattle.global_follower.specs.declared.plays.Played.{Played}
+use Rattle.global_follower.specs.declared.plays.Scene.{Scene}
+use Rattle.global_follower.specs.declared.running.Running.{Running as KeptRunning}
+use Rattle.global_follower.specs.declared.running.Running as kept
+use Rattle.global_follower.specs.KeptBooks.{book_of}
+use Rattle.global_follower.specs.KeptRunning.{running}
+use Rattle.global_follower.specs.KeptEffects.{effect_of}
+use Rattle.global_follower.specs.KeptStores.{stores_of}
+use Rattle.global_steps.specs.Follow.{Effect, book_choice, plays}
+use Rattle.global_steps.specs.Running.{Running, ended}
+
+-- how what is left plays the entry of the scene
+abbrev pub plays_in : List PlainRule → Scene → Running → Attempt Effect Running
+plays_in rules scene G =
+    plays scene.cast.now (stores_of scene.stores.now)
+    (λ head. book_choice rules (book_of scene.book.now) head
+    (stores_of scene.stores.now head.leader))
+    scene.updates G scene.entry.now
+
+-- nothing is done, or the effect and what is left
+abbrev pub done : Option KeptEffect → Running → Attempt Effect Running
+done None G = Stuck
+done (Some effect) G = Does (effect_of effect) G
+
+abbrev pub attempt_of : Option Played → Attempt Effect Running
+attempt_of None = Stuck
+attempt_of (Some played) = Does (effect_of played.effect) (running played.left)
+
+-- no part of it plays an entry before it: a leaf, or a loop whose turn has ended
+abbrev pub plays_itself : KeptRunning → Bool
+plays_itself (kept.Seq' _ G _ H) = false
+plays_itself (kept.Par' _ G _ H) = false
+plays_itself (kept.Bar' scope _ G) = false
+plays_itself (kept.Again' turn _ G) = ended (running G)
+plays_itself _ = true
+
+-- the same of what asks no book
+abbrev pub plays_alone : Scene → Running → Attempt Effect Running
+plays_alone scene G = plays_in [] scene G
+
+-- neither a sequence nor a parallel
+abbrev pub is_whole : Term → Bool
+is_whole (Seq I J) = false
+is_whole (Par I J) = false
+is_whole _ = true

@@ -1,0 +1,463 @@
+//! How an entry is played by what is left of a choreography.
+
+ghost use Rattle.std.specs.Prelude.{◌≡◌, ℕ, true, None, Some, IfOk, OnErr, if◌then◌else◌};
+ghost use Rattle.std.specs.Option.{option_map};
+ghost use Rattle.dioc_terms.specs.Attempts.{under};
+ghost use Rattle.dioc_terms.specs.Expressions.{expression};
+ghost use Rattle.dioc_terms.specs.Terms.{term, roles_in, is_in};
+ghost use Rattle.global_follower.specs.declared.effects.Effect.TheVariants as effects;
+ghost use Rattle.global_follower.specs.KeptBooks.{rules_of};
+ghost use Rattle.global_follower.specs.KeptRunning.{flying, marked, part_term, running};
+ghost use Rattle.global_follower.specs.Playing.{attempt_of, done, is_whole, plays_alone, plays_in, plays_itself};
+ghost use Rattle.global_steps.specs.Running.{started};
+ghost use Rattle.global_steps.specs.Running as runs;
+
+use crate::books::PlainBook;
+use crate::effects::Effect;
+use crate::rules::RuleList;
+use crate::running::{
+    Flight, Loop, Marks, Message, Part, Running, is_doer_due, is_empty, is_ended, is_light,
+};
+use crate::scopes::play_scope;
+use crate::shown::{input_value, is_take, picked, put_value, set_value};
+use crate::stores::Stores;
+use dioc_terms::{Choreo, Entry, Expr, Index, Memory, Name, Role, Value, new_box};
+use std::alloc::Global;
+
+/// What an entry does, and what the part that plays it becomes.
+#[derive(Drop)]
+pub(crate) struct Played<'a> {
+    pub effect: Effect,
+    pub left: Running<'a>,
+}
+
+/// What every part of a choreography reads while an entry is played.
+#[derive(Clone, Copy)]
+pub(crate) struct Scene<'s> {
+    pub cast: &'s [Role],
+    pub stores: &'s Stores,
+    pub book: &'s PlainBook,
+    pub updates: u64,
+    pub entry: &'s Entry,
+}
+
+/// Plays the entry, where what is left plays it. Otherwise, and after want of memory, what is left
+/// stays as it was.
+pub(crate) fn play<'a>(
+    alloc: Global,
+    left: &mut Running<'a>,
+    rules: RuleList<'a>,
+    scene: &Scene<'_>,
+) -> Result<Option<Effect>, Memory>
+    ensures played { IfOk result (λ effect. done effect (running left.new)
+        ≡ plays_in (rules_of rules) scene.now (running left.old)) }
+    ensures stays { IfOk result (λ effect. effect ≡ None → running left.new ≡ running left.old) }
+    ensures same { OnErr result (running left.new ≡ running left.old) }
+{
+    if plays_itself(left) {
+        let played = play_whole(alloc, left, rules, scene)?;
+        return Ok(replace(left, played));
+    }
+    match left {
+        Running::Seq(first, second) => {
+            if let Some(effect) = play(alloc, first, rules, scene)? {
+                return Ok(Some(effect));
+            }
+            if is_light(first) && !is_doer_due(scene.entry, first) {
+                return play(alloc, second, rules, scene);
+            }
+            Ok(None)
+        }
+        Running::Par(left, right) => {
+            if let Some(effect) = play(alloc, left, rules, scene)? {
+                return Ok(Some(effect));
+            }
+            play(alloc, right, rules, scene)
+        }
+        Running::Bar(_, inside) => play(alloc, inside, rules, scene),
+        Running::Again(_, inside) => play(alloc, inside, rules, scene),
+        _ => unreachable!(),
+    }
+}
+
+/// Whether it plays an entry itself, and no part of it does: it is a leaf, or a loop whose turn has
+/// ended.
+fn plays_itself(left: &Running<'_>) -> bool
+    ensures { result ≡ plays_itself left.now }
+{
+    match left {
+        Running::Seq(..) | Running::Par(..) | Running::Bar(..) => false,
+        Running::Again(_, inside) => is_ended(inside),
+        Running::Skip | Running::Still(_) | Running::Fly(_) => true,
+    }
+}
+
+/// Puts what is left in the place of what was there.
+fn replace<'a>(left: &mut Running<'a>, played: Option<Played<'a>>) -> Option<Effect>
+    ensures played { done result (running left.new) ≡ attempt_of played }
+    ensures stays { result ≡ None → running left.new ≡ running left.old }
+{
+    match played {
+        None => None,
+        Some(Played { effect, left: next }) => {
+            *left = next;
+            Some(effect)
+        }
+    }
+}
+
+/// How a leaf, or a loop whose turn has ended, plays the entry.
+#[tactic(auto, using(crate::proofs::StillLemmas::ended_plays_nothing))]
+fn play_whole<'a>(
+    alloc: Global,
+    whole: &Running<'a>,
+    rules: RuleList<'a>,
+    scene: &Scene<'_>,
+) -> Result<Option<Played<'a>>, Memory>
+    requires { plays_itself whole.now ≡ true }
+    ensures { IfOk result (λ played. attempt_of played
+        ≡ plays_in (rules_of rules) scene.now (running whole.now)) }
+{
+    match whole {
+        Running::Skip => Ok(None),
+        Running::Still(part) => play_part(alloc, part.choreo, part.marks, rules, scene),
+        Running::Fly(flight) => play_landing(alloc, flight, scene),
+        Running::Again(turn, _) => play_loop(alloc, *turn, scene),
+        _ => unreachable!(),
+    }
+}
+
+/// How a part that nobody has begun plays the entry.
+fn play_part<'a>(
+    alloc: Global,
+    choreo: &'a Choreo,
+    marks: Marks,
+    rules: RuleList<'a>,
+    scene: &Scene<'_>,
+) -> Result<Option<Played<'a>>, Memory>
+    ensures { IfOk result (λ played. attempt_of played
+        ≡ plays_in (rules_of rules) scene.now (started (marked choreo.now marks))) }
+{
+    match choreo {
+        Choreo::Seq(first, second) => {
+            if let Some(played) = play_part(alloc, first, marks, rules, scene)? {
+                return in_first(alloc, played, marks.part(second));
+            }
+            if !is_empty(first) {
+                return Ok(None);
+            }
+            let played = play_part(alloc, second, marks, rules, scene)?;
+            in_second(alloc, marks.part(first), played)
+        }
+        Choreo::Par(left, right) => {
+            if let Some(played) = play_part(alloc, left, marks, rules, scene)? {
+                return in_left(alloc, played, marks.part(right));
+            }
+            let played = play_part(alloc, right, marks, rules, scene)?;
+            in_right(alloc, marks.part(left), played)
+        }
+        construct => play_construct(alloc, construct, marks, rules, scene),
+    }
+}
+
+/// How an interaction, an assignment, an input, a choice, a loop or a scope plays the entry.
+fn play_construct<'a>(
+    alloc: Global,
+    construct: &'a Choreo,
+    marks: Marks,
+    rules: RuleList<'a>,
+    scene: &Scene<'_>,
+) -> Result<Option<Played<'a>>, Memory>
+    requires { is_whole (term construct.now) ≡ true }
+    ensures { IfOk result (λ played. attempt_of played
+        ≡ plays_in (rules_of rules) scene.now (started (marked construct.now marks))) }
+{
+    match construct {
+        Choreo::Skip => Ok(None),
+        Choreo::Com {
+            index,
+            op,
+            from,
+            expr,
+            to,
+            var,
+        } => {
+            let message = Message {
+                from,
+                to,
+                index: marks.of(*index),
+                op,
+            };
+            play_sending(alloc, message, expr, var, scene)
+        }
+        Choreo::Set {
+            index,
+            var,
+            role,
+            expr,
+        } => play_setting(alloc, marks.of(*index), var, role, expr, scene),
+        Choreo::Input { index, var, role } => {
+            play_input(alloc, marks.of(*index), var, role, scene)
+        }
+        Choreo::If {
+            index,
+            leader,
+            guard,
+            yes,
+            no,
+        } => {
+            let index = marks.of(*index);
+            play_choice(
+                alloc,
+                index,
+                leader,
+                guard,
+                marks.part(yes),
+                marks.part(no),
+                scene,
+            )
+        }
+        Choreo::While {
+            index,
+            leader,
+            guard,
+            body,
+        } => {
+            let turn = Loop {
+                index: marks.of(*index),
+                leader,
+                guard,
+                body: marks.part(body),
+            };
+            play_loop(alloc, turn, scene)
+        }
+        Choreo::Scope { .. } => play_scope(alloc, construct, marks, rules, scene),
+        _ => unreachable!(),
+    }
+}
+
+/// The message begins to fly, with the value of the expression.
+fn play_sending<'a>(
+    alloc: Global,
+    message: Message<'a>,
+    expr: &Expr,
+    var: &'a Name,
+    scene: &Scene<'_>,
+) -> Result<Option<Played<'a>>, Memory>
+    ensures { IfOk result (λ played. attempt_of played
+        ≡ plays_alone scene.now (runs.Com message.index message.op.now message.from.now
+        (expression expr.now) message.to.now var.now)) }
+{
+    let store = scene.stores.of(message.from);
+    match put_value(alloc, scene.entry, message, expr, store)? {
+        None => Ok(None),
+        Some(value) => Ok(Some(Played {
+            effect: Effect::Leaves,
+            left: Running::Fly(Flight {
+                message,
+                var,
+                value,
+            }),
+        })),
+    }
+}
+
+/// The message lands in the receiver's variable.
+fn play_landing<'a>(
+    alloc: Global,
+    flight: &Flight<'a>,
+    scene: &Scene<'_>,
+) -> Result<Option<Played<'a>>, Memory>
+    ensures { IfOk result (λ played. attempt_of played ≡ plays_alone scene.now (flying flight.now)) }
+{
+    if !is_take(scene.entry, flight.message, flight.var) {
+        return Ok(None);
+    }
+    let var = flight.var.copy(alloc)?;
+    let value = flight.value.copy(alloc)?;
+    Ok(Some(Played {
+        effect: Effect::Assigns(var, value),
+        left: Running::Skip,
+    }))
+}
+
+fn play_setting<'a>(
+    alloc: Global,
+    index: Index,
+    var: &Name,
+    role: &Role,
+    expr: &Expr,
+    scene: &Scene<'_>,
+) -> Result<Option<Played<'a>>, Memory>
+    ensures { IfOk result (λ played. attempt_of played
+        ≡ plays_alone scene.now (runs.Set index var.now role.now (expression expr.now))) }
+{
+    let store = scene.stores.of(role);
+    match set_value(alloc, scene.entry, index, var, role, expr, store)? {
+        None => Ok(None),
+        Some(value) => Ok(Some(Played {
+            effect: Effect::Assigns(var.copy(alloc)?, value),
+            left: Running::Skip,
+        })),
+    }
+}
+
+fn play_input<'a>(
+    alloc: Global,
+    index: Index,
+    var: &Name,
+    role: &Role,
+    scene: &Scene<'_>,
+) -> Result<Option<Played<'a>>, Memory>
+    ensures { IfOk result (λ played. attempt_of played
+        ≡ plays_alone scene.now (runs.Input index var.now role.now)) }
+{
+    let store = scene.stores.of(role);
+    match input_value(alloc, scene.entry, index, var, role, store)? {
+        None => Ok(None),
+        Some(value) => Ok(Some(Played {
+            effect: Effect::Reads(var.copy(alloc)?, value),
+            left: Running::Skip,
+        })),
+    }
+}
+
+/// The leader picks a branch.
+fn play_choice<'a>(
+    alloc: Global,
+    index: Index,
+    leader: &Role,
+    guard: &Expr,
+    yes: Part<'a>,
+    no: Part<'a>,
+    scene: &Scene<'_>,
+) -> Result<Option<Played<'a>>, Memory>
+    ensures { IfOk result (λ played. attempt_of played
+        ≡ plays_alone scene.now (runs.If index leader.now (expression guard.now) (part_term yes)
+        (part_term no))) }
+{
+    let store = scene.stores.of(leader);
+    match picked(alloc, scene.entry, index, leader, guard, store)? {
+        None => Ok(None),
+        Some(flag) => Ok(Some(leaves(Running::Still(if flag { yes } else { no })))),
+    }
+}
+
+/// The leader of the loop picks a turn with a fresh body, or the end.
+fn play_loop<'a>(
+    alloc: Global,
+    turn: Loop<'a>,
+    scene: &Scene<'_>,
+) -> Result<Option<Played<'a>>, Memory>
+    ensures { IfOk result (λ played. attempt_of played
+        ≡ plays_alone scene.now (runs.While turn.index turn.leader.now (expression turn.guard.now)
+        (part_term turn.body))) }
+{
+    let store = scene.stores.of(turn.leader);
+    match picked(
+        alloc,
+        scene.entry,
+        turn.index,
+        turn.leader,
+        turn.guard,
+        store,
+    )? {
+        None => Ok(None),
+        Some(true) => {
+            let inside = new_box(alloc, Running::Still(turn.body))?;
+            Ok(Some(leaves(Running::Again(turn, inside))))
+        }
+        Some(false) => Ok(Some(leaves(Running::Skip))),
+    }
+}
+
+/// The store stays as it is.
+pub(crate) fn leaves<'a>(left: Running<'a>) -> Played<'a>
+    ensures effect { result.effect ≡ effects.Leaves }
+    ensures left { result.left ≡ left }
+{
+    Played {
+        effect: Effect::Leaves,
+        left,
+    }
+}
+
+/// The first part of a sequence plays.
+fn in_first<'a>(
+    alloc: Global,
+    played: Played<'a>,
+    second: Part<'a>,
+) -> Result<Option<Played<'a>>, Memory>
+    ensures { IfOk result (λ whole. attempt_of whole
+        ≡ under (λ K. runs.Seq K (started (part_term second))) (attempt_of (Some played))) }
+{
+    let Played { effect, left } = played;
+    let first = new_box(alloc, left)?;
+    let second = new_box(alloc, Running::Still(second))?;
+    Ok(Some(Played {
+        effect,
+        left: Running::Seq(first, second),
+    }))
+}
+
+/// The second part of a sequence plays.
+fn in_second<'a>(
+    alloc: Global,
+    first: Part<'a>,
+    played: Option<Played<'a>>,
+) -> Result<Option<Played<'a>>, Memory>
+    ensures { IfOk result (λ whole. attempt_of whole
+        ≡ under (runs.Seq (started (part_term first))) (attempt_of played)) }
+{
+    match played {
+        None => Ok(None),
+        Some(Played { effect, left }) => {
+            let second = new_box(alloc, left)?;
+            let first = new_box(alloc, Running::Still(first))?;
+            Ok(Some(Played {
+                effect,
+                left: Running::Seq(first, second),
+            }))
+        }
+    }
+}
+
+/// The left part of a parallel plays.
+fn in_left<'a>(
+    alloc: Global,
+    played: Played<'a>,
+    right: Part<'a>,
+) -> Result<Option<Played<'a>>, Memory>
+    ensures { IfOk result (λ whole. attempt_of whole
+        ≡ under (λ K. runs.Par K (started (part_term right))) (attempt_of (Some played))) }
+{
+    let Played { effect, left } = played;
+    let left = new_box(alloc, left)?;
+    let right = new_box(alloc, Running::Still(right))?;
+    Ok(Some(Played {
+        effect,
+        left: Running::Par(left, right),
+    }))
+}
+
+/// The right part of a parallel plays.
+fn in_right<'a>(
+    alloc: Global,
+    left: Part<'a>,
+    played: Option<Played<'a>>,
+) -> Result<Option<Played<'a>>, Memory>
+    ensures { IfOk result (λ whole. attempt_of whole
+        ≡ under (runs.Par (started (part_term left))) (attempt_of played)) }
+{
+    match played {
+        None => Ok(None),
+        Some(Played { effect, left: next }) => {
+            let right = new_box(alloc, next)?;
+            let left = new_box(alloc, Running::Still(left))?;
+            Ok(Some(Played {
+                effect,
+                left: Running::Par(left, right),
+            }))
+        }
+    }
+}

@@ -1,0 +1,196 @@
+//! How a scope plays the choice of its leader.
+
+ghost use Rattle.std.specs.Prelude.{◌≡◌, ◌==◌, ◌<◌, ◌++◌, ◌∷◌, [], suc, true, IfOk, IfSome, OnOk, if◌then◌else◌, option_map};
+ghost use Rattle.dioc_terms.specs.Equality.{member};
+ghost use Rattle.dioc_terms.specs.Terms.{at_epoch, is_in, roles_in, term};
+ghost use Rattle.global_follower.specs.KeptBooks.{rules_of};
+ghost use Rattle.global_follower.specs.KeptRunning.{marked, part_term};
+ghost use Rattle.global_follower.specs.Playing.{attempt_of, plays_in};
+ghost use Rattle.global_follower.specs.Scopes.{choice_of, chosen_body, entered, is_scope};
+ghost use Rattle.global_steps.specs.Running.{started};
+
+use crate::plays::{Played, Scene, leaves};
+use crate::rules::RuleList;
+use crate::running::{Marks, Part, Running};
+use crate::shown::choice;
+use dioc_terms::{
+    Bindings, Choreo, Chosen, Index, Items, Memory, Role, Roles, ScopeHead, new_box, stamped_bodies,
+};
+use std::alloc::Global;
+
+/// How a scope plays the entry: its leader chooses what the book chooses, the scope's own body or
+/// that of a rule as the next update, one level higher.
+pub(crate) fn play_scope<'a>(
+    alloc: Global,
+    scope: &'a Choreo,
+    marks: Marks,
+    rules: RuleList<'a>,
+    scene: &Scene<'_>,
+) -> Result<Option<Played<'a>>, Memory>
+    requires { is_scope (term scope.now) ≡ true }
+    ensures { IfOk result (λ played. attempt_of played
+        ≡ plays_in (rules_of rules) scene.now (started (marked scope.now marks))) }
+{
+    match scope {
+        Choreo::Scope {
+            index,
+            leader,
+            body,
+            props,
+            ..
+        } => match choice(scene.entry, marks.of(*index), leader) {
+            None => Ok(None),
+            Some(shown) => {
+                let head = head(alloc, scope, marks, *index, leader, props, scene.cast)?;
+                let rule = scene.book.choose(rules, &head, scene.stores.of(leader));
+                let body = chosen_body(rules, rule, shown, marks.part(body), scene.updates);
+                enter(alloc, marks.part(scope), body)
+            }
+        },
+        _ => unreachable!(),
+    }
+}
+
+/// The scope with the body that was chosen.
+fn enter<'a>(
+    alloc: Global,
+    scope: Part<'a>,
+    body: Option<Part<'a>>,
+) -> Result<Option<Played<'a>>, Memory>
+    ensures { IfOk result (λ played. attempt_of played
+        ≡ entered (λ q. is_in q (part_term scope)) (option_map part_term body)) }
+{
+    match body {
+        None => Ok(None),
+        Some(body) => {
+            let inside = new_box(alloc, Running::Still(body))?;
+            Ok(Some(leaves(Running::Bar(scope, inside))))
+        }
+    }
+}
+
+/// The body that is played where the leader chose so: the scope's own where no rule is chosen, else
+/// the rule's. `None` where the leader chose otherwise.
+fn chosen_body<'a>(
+    rules: RuleList<'a>,
+    rule: Option<u32>,
+    shown: &Chosen,
+    body: Part<'a>,
+    updates: u64,
+) -> Option<Part<'a>>
+    requires { IfSome rule (λ number. body.marks.level < 16) }
+    ensures { option_map part_term result ≡ chosen_body shown.now (choice_of (rules_of rules) rule)
+        (part_term body) updates body.marks.level }
+{
+    match rule.and_then(|number| rules.get(number)) {
+        None => match shown {
+            Chosen::Keep => Some(body),
+            Chosen::Rule { .. } => None,
+        },
+        Some(rule) => match shown {
+            Chosen::Rule { name, epoch } => {
+                if *name != rule.name || !is_next(*epoch, updates) {
+                    return None;
+                }
+                let marks = Marks {
+                    epoch: *epoch,
+                    level: body.marks.level + 1,
+                };
+                Some(marks.part(&rule.body))
+            }
+            Chosen::Keep => None,
+        },
+    }
+}
+
+/// Whether the epoch is that of the next update.
+fn is_next(epoch: u32, updates: u64) -> bool
+    ensures { result ≡ (epoch == suc updates) }
+{
+    epoch != 0 && u64::from(epoch - 1) == updates
+}
+
+/// What the leader shows the book: the scope without its body, its roles in the order of the cast.
+fn head(
+    alloc: Global,
+    scope: &Choreo,
+    marks: Marks,
+    index: Index,
+    leader: &Role,
+    props: &Bindings,
+    cast: &[Role],
+) -> Result<ScopeHead, Memory>
+    ensures { IfOk result (λ head. head ≡
+        record {
+          index = at_epoch marks.epoch index;
+          leader = leader.now;
+          roles = roles_in cast.now (marked scope.now marks);
+          props = props.now;
+          level = marks.level;
+        }) }
+{
+    stamped_bodies();
+    Ok(ScopeHead {
+        index: marks.of(index),
+        leader: leader.copy(alloc)?,
+        roles: roles_in(alloc, cast, scope)?,
+        props: props.copy(alloc)?,
+        level: marks.level,
+    })
+}
+
+/// The roles of the cast that the scope names, in the order of the cast.
+fn roles_in(alloc: Global, cast: &[Role], scope: &Choreo) -> Result<Roles, Memory>
+    ensures { IfOk result (λ roles. roles ≡ roles_in cast.now (term scope.now)) }
+{
+    let mut roles = Vec::new(alloc);
+    for role in cast {
+        keep(alloc, &mut roles, role, names(scope, role))?;
+    }
+    Ok(Items::new(roles))
+}
+
+/// Adds the role where it is kept.
+fn keep(alloc: Global, roles: &mut Vec<Role>, role: &Role, is_kept: bool) -> Result<(), Memory>
+    ensures { OnOk result (roles.new.items ≡ roles.old.items
+        ++ (if is_kept then role.now ∷ [] else [])) }
+{
+    if is_kept {
+        roles.push(role.copy(alloc)?)?;
+    }
+    Ok(())
+}
+
+/// Whether the part names the role.
+fn names(part: &Choreo, role: &Role) -> bool
+    ensures { result ≡ is_in role.now (term part.now) }
+{
+    match part {
+        Choreo::Skip => false,
+        Choreo::Com { from, to, .. } => role == from || role == to,
+        Choreo::Set { role: owner, .. } | Choreo::Input { role: owner, .. } => role == owner,
+        Choreo::Seq(left, right) | Choreo::Par(left, right) => {
+            names(left, role) || names(right, role)
+        }
+        Choreo::If {
+            leader,
+            yes,
+            no,
+            ..
+        } => role == leader || names(yes, role) || names(no, role),
+        Choreo::While { leader, body, .. } => role == leader || names(body, role),
+        Choreo::Scope {
+            leader,
+            body,
+            extra,
+            ..
+        } => role == leader || names(body, role) || is_one_of(role, extra.as_slice()),
+    }
+}
+
+/// Whether the role is one of these.
+fn is_one_of(role: &Role, roles: &[Role]) -> bool
+    ensures { result ≡ member role.now roles.now }
+{
+    roles.iter().any(|one| role == one)
+}

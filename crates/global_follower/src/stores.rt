@@ -1,0 +1,133 @@
+//! The stores of all roles.
+
+ghost use Rattle.std.specs.Prelude.{◌≡◌, ◌<◌, ◌++◌, [], IfOk, OnOk};
+ghost use Rattle.dioc_terms.specs.KeptStores.{room, store_of};
+ghost use Rattle.dioc_terms.specs.Stores.{fresh_store};
+ghost use Rattle.global_follower.specs.KeptEffects.{effect_of};
+ghost use Rattle.global_steps.specs.Follow.{affected, inputs_of};
+
+use crate::effects::Effect;
+use dioc_terms::{Items, Memory, Role, Store, Value, Values};
+use indexmap::IndexMap;
+use std::alloc::Global;
+
+/// The stores of all roles. A role that has had no input and has done nothing has no place in the
+/// map: its store is empty.
+#[derive(Drop)]
+pub(crate) struct Stores {
+    stores: IndexMap<Role, Store>,
+    empty: Store,
+    ghost is_empty: { store_of empty ≡ fresh_store [] },
+}
+
+impl Stores {
+    ghost use Rattle.std.specs.Prelude.{◌≡◌, IfOk, OnOk};
+    ghost use Rattle.dioc_terms.specs.KeptStores.{store_of};
+    ghost use Rattle.dioc_terms.specs.Stores.{fresh_store};
+    ghost use Rattle.global_follower.specs.KeptEffects.{effect_of};
+    ghost use Rattle.global_follower.specs.KeptStores.{stores_of, IsReadyFor};
+    ghost use Rattle.global_steps.specs.Follow.{affected, inputs_of, updated};
+
+    /// The stores before the first entry: no variable is set, and each role has the inputs that are
+    /// given for it, joined in their order.
+    pub(crate) fn opening(alloc: Global, given: &[(Role, Values)]) -> Result<Stores, Memory>
+        ensures { IfOk result (λ stores. stores_of stores ≡ λ q. fresh_store (inputs_of given.now q)) }
+    {
+        let mut stores = IndexMap::new(alloc);
+        for pair in given {
+            let store = opening_store(alloc, given, &pair.0)?;
+            stores.insert(pair.0.copy(alloc)?, store)?;
+        }
+        let empty = Store::new(alloc, Items::new(Vec::new(alloc)));
+        Ok(Stores { stores, empty })
+    }
+
+    /// The store of the role.
+    pub(crate) fn of(&self, role: &Role) -> &Store
+        ensures { store_of result.now ≡ stores_of self.now role.now }
+    {
+        match self.stores.get(role) {
+            Some(store) => store,
+            None => &self.empty,
+        }
+    }
+
+    /// Makes room for one more variable in the store of the role.
+    pub(crate) fn make_ready(&mut self, alloc: Global, role: &Role) -> Result<(), Memory>
+        ensures same { stores_of self.new ≡ stores_of self.old }
+        ensures ready { OnOk result (IsReadyFor role.now self.new) }
+    {
+        if !self.stores.contains_key(role) {
+            let empty = Store::new(alloc, Items::new(Vec::new(alloc)));
+            self.stores.insert(role.copy(alloc)?, empty)?;
+        }
+        match self.stores.get_mut(role) {
+            Some(store) => store.reserve(1),
+            None => Ok(()),
+        }
+    }
+
+    /// Does to the store of the role what an entry does to it. It takes no memory.
+    pub(crate) fn affect(&mut self, role: &Role, effect: Effect)
+        requires { IsReadyFor role.now self.old }
+        ensures { stores_of self.new ≡ updated role.now
+            (affected (effect_of effect) (stores_of self.old role.now)) (stores_of self.old) }
+    {
+        if let Some(store) = self.stores.get_mut(role) {
+            affect(store, effect);
+        }
+    }
+}
+
+/// The store of a role before the first entry.
+fn opening_store(alloc: Global, given: &[(Role, Values)], role: &Role) -> Result<Store, Memory>
+    ensures { IfOk result (λ store. store_of store ≡ fresh_store (inputs_of given.now role.now)) }
+{
+    let mut inputs = Vec::new(alloc);
+    add_inputs(alloc, given, role, &mut inputs)?;
+    Ok(Store::new(alloc, Items::new(inputs)))
+}
+
+/// Does to a store what an entry does to it.
+fn affect(store: &mut Store, effect: Effect)
+    requires { 0 < room store.old }
+    ensures { store_of store.new ≡ affected (effect_of effect) (store_of store.old) }
+{
+    match effect {
+        Effect::Leaves => {}
+        Effect::Assigns(var, value) => store.set(var, value),
+        Effect::Reads(var, value) => {
+            let _input = store.next_input();
+            store.set(var, value);
+        }
+    }
+}
+
+/// Adds the inputs that are given for the role.
+fn add_inputs(
+    alloc: Global,
+    given: &[(Role, Values)],
+    role: &Role,
+    inputs: &mut Vec<Value>,
+) -> Result<(), Memory>
+    ensures { OnOk result (inputs.new.items ≡ inputs.old.items ++ inputs_of given.now role.now) }
+{
+    match given {
+        [] => Ok(()),
+        [(owner, values), rest @ ..] => {
+            if owner == role {
+                add_copies(alloc, values.as_slice(), inputs)?;
+            }
+            add_inputs(alloc, rest, role, inputs)
+        }
+    }
+}
+
+fn add_copies(alloc: Global, values: &[Value], copies: &mut Vec<Value>) -> Result<(), Memory>
+    ensures { OnOk result (copies.new.items ≡ copies.old.items ++ values.now) }
+{
+    for value in values {
+        copies.push(value.copy(alloc)?)?;
+    }
+    Ok(())
+}

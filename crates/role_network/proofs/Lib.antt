@@ -1,0 +1,14 @@
+pub mod ActLemmas
+pub mod ChangeLemmas
+pub mod DeedLemmas
+pub mod ListLemmas
+pub mod MailLemmas
+pub mod NetLemmas
+pub mod PlaceLemmas
+pub mod RoleLemmas
+pub mod RunLemmas
+pub mod SameMail
+pub mod ScopeLemmas
+pub mod LocalLemmas
+pub mod StartLemmas
+pub mod TellLemmas

@@ -1,0 +1,29 @@
+-- The change that was looked at is taken out and made.
+use Rattle.std.proofs.Common.{◌≡◌, ◌≤◌, List, ◌∷◌, ◌++◌, Some, [], length, map, drop, refl, sym, ap, ◌∙◌, subst, arith}
+use Rattle.dioc_terms.specs.Messages.{visible}
+use Rattle.dioc_terms.specs.Rules.{apply}
+use Rattle.rule_book.specs.KeptBooks.{book_of}
+use Rattle.role_network.proofs.ChangeLemmas.{looked_at}
+use Rattle.role_network.specs.declared.bodies.Coming.{Coming}
+use Rattle.role_network.specs.KeptParts.{due_seen}
+use Rattle.std.specs.Option.{option_to_list}
+use Rattle.role_network.proofs.changing.make_change.Goals as goal
+
+pub returns-clause-made : goal.returns-clause-made
+returns-clause-made c = λ rules of.
+    let x = c.in-Some-pop_front.field-0 in
+    let rest = c.pop_front.new.self.items in
+    let items : c.args.script.now.items ≡ x ∷ rest = c.pop_front.ensures.items ∙ ap (λ o. option_to_list o ++ rest) c.in-Some-pop_front.is in
+    let same : c.in-Some.next.now ≡ x = looked_at c.args.script.now.items rest x c.in-Some.next.now items c.in-Some.ensures.lookup in
+    record {
+      due = due_seen x;
+      script = ap (map due_seen) items;
+      entry = x.entry;
+      shows = refl;
+      stands = omega (arith, c.if-visible_len-next.false, c.visible_len.ensures, ap (λ (k : Coming). k.after) same);
+      book = c.apply.ensures.applied rules of ∙ ap (apply rules (book_of c.args.book.now)) c.in-Some-pop_front.change-is;
+      of = c.apply.ensures.of rules of;
+      next = c.apply.ensures.coming;
+      entries = c.push.ensures.pushed ∙ ap (λ e. c.reserve.new.self.entries ++ e ∷ []) c.in-Some-pop_front.entry-is
+          ∙ ap (λ H. H ++ x.entry ∷ []) c.reserve.ensures.same;
+    }

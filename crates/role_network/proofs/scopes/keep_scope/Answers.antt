@@ -1,0 +1,11 @@
+-- The leader went on as the book says.
+use Rattle.dpoc_process.specs.Handed.{IsKept}
+use Rattle.process_steps.specs.Steps.{FromBook}
+use Rattle.role_network.proofs.ScopeLemmas.{kept_brings}
+use Rattle.role_network.proofs.scopes.keep_scope.Goals as goal
+
+pub returns-clause-steps : goal.returns-clause-steps
+returns-clause-steps g c = λ decide keeps.
+    let led = c.requires.led in
+    c.advance.ensures.steps (FromBook decide)
+    (kept_brings (g.R.Runs.local c.args.state.now) c.args.act.now led.0 c.args.head decide led.1 led.2 keeps)

@@ -1,0 +1,12 @@
+pub mod Acts
+pub mod Changes
+pub mod Deeds
+pub mod Faults
+pub mod KeptParts
+pub mod MovesIn
+pub mod Nets
+pub mod Scopes
+pub mod Scripts
+pub mod Standing
+pub mod StepLaws
+pub mod Steps

@@ -1,0 +1,23 @@
+-- The moves that the roles of a net have, by their locals and the mail.
+use Rattle.std.specs.Prelude.{ℕ, List, [], ◌∷◌, ◌++◌, map, filter, Bool, false, nat_le}
+use Rattle.dioc_terms.specs.declared.names.Role.{Role}
+use Rattle.dpoc_process.specs.LocalStates.{LocalState, offered}
+use Rattle.net_core.specs.declared.moves.Move.{Move}
+use Rattle.net_core.specs.declared.moves.Move.TheVariants as move
+use Rattle.role_mailbox.specs.declared.mail.Mail.{Mail}
+use Rattle.role_network.specs.Deeds.{is_there}
+use Rattle.role_network.specs.Standing.{Due}
+
+-- the acts that a role offers, without takes whose message isn't pending
+abbrev pub local_moves : Role → LocalState → Mail → List Move
+local_moves q s mail = map (move.Act q) (filter (λ a. is_there a mail) (offered s))
+
+-- those of the roles, role by role
+abbrev pub moves_in : List Role → List LocalState → Mail → List Move
+moves_in (q ∷ qs) (s ∷ ss) mail = local_moves q s mail ++ moves_in qs ss mail
+moves_in _ _ mail = []
+
+-- whether the first of the changes may stand after so many visible entries
+abbrev pub is_first_due : List Due → ℕ → Bool
+is_first_due [] visible_entries = false
+is_first_due (due ∷ rest) visible_entries = nat_le due.after visible_entries

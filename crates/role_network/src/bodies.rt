@@ -1,0 +1,18 @@
+//! What a net keeps of the rules and of the script.
+
+use dioc_terms::{Change, Choreo, Entry, Name};
+
+/// What replaces a scope: the name and the body of a rule.
+#[derive(Debug, Drop)]
+pub struct RuleBody {
+    pub name: Name,
+    pub body: Choreo,
+}
+
+/// A change of the script, with the entry that it shows.
+#[derive(Debug, Drop)]
+pub struct Coming {
+    pub after: u64,
+    pub change: Change,
+    pub entry: Entry,
+}

@@ -1,0 +1,17 @@
+//! The network of a bundle of every form, run by role states that keep their processes themselves.
+#![tactic(auto)]
+
+mod bodies;
+mod changing;
+mod faults;
+mod laws;
+mod listing;
+mod network;
+mod parts;
+mod scopes;
+mod starting;
+
+pub use faults::ChangeFault;
+pub use laws::steps_run;
+pub use network::Net;
+pub use starting::Begins;

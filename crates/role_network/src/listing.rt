@@ -1,0 +1,98 @@
+//! The moves of a net, listed.
+
+ghost use Rattle.std.specs.Prelude.{◌≡◌, ◌++◌, [], ◌∷◌, if◌then◌else◌, IfOk, OnOk, map};
+ghost use Rattle.net_core.specs.declared.moves.Move.TheVariants as move;
+ghost use Rattle.role_network.specs.KeptParts.{due_seen};
+ghost use Rattle.role_network.specs.MovesIn.{local_moves, moves_in, is_first_due};
+
+use crate::bodies::Coming;
+use crate::parts::is_there;
+use dioc_terms::{Memory, Role, Roles};
+use dpoc_process::Runs;
+use net_core::Move;
+use role_mailbox::Mail;
+use std::alloc::Global;
+use std::collections::VecDeque;
+
+/// Whether the first of the changes may stand after so many visible entries.
+pub(crate) fn is_first_due(script: &VecDeque<Coming>, visible_entries: u64) -> bool
+    ensures { result ≡ is_first_due (map due_seen script.now.items) visible_entries }
+{
+    match script.front() {
+        Some(next) => next.after <= visible_entries,
+        None => false,
+    }
+}
+
+/// The change where it is due, and then the moves of the roles.
+pub(crate) fn list_moves<R: Runs>(
+    alloc: Global,
+    cast: &Roles,
+    roles: &Vec<R>,
+    mail: &Mail,
+    due: bool,
+) -> Result<Vec<Move>, Memory>
+    ensures { IfOk result (λ found. found.items ≡ (if due then move.Change ∷ [] else [])
+        ++ moves_in cast.now (map R.local roles.now.items) mail.now) }
+{
+    let mut moves = change_moves(alloc, due)?;
+    match add_moves(alloc, cast.as_slice(), roles.as_slice(), mail, &mut moves) {
+        Ok(()) => Ok(moves),
+        Err(fault) => Err(fault),
+    }
+}
+
+/// The change where it is due.
+fn change_moves(alloc: Global, due: bool) -> Result<Vec<Move>, Memory>
+    ensures { IfOk result (λ found. found.items ≡ (if due then move.Change ∷ [] else [])) }
+{
+    let mut moves = Vec::new(alloc);
+    if due {
+        moves.push(Move::Change)?;
+    }
+    Ok(moves)
+}
+
+/// Adds the moves of the roles, role by role.
+fn add_moves<R: Runs>(
+    alloc: Global,
+    cast: &[Role],
+    roles: &[R],
+    mail: &Mail,
+    moves: &mut Vec<Move>,
+) -> Result<(), Memory>
+    ensures { OnOk result (moves.new.items
+        ≡ moves.old.items ++ moves_in cast.now (map R.local roles.now) mail.now) }
+{
+    match cast {
+        [] => Ok(()),
+        [role, later @ ..] => match roles {
+            [] => Ok(()),
+            [state, others @ ..] => {
+                add_acts(alloc, role, state, mail, moves)?;
+                add_moves(alloc, later, others, mail, moves)
+            }
+        },
+    }
+}
+
+/// Adds the moves of one role, in the order of what it offers.
+fn add_acts<R: Runs>(
+    alloc: Global,
+    role: &Role,
+    state: &R,
+    mail: &Mail,
+    moves: &mut Vec<Move>,
+) -> Result<(), Memory>
+    ensures { OnOk result (moves.new.items
+        ≡ moves.old.items ++ local_moves role.now (R.local state.now) mail.now) }
+{
+    let acts = state.acts(alloc)?;
+    for act in acts {
+        if is_there(mail, &act) {
+            let role = role.copy(alloc)?;
+            moves.push(Move::Act(role, act))?;
+        }
+    }
+    Ok(())
+}

@@ -1,0 +1,5 @@
+pub mod MoveLemmas
+pub mod PromptLemmas
+pub mod RunLemmas
+pub mod TurnLemmas
+pub mod UpdateLemmas

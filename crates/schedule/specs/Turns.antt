@@ -1,0 +1,31 @@
+-- What a turn of a schedule is: a move that has no fault, and the net after it.
+use Rattle.std.specs.Prelude.{◌≡◌, ℕ, Bool, Option, Some, None}
+use Rattle.dioc_terms.specs.Plain.{setting}
+use Rattle.marked_laws.specs.Network.{NextNetwork, network_ended}
+use Rattle.net_core.specs.declared.moves.Move.{Move}
+use Rattle.net_core.specs.declared.moves.Move.TheVariants as move
+use Rattle.net_core.specs.Schedule.{move_step, scheduled}
+use Rattle.role_network.specs.Changes.{change_fault}
+use Rattle.role_network.specs.Nets.{NetState, bundle_of, network_of}
+use Rattle.role_network.specs.Steps.{GoesOn, fault_of}
+
+-- whether the network of a net has ended
+abbrev pub has_ended : NetState → Bool
+has_ended net = network_ended (bundle_of net).cast (network_of net)
+
+-- a move has no fault
+abbrev pub CanMake : NetState → Move → Type 0
+CanMake net move.Change = change_fault net ≡ None
+CanMake net (move.Act q a) = fault_of net q a ≡ None
+
+-- the net has made this move
+pub record IsMoveOf (old : NetState) (m : Move) (new : NetState) : Type 0 where
+  pub outcome : NextNetwork
+  pub steps : move_step (setting (bundle_of old)) (network_of old) m ≡ Some outcome
+  pub goes : GoesOn old outcome new
+
+-- the net has made the move that the schedule takes next
+pub record Advances (old : NetState) (seed : Option ℕ) (new : NetState) : Type 0 where
+  pub outcome : NextNetwork
+  pub takes : scheduled (setting (bundle_of old)) (network_of old) seed ≡ Some outcome
+  pub goes : GoesOn old outcome new
