@@ -3,6 +3,7 @@ pub mod Causes
 pub mod Clauses
 mod Examples
 pub mod FaultLemmas
+pub mod Judged
 pub mod Printing
 pub mod Projected
 pub mod Table

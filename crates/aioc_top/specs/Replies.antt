@@ -95,16 +95,17 @@ abbrev pub is_too_short : PlainBundle → Option Last → List Entry → Bool
 is_too_short b (Some (last.Ended n)) trace = if is_over b trace then false else true
 is_too_short b _ trace = false
 
--- The judgement of the trace section: the number of the first entry that isn't played, one past the
--- last where the section says `ended` too soon, and else how many entries were judged. Auxiliary
--- entries are passed over, and have numbers all the same.
+-- The judgement of the trace section, from the number of the first entry that isn't played: that
+-- number, one past the last where the section says `ended` too soon, and else how many entries were
+-- judged.
+abbrev pub judgement : PlainBundle → Option ℕ → Reply
+judgement b (Some n) = no n
+judgement b None = if is_too_short b b.trace.last (visible b.trace.entries)
+    then no (suc (length b.trace.entries)) else yes (length (visible b.trace.entries))
+
+-- auxiliary entries are passed over, and have numbers all the same
 abbrev pub replay_reply : PlainBundle → Reply
-replay_reply b = by_stray (stray b b.trace.entries)
-  where
-    by_stray : Option ℕ → Reply
-    by_stray (Some n) = no n
-    by_stray None = if is_too_short b b.trace.last (visible b.trace.entries)
-        then no (suc (length b.trace.entries)) else yes (length (visible b.trace.entries))
+replay_reply b = judgement b (stray b b.trace.entries)
 
 -- the line of `gen`, for the made bundle and its run: the follower never refuses, so the words at
 -- its end are always true

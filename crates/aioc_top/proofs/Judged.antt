@@ -1,0 +1,74 @@
+-- What is judged entry by entry is judged as a whole.
+use Rattle.std.proofs.Common.{◌≡◌, ◌≤◌, ℕ, suc, List, [], ◌∷◌, Bool, true, false, true≢false, Option, Some, None, refl, sym, ap, ◌∙◌, subst, arith}
+use Rattle.std.specs.Prelude.{not, length, if◌then◌else◌, option_and_then}
+use Rattle.std.specs.Option.{option_map_or}
+use Rattle.dioc_terms.specs.declared.names.Role.{Role}
+use Rattle.dioc_terms.specs.declared.entries.Entry.{Entry}
+use Rattle.dioc_terms.specs.declared.bundles.Last.{Last}
+use Rattle.dioc_terms.specs.declared.bundles.Last.TheVariants as last
+use Rattle.dioc_terms.specs.declared.bundles.Timed.{Timed}
+use Rattle.dioc_terms.specs.Attempts.{Attempt, Stuck, Does}
+use Rattle.dioc_terms.specs.Messages.{is_aux, visible, doer}
+use Rattle.dioc_terms.specs.Plain.{PlainBundle, Setting, setting}
+use Rattle.global_steps.specs.Follow.{State, follow, play, play_from, play_start, stray, stray_from}
+use Rattle.global_steps.specs.Running.{ended}
+use Rattle.marked_laws.proofs.Shapes.{none_some, some_same}
+use Rattle.aioc_top.specs.Judging.{passed, PlaysOn, is_cut_short}
+use Rattle.aioc_top.specs.Replies.{Reply, judgement, replay_reply, yes, no, is_over, is_too_short}
+
+module _ (b : Setting) (S : State) (e : Entry) (es : List Entry) where
+  on_by : (aux : Bool) (n : ℕ) (T : State) → (if aux then Some S else follow b S e) ≡ Some T
+      → (if aux then stray_from b S (suc n) es else option_map_or (λ next. stray_from b next (suc n) es) (follow b S e) (Some n)) ≡ stray_from b T (suc n) es
+  on_by true n T h = ap (λ s. stray_from b s (suc n) es) (some_same h)
+  on_by false n T h = ap (λ o. option_map_or (λ next. stray_from b next (suc n) es) o (Some n)) h
+
+  -- an entry that is passed leaves the judgement to those behind it
+  pub stray_on : (n : ℕ) (T : State) → passed b S e ≡ Some T → stray_from b S n (e ∷ es) ≡ stray_from b T (suc n) es
+  stray_on n T h = on_by (is_aux e) n T h
+
+  here_by : (aux : Bool) (n : ℕ) → (if aux then Some S else follow b S e) ≡ None
+      → (if aux then stray_from b S (suc n) es else option_map_or (λ next. stray_from b next (suc n) es) (follow b S e) (Some n)) ≡ Some n
+  here_by true n h = absurd (none_some (sym h))
+  here_by false n h = ap (λ o. option_map_or (λ next. stray_from b next (suc n) es) o (Some n)) h
+
+  -- an entry that isn't passed is the first that isn't played
+  pub stray_here : (n : ℕ) → passed b S e ≡ None → stray_from b S n (e ∷ es) ≡ Some n
+  stray_here n h = here_by (is_aux e) n h
+
+  play_by : (aux : Bool) (T : State) → (if aux then Some S else follow b S e) ≡ Some T
+      → play_from b S (if not aux then e ∷ visible es else visible es) ≡ play_from b T (visible es)
+  play_by true T h = ap (λ s. play_from b s (visible es)) (some_same h)
+  play_by false T h = ap (λ o. option_and_then (λ next. play_from b next (visible es)) o) h
+
+  -- and the play goes on from there
+  pub play_on : (T : State) → passed b S e ≡ Some T → play_from b S (visible (e ∷ es)) ≡ play_from b T (visible es)
+  play_on T h = play_by (is_aux e) T h
+
+-- ---- the reply of a judged trace
+
+too_short : (b : PlainBundle) (said : Option Last) (es : List Entry) (S : State) → play b es ≡ Some S → is_too_short b said es ≡ is_cut_short said (ended S.running)
+too_short b None es S h = refl
+too_short b (Some (last.Stopped n)) es S h = refl
+too_short b (Some (last.Ended n)) es S h = ap (λ o. not (option_map_or (λ (T : State). ended T.running) o false)) h
+
+pub strays : (b : PlainBundle) (n : ℕ) → stray b b.trace.entries ≡ Some n → replay_reply b ≡ no n
+strays b n h = ap (judgement b) h
+
+pub plays_whole : (b : PlainBundle) (S : State) → stray b b.trace.entries ≡ None → play b (visible b.trace.entries) ≡ Some S
+    → replay_reply b ≡ (if is_cut_short b.trace.last (ended S.running) then no (suc (length b.trace.entries)) else yes (length (visible b.trace.entries)))
+plays_whole b S none plays =
+    ap (judgement b) none
+    ∙ ap (λ t. if t then no (suc (length b.trace.entries)) else yes (length (visible b.trace.entries))) (too_short b b.trace.last (visible b.trace.entries) S plays)
+
+-- ---- how many entries a state has seen
+
+seen_by : (o : Option State) (S T : State) → ((U : State) → o ≡ Some U → U.entries ≡ suc S.entries) → (aux : Bool) → (if aux then Some S else o) ≡ Some T → T.entries ≤ suc S.entries
+seen_by o S T more true h = omega (arith, ap (λ (U : State). U.entries) (some_same h))
+seen_by o S T more false h = omega (arith, more T h)
+
+role_seen : (b : Setting) (S : State) (r : Role) (e : Entry) (T : State) → follow_role b S r e ≡ Some T → T.entries ≡ suc S.entries
+role_seen b S r e T h =
+    by (plays b.cast S.stores (λ head. book_choice b.rules S.book head (S.stores head.leader)) S.updates S.running e) h
+  where
+    by : (o : Attempt Effect Running) → _ → T.entries ≡ suc S.entries
+    by o h = grind h
