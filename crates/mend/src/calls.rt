@@ -1,11 +1,12 @@
 //! Mending a choreography.
 
-ghost use Rattle.std.specs.Prelude.{◌≡◌, ◌≤◌, ◌<◌, [], IfOk, IfErr, IfSome, MatchOption};
+ghost use Rattle.std.specs.Prelude.{◌≡◌, ◌≤◌, ◌<◌, [], None, IfOk, IfErr, IfSome, MatchOption};
 ghost use Rattle.limits.specs.Limits.{most_nodes};
 ghost use Rattle.dioc_terms.specs.Terms.{term, indexed, self_messages, nodes};
 ghost use Rattle.connectedness.specs.Laws.{HasRoles};
 ghost use Rattle.mend.specs.Calls.{IsMendedFrom, IsMendFaultOf};
 ghost use Rattle.mend.specs.Mended.{numbered, mended};
+ghost use Rattle.mend.specs.Names.{taken_name};
 
 use crate::faults::{MendFault, Stop};
 use crate::laws::{drops_to_input, mended_connected};
@@ -54,6 +55,7 @@ pub fn mend_within(
     ensures within { IfOk result (λ made. MatchOption made
         (most < nodes (mended cast.now (term choreo.now)))
         (λ _. nodes (mended cast.now (term choreo.now)) ≤ most)) }
+    ensures free { IfOk result (λ _. taken_name (term choreo.now) ≡ None) }
     ensures mended { IfOk result (λ made. IfSome made (λ made.
         IsMendedFrom cast.now (term choreo.now) (term made))) }
     ensures fault { IfErr result (IsMendFaultOf (term choreo.now)) }
