@@ -46,6 +46,17 @@ within least most text n h =
     let bounded : nat_le number most ≡ true = second_true (nat_le least number) (nat_le number most) (second_true (are_digits text) (nat_le least number && nat_le number most) is.0) in
     subst (λ m. m ≤ most) is.1 (omega (arith, bounded))
 
+first_true : (a b : Bool) → (a && b) ≡ true → a ≡ true
+first_true true b h = refl
+first_true false b h = absurd cc
+
+at_least : (least most : ℕ) (text : Text) (n : ℕ) → number_within least most text ≡ Some n → least ≤ n
+at_least least most text n h =
+    let number = digits_value 10 text in
+    let is = kept (are_digits text && (nat_le least number && nat_le number most)) number n h in
+    let bounded : nat_le least number ≡ true = first_true (nat_le least number) (nat_le number most) (second_true (are_digits text) (nat_le least number && nat_le number most) is.0) in
+    subst (λ m. least ≤ m) is.1 (omega (arith, bounded))
+
 given_or_usual : (usual least most : ℕ) (text : Option Text) (n : ℕ) → usual ≤ most → number_or usual least most text ≡ Some n → n ≤ most
 given_or_usual usual least most None n few h = subst (λ m. m ≤ most) (some_same h) few
 given_or_usual usual least most (Some text) n few h =
@@ -79,7 +90,8 @@ short_with Mend texts found h = subst IsShort (some_same h) tt
 short_with Gen texts found h =
     let number = first_answered _ (option_and_then (number_within 0 most_seed) (texts (codes "number"))) found h in
     let size = answered _ (option_and_then (number_within 1 400) (texts (codes "size"))) found number.2 in
-    subst IsShort size.2 tt
+    let given = first_answered (number_within 1 400) (texts (codes "size")) size.0 size.1 in
+    subst IsShort size.2 (at_least 1 400 given.0 size.0 given.2, within 1 400 given.0 size.0 given.2)
 short_with Monitor texts found h =
     let role = first_answered monitor_by (texts (codes "role")) found h in
     let its = kept _ _ found role.2 in

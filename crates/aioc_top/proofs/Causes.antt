@@ -8,8 +8,8 @@ use Rattle.marked_laws.proofs.Shapes.{none_some}
 use Rattle.rule_checks.specs.declared.refusals.Refusal.{Refusal}
 use Rattle.command_words.specs.declared.commands.Command.{Command}
 use Rattle.command_words.specs.declared.commands.Command.TheVariants as command
-use Rattle.aioc_top.specs.Replies.{Reply, Replies, refusal_of}
-use Rattle.aioc_top.specs.Verdicts.{Verdict, TooLong, Unspelled, Refused, Replied, Comes, MayReply, Refuses, status_of, status_of_end}
+use Rattle.aioc_top.specs.Replies.{Reply, Replies, refusal_of, unread_reply}
+use Rattle.aioc_top.specs.Verdicts.{Verdict, TooLong, Unspelled, Refused, Replied, Comes, ComesBy, ComesOfText, MayReply, Refuses, status_of, status_of_end}
 use Rattle.aioc_top.specs.Words.{is_built}
 
 -- a command that is built has one reply to a bundle
@@ -19,6 +19,7 @@ one_reply command.Check b reply other built h k = h ∙ sym k
 one_reply command.Project b reply other built h k = h ∙ sym k
 one_reply command.Replay b reply other built h k = h ∙ sym k
 one_reply command.Upgrade b reply other built h k = h ∙ sym k
+one_reply (command.Gen number size) b reply other built h k = absurd h
 one_reply _ b reply other built h k = absurd (true≢false (sym built))
 
 -- bytes that spell a bundle are not too many
@@ -35,20 +36,27 @@ module _ (one : OneBundle) (found : Command) (built : is_built found ≡ true) (
       let same = one bytes h.bundle k.bundle h.spells k.spells in
       one_reply found k.bundle reply other built (subst (λ b. Replies found b reply) same h.replies) k.replies
 
+  text_kind : (verdict other : Verdict) → ComesOfText found bytes verdict → ComesOfText found bytes other → status_of verdict ≡ status_of other
+  text_kind TooLong TooLong h k = refl
+  text_kind TooLong (Unspelled byte) h k = absurd (omega (arith, h, k.0))
+  text_kind TooLong (Refused why) h k = absurd (not_too_long bytes k.bundle k.spells h)
+  text_kind TooLong (Replied reply) h k = absurd (not_too_long bytes k.bundle k.spells h)
+  text_kind (Unspelled byte) TooLong h k = absurd (omega (arith, h.0, k))
+  text_kind (Unspelled byte) (Unspelled other) h k = refl
+  text_kind (Unspelled byte) (Refused why) h k = absurd (h.1 k.bundle k.spells)
+  text_kind (Unspelled byte) (Replied reply) h k = absurd (h.1 k.bundle k.spells)
+  text_kind (Refused why) TooLong h k = absurd (not_too_long bytes h.bundle h.spells k)
+  text_kind (Refused why) (Unspelled byte) h k = absurd (k.1 h.bundle h.spells)
+  text_kind (Refused why) (Refused other) h k = refl
+  text_kind (Refused why) (Replied reply) h k = absurd (both_judged reply why k h)
+  text_kind (Replied reply) TooLong h k = absurd (not_too_long bytes h.bundle h.spells k)
+  text_kind (Replied reply) (Unspelled byte) h k = absurd (k.1 h.bundle h.spells)
+  text_kind (Replied reply) (Refused why) h k = absurd (both_judged reply why h k)
+  text_kind (Replied reply) (Replied other) h k = ap (λ (r : Reply). status_of_end r.end) (one_reply_of reply other h k)
+
+  kind_by : (o : Option Reply) (verdict other : Verdict) → ComesBy o found bytes verdict → ComesBy o found bytes other → status_of verdict ≡ status_of other
+  kind_by (Some reply) verdict other h k = ap status_of (h ∙ sym k)
+  kind_by None verdict other h k = text_kind verdict other h k
+
   pub one_kind : (verdict other : Verdict) → Comes found bytes verdict → Comes found bytes other → status_of verdict ≡ status_of other
-  one_kind TooLong TooLong h k = refl
-  one_kind TooLong (Unspelled byte) h k = absurd (omega (arith, h, k.0))
-  one_kind TooLong (Refused why) h k = absurd (not_too_long bytes k.bundle k.spells h)
-  one_kind TooLong (Replied reply) h k = absurd (not_too_long bytes k.bundle k.spells h)
-  one_kind (Unspelled byte) TooLong h k = absurd (omega (arith, h.0, k))
-  one_kind (Unspelled byte) (Unspelled other) h k = refl
-  one_kind (Unspelled byte) (Refused why) h k = absurd (h.1 k.bundle k.spells)
-  one_kind (Unspelled byte) (Replied reply) h k = absurd (h.1 k.bundle k.spells)
-  one_kind (Refused why) TooLong h k = absurd (not_too_long bytes h.bundle h.spells k)
-  one_kind (Refused why) (Unspelled byte) h k = absurd (k.1 h.bundle h.spells)
-  one_kind (Refused why) (Refused other) h k = refl
-  one_kind (Refused why) (Replied reply) h k = absurd (both_judged reply why k h)
-  one_kind (Replied reply) TooLong h k = absurd (not_too_long bytes h.bundle h.spells k)
-  one_kind (Replied reply) (Unspelled byte) h k = absurd (k.1 h.bundle h.spells)
-  one_kind (Replied reply) (Refused why) h k = absurd (both_judged reply why h k)
-  one_kind (Replied reply) (Replied other) h k = ap (λ (r : Reply). status_of_end r.end) (one_reply_of reply other h k)
+  one_kind verdict other h k = kind_by (unread_reply found) verdict other h k

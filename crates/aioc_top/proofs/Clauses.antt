@@ -21,11 +21,15 @@ use Rattle.rule_checks.specs.Refusals.{IsAccepted}
 use Rattle.command_words.specs.declared.commands.Options.{Options}
 use Rattle.command_words.specs.declared.commands.Command.{Command}
 use Rattle.command_words.specs.declared.commands.Command.TheVariants as command
-use Rattle.aioc_top.specs.Calls.{Call, Judges, Happens, IsRead, ReadsTo, Says, Writes}
-use Rattle.aioc_top.specs.Replies.{Reply, Replies, is_finished, refusal_of, run_reply, step_history, line_of_text, check_line, project_text as project_lines, replay_reply, upgrade_text as upgraded}
-use Rattle.aioc_top.specs.Serve.{CheckText, ComesExactly, Complete, GivesUp, HeadlineHolds, IsUpgraded, JudgementPrinted, PartPrinted, ProjectText, ReadsAll, ReplayText, RunPrinted, SaysWhy, Silent, StepText, TextPrinted, UpgradeText, UsageComes, has_printed}
-use Rattle.aioc_top.specs.Verdicts.{Verdict, TooLong, Unspelled, Refused, Replied, MayReply, Cause, Comes, status_of, status_of_end}
-use Rattle.aioc_top.specs.Words.{is_built}
+use Rattle.aioc_top.specs.Calls.{Call, Judges, Happens, IsRead, Reads, ReadsBy, ReadsNothing, ReadsTo, Says, Writes}
+use Rattle.aioc_top.specs.Replies.{Reply, Replies, is_finished, refusal_of, run_reply, step_history, line_of_text, check_line, project_text as project_lines, replay_reply, upgrade_text as upgraded, unread_reply, gen_line, gen_reply, gen_history, updates_of}
+use Rattle.aioc_top.specs.Serve.{CheckText, ComesExactly, Complete, GenPrinted, GenText, GivesUp, HeadlineHolds, AfterEnd, EndsAt, IsComplete, IsUpgraded, JudgementPrinted, PartPrinted, ProjectText, ReadsAll, ReplayText, RunPrinted, SaysWhy, Silent, StepText, TextPrinted, UpgradeText, UsageComes, has_printed}
+use Rattle.aioc_top.specs.Verdicts.{Verdict, TooLong, Unspelled, Refused, Replied, MayReply, Cause, Comes, ComesBy, ComesOfText, Refuses, status_of, status_of_end}
+use Rattle.aioc_top.specs.Words.{is_built, IsShort}
+use Rattle.command_words.specs.Commands.{usual_steps}
+use Rattle.command_words.specs.declared.commands.Verb.TheVariants.{Gen}
+use Rattle.load_gen.specs.Made.{made, MadeIsAccepted}
+use Rattle.rule_checks.specs.declared.refusals.Refusal.{Refusal}
 use Rattle.aioc_top.specs.declared.replies.End.{End}
 use Rattle.aioc_top.specs.declared.replies.End.TheVariants as end
 use Rattle.aioc_top.specs.declared.status.Status.{Status}
@@ -75,7 +79,7 @@ told call _ is h = absurd (true≢false (sym is))
 asked_for : (call : Call) (s : Status) → Happens call s → call.asked ≡ None → (s ≡ status.Usage) ⊎ (s ≡ status.Memory)
 asked_for call status.Usage h none = inl refl
 asked_for call status.Memory h none = inr refl
-asked_for call status.ReadFault h none = absurd (none_is_some call.asked none h.0)
+asked_for call status.ReadFault h none = absurd (none_some (sym none ∙ h.0.1))
 asked_for call status.WriteFault h none = absurd (none_some (sym none ∙ h.1.asked))
 asked_for call status.Done h none = absurd (none_some (sym none ∙ h.1.asked))
 asked_for call status.Limit h none = absurd (none_some (sym none ∙ h.1.asked))
@@ -100,17 +104,53 @@ at_end (Unspelled byte) source s is h other = h
 at_end (Refused why) source s is h other = h
 at_end (Replied reply) source s is h other = h
 
-pub reads_all : (call : Call) (s : Status) → Happens call s → ReadsAll s call.source call.source_after
-reads_all call status.Usage h = h.1
-reads_all call status.Done h = at_end h.0 call.source_after status.Done h.2 h.1.to_end (λ e. cc)
-reads_all call status.Limit h = at_end h.0 call.source_after status.Limit h.2 h.1.to_end (λ e. cc)
-reads_all call status.No h = at_end h.0 call.source_after status.No h.2 h.1.to_end (λ e. cc)
-reads_all call status.Syntax h = at_end h.0 call.source_after status.Syntax h.2 h.1.to_end (λ e. cc)
-reads_all call status.Refused h = at_end h.0 call.source_after status.Refused h.2 h.1.to_end (λ e. cc)
-reads_all call status.WriteFault h = h.1.to_end
-reads_all call status.ReadFault h = tt
-reads_all call status.TooLong h = tt
-reads_all call status.Memory h = tt
+-- what was read, where it is known whether the command reads
+text_read : (o : Option Reply) (verdict : Verdict) (bytes : List ℕ) (source source_after : SourceState) → o ≡ None → ReadsBy o verdict bytes source source_after
+    → IsRead source bytes × ReadsTo verdict source_after
+text_read o verdict bytes source source_after none h = subst (λ p. ReadsBy p verdict bytes source source_after) none h
+
+nothing_read : (o : Option Reply) (verdict : Verdict) (bytes : List ℕ) (source source_after : SourceState) (reply : Reply) → o ≡ Some reply → ReadsBy o verdict bytes source source_after
+    → source_after ≡ source
+nothing_read o verdict bytes source source_after reply is h = subst (λ p. ReadsBy p verdict bytes source source_after) is h
+
+module _ (call : Call) (verdict : Verdict) (judges : Judges call verdict) where
+  reads_by : (found : Command) → call.asked ≡ Some found → Reads found verdict judges.bytes call.source call.source_after
+  reads_by found asked = subst (λ c. Reads c verdict judges.bytes call.source call.source_after) (some_same (sym judges.asked ∙ asked)) judges.read
+
+  after_end : (s : Status) → s ≡ status_of verdict → (s ≡ status.TooLong → ⊥) → AfterEnd call.asked call.source_after
+  after_end s is other found asked none =
+      at_end verdict call.source_after s is (text_read (unread_reply found) verdict judges.bytes call.source call.source_after none (reads_by found asked)).1 other
+
+  judged_nothing : ReadsNothing call.asked call.source call.source_after
+  judged_nothing found reply asked is = nothing_read (unread_reply found) verdict judges.bytes call.source call.source_after reply is (reads_by found asked)
+
+reads_nothing : (call : Call) (s : Status) → Happens call s → ReadsNothing call.asked call.source call.source_after
+reads_nothing call status.Usage h found reply asked is = h.1
+reads_nothing call status.Memory h = h.2
+reads_nothing call status.ReadFault h found reply asked is = absurd (none_some (sym h.0.2 ∙ ap unread_reply (some_same (sym h.0.1 ∙ asked)) ∙ is))
+reads_nothing call status.WriteFault h = judged_nothing call (Replied h.0) h.1
+reads_nothing call status.Done h = judged_nothing call h.0 h.1
+reads_nothing call status.Limit h = judged_nothing call h.0 h.1
+reads_nothing call status.No h = judged_nothing call h.0 h.1
+reads_nothing call status.TooLong h = judged_nothing call h.0 h.1
+reads_nothing call status.Syntax h = judged_nothing call h.0 h.1
+reads_nothing call status.Refused h = judged_nothing call h.0 h.1
+
+ends_at : (call : Call) (s : Status) → Happens call s → EndsAt s call.asked call.source call.source_after
+ends_at call status.Usage h = h.1
+ends_at call status.Done h = after_end call h.0 h.1 status.Done h.2 (λ e. cc)
+ends_at call status.Limit h = after_end call h.0 h.1 status.Limit h.2 (λ e. cc)
+ends_at call status.No h = after_end call h.0 h.1 status.No h.2 (λ e. cc)
+ends_at call status.Syntax h = after_end call h.0 h.1 status.Syntax h.2 (λ e. cc)
+ends_at call status.Refused h = after_end call h.0 h.1 status.Refused h.2 (λ e. cc)
+ends_at call status.WriteFault h found asked none =
+    (text_read (unread_reply found) (Replied h.0) h.1.bytes call.source call.source_after none (reads_by call (Replied h.0) h.1 found asked)).1
+ends_at call status.ReadFault h = tt
+ends_at call status.TooLong h = tt
+ends_at call status.Memory h = tt
+
+pub reads_all : (call : Call) (s : Status) → Happens call s → ReadsAll s call.asked call.source call.source_after
+reads_all call s h = record { to_end = ends_at call s h; nothing = reads_nothing call s h }
 
 -- nothing was written where nothing was printed
 quiet : (verdict : Verdict) (call : Call) (s : Status) → s ≡ status_of verdict → has_printed s ≡ false → Writes verdict call.out call.out_after → call.out_after ≡ call.out
@@ -127,7 +167,7 @@ silent call status.WriteFault h = record {
   command = h.1.command;
   asked_for = h.1.asked;
   bytes = h.1.bytes;
-  read = h.1.read;
+  read = λ none. (text_read (unread_reply h.1.command) (Replied h.0) h.1.bytes call.source call.source_after none h.1.read).0;
   reply = h.0;
   comes = h.1.comes;
   part = h.3;
@@ -147,11 +187,32 @@ reply_told call s is (Unspelled byte, judges, same, writes, says) = absurd (true
 reply_told call s is (Refused why, judges, same, writes, says) = absurd (true≢false (sym is ∙ ap has_printed same))
 reply_told call s is (Replied reply, judges, same, writes, says) = (reply, judges, same, writes, says)
 
+-- what comes of the bytes that were read comes of those that the source tells
+comes_by : (o : Option Reply) (c : Command) (verdict : Verdict) (bytes : List ℕ) (source source_after : SourceState) → ReadsBy o verdict bytes source source_after → ComesBy o c bytes verdict
+    → IfSome source.left (λ told. ComesBy o c told verdict)
+comes_by (Some reply) c verdict bytes source source_after read comes = filled (λ told. comes) source.left
+comes_by None c verdict bytes source source_after read comes = mapped (λ told e. subst (λ bs. ComesOfText c bs verdict) (sym e) comes) source.left read.0
+
+comes_told : (call : Call) (verdict : Verdict) (judges : Judges call verdict) → IfSome call.source.left (λ told. Comes judges.command told verdict)
+comes_told call verdict judges = comes_by (unread_reply judges.command) judges.command verdict judges.bytes call.source call.source_after judges.read judges.comes
+
+abbrev reply_in : Reply → Verdict → Reply
+reply_in other (Replied reply) = reply
+reply_in other _ = other
+
+abbrev is_reply : Verdict → Bool
+is_reply (Replied reply) = true
+is_reply _ = false
+
+refuses_by : (o : Option Reply) (c : Command) (bytes : List ℕ) (why : Refusal) → ComesBy o c bytes (Refused why) → Refuses c bytes why
+refuses_by (Some reply) c bytes why h = absurd (true≢false (sym (ap is_reply h)))
+refuses_by None c bytes why h = h
+
 line_told : (call : Call) (s : Status) → has_printed s ≡ false → tells_verdict s ≡ true → Told call s → SaysWhy s call.asked call.source call.err call.err_after
 line_told call s unprinted is (TooLong, judges, same, writes, says) = subst (λ t. SaysWhy t call.asked call.source call.err call.err_after) (sym same) says
 line_told call s unprinted is (Unspelled byte, judges, same, writes, says) = subst (λ t. SaysWhy t call.asked call.source call.err call.err_after) (sym same) (byte, says)
 line_told call s unprinted is (Refused why, judges, same, writes, says) = subst (λ t. SaysWhy t call.asked call.source call.err call.err_after) (sym same)
-    (judges.command, judges.asked, (why, says, mapped (λ told e. subst (λ bytes. Comes judges.command bytes (Refused why)) (sym e) judges.comes) call.source.left judges.read))
+    (judges.command, judges.asked, (why, says, mapped (λ told comes. refuses_by (unread_reply judges.command) judges.command told why comes) call.source.left (comes_told call (Refused why) judges)))
 line_told call s unprinted is (Replied reply, judges, same, writes, says) = absurd (prints_always s reply.end same unprinted)
 
 pub says : (call : Call) (s : Status) → Happens call s → SaysWhy s call.asked call.source call.err call.err_after
@@ -188,15 +249,15 @@ module _ (one : OneBundle) (call : Call) (all_built : (found : Command) → call
           let its = told call wanted tells (subst (Happens call) e h) in (
             its.1.command,
             its.1.asked,
-            mapped (λ left read. subst (Cause its.1.command wanted) (sym read) (its.0, its.1.comes, its.2)) call.source.left its.1.read,
+            mapped (λ left comes. (its.0, comes, its.2)) call.source.left (comes_told call its.0 its.1),
           )
 
       same_status : (found : Command) → call.asked ≡ Some found → (its : Told call s) → IfSome call.source.left (λ bytes. Cause found wanted bytes → s ≡ wanted)
       same_status found is its =
           let command : its.1.command ≡ found = some_same (sym its.1.asked ∙ is) in
-          mapped (λ left read cause.
-          its.2 ∙ one_kind one found (all_built found is) left its.0 cause.0
-          (subst (λ bytes. Comes found bytes its.0) (sym read) (subst (λ c. Comes c its.1.bytes its.0) command its.1.comes)) cause.1 ∙ sym cause.2) call.source.left its.1.read
+          mapped (λ left comes cause.
+          its.2 ∙ one_kind one found (all_built found is) left its.0 cause.0 (subst (λ c. Comes c left its.0) command comes) cause.1 ∙ sym cause.2)
+          call.source.left (comes_told call its.0 its.1)
 
       always : (found : Command) → call.asked ≡ Some found → IfSome call.source.left (λ bytes. Cause found wanted bytes → (s ≡ wanted) ⊎ GivesUp s)
       always found is = ⊎_elim
@@ -205,13 +266,13 @@ module _ (one : OneBundle) (call : Call) (all_built : (found : Command) → call
           (because call s found is h)
 
   -- the reply of a bundle that is spelled and not refused
-  replied : (s : Status) (found : Command) → call.asked ≡ Some found → Told call s → IfSome call.source.left (λ bytes. (b : PlainBundle) → Spells bytes b → refusal_of found b ≡ None
+  replied : (s : Status) (found : Command) → call.asked ≡ Some found → unread_reply found ≡ None → Told call s → IfSome call.source.left (λ bytes. (b : PlainBundle) → Spells bytes b → refusal_of found b ≡ None
       → (reply : Reply) × Replies found b reply × (s ≡ status_of_end reply.end))
-  replied s found is (verdict, judges, same, writes, says) =
+  replied s found is none (verdict, judges, same, writes, says) =
       let command : judges.command ≡ found = some_same (sym judges.asked ∙ is) in
-      mapped (λ left read. by_verdict left verdict (subst (λ bytes. Comes found bytes verdict) (sym read) (subst (λ c. Comes c judges.bytes verdict) command judges.comes)) same) call.source.left judges.read
+      mapped (λ left comes. by_verdict left verdict (subst (λ o. ComesBy o found left verdict) none (subst (λ c. Comes c left verdict) command comes)) same) call.source.left (comes_told call verdict judges)
     where
-      by_verdict : (bytes : List ℕ) (v : Verdict) → Comes found bytes v → s ≡ status_of v → (b : PlainBundle) → Spells bytes b → refusal_of found b ≡ None
+      by_verdict : (bytes : List ℕ) (v : Verdict) → ComesOfText found bytes v → s ≡ status_of v → (b : PlainBundle) → Spells bytes b → refusal_of found b ≡ None
           → (reply : Reply) × Replies found b reply × (s ≡ status_of_end reply.end)
       by_verdict bytes TooLong comes e b spells accepted = absurd (not_too_long bytes b spells comes)
       by_verdict bytes (Unspelled byte) comes e b spells accepted = absurd (comes.1 b spells)
@@ -224,14 +285,22 @@ module _ (one : OneBundle) (call : Call) (all_built : (found : Command) → call
   complete s h found is reads writes = by s h
     where
       Wanted : Status → Type 0
-      Wanted t = IfSome call.source.left (λ bytes. (b : PlainBundle) → Spells bytes b → refusal_of found b ≡ None
-          → ((reply : Reply) × Replies found b reply × (t ≡ status_of_end reply.end)) ⊎ (t ≡ status.Memory))
+      Wanted t = IsComplete t found call.source
 
       answered : (t : Status) → Told call t → Wanted t
-      answered t its = mapped (λ bytes f b spells accepted. inl (f b spells accepted)) call.source.left (replied t found is its)
+      answered t its = record {
+        text = λ none. mapped (λ bytes f b spells accepted. inl (f b spells accepted)) call.source.left (replied t found is none its);
+        unread = λ reply some.
+            let comes : Comes found its.1.bytes its.0 = subst (λ c. Comes c its.1.bytes its.0) (some_same (sym its.1.asked ∙ is)) its.1.comes in
+            let only : its.0 ≡ Replied reply = subst (λ o. ComesBy o found its.1.bytes its.0) some comes in
+            inl (its.2 ∙ ap status_of only);
+      }
 
       by : (t : Status) → Happens call t → Wanted t
-      by status.Memory h = filled (λ bytes b spells accepted. inr refl) call.source.left
+      by status.Memory h = record {
+        text = λ none. filled (λ bytes b spells accepted. inr refl) call.source.left;
+        unread = λ reply some. inr refl;
+      }
       by status.ReadFault h = absurd (reads h.1)
       by status.WriteFault h = absurd (writes h.2)
       by status.Usage h = absurd (none_some (sym h.0 ∙ is))
@@ -305,24 +374,25 @@ module _ (formed : SpelledIsFormed) (every : EveryRun) (sound : RunsAreSound) (o
   step_text call s h is prints =
       let its = reply_told call s prints (told call s (printing s prints) h) in
       let command : its.1.command ≡ command.Step options = some_same (sym its.1.asked ∙ is) in
-      run_printed its.1.bytes call.source call.out call.out_after s its.0 its.1.read (subst (λ c. MayReply c its.1.bytes its.0) command its.1.comes) its.2 its.3
+      let read : Reads (command.Step options) (Replied its.0) its.1.bytes call.source call.source_after = reads_by call (Replied its.0) its.1 (command.Step options) is in
+      run_printed its.1.bytes call.source call.out call.out_after s its.0 read.0 (subst (λ c. Comes c its.1.bytes (Replied its.0)) command its.1.comes) its.2 its.3
 
 -- ---- the text of a command that says something of a bundle
 
 -- what was printed is the text of an accepted bundle, where each reply of the command is that text
-module _ (formed : SpelledIsFormed) (wanted : Command) (text_of : PlainBundle → List ℕ)
+module _ (formed : SpelledIsFormed) (wanted : Command) (text : unread_reply wanted ≡ None) (text_of : PlainBundle → List ℕ)
     (only : (b : PlainBundle) (reply : Reply) → Replies wanted b reply → reply ≡ record { end = end.Done; text = text_of b }) where
   pub text_printed : (call : Call) (s : Status) → Happens call s → call.asked ≡ Some wanted → has_printed s ≡ true
       → TextPrinted text_of s call.source call.out call.out_after
   text_printed call s h is prints =
       let its = reply_told call s prints (told call s (printing s prints) h) in
       let same : its.1.command ≡ wanted = some_same (sym its.1.asked ∙ is) in
-      let comes : MayReply wanted its.1.bytes its.0 = subst (λ c. MayReply c its.1.bytes its.0) same its.1.comes in
+      let comes : MayReply wanted its.1.bytes its.0 = subst (λ o. ComesBy o wanted its.1.bytes (Replied its.0)) text (subst (λ c. Comes c its.1.bytes (Replied its.0)) same its.1.comes) in
       let b = comes.bundle in
       let replies = only b its.0 comes.replies in
       record {
         bytes = its.1.bytes;
-        read = its.1.read;
+        read = (text_read (unread_reply wanted) (Replied its.0) its.1.bytes call.source call.source_after text (reads_by call (Replied its.0) its.1 wanted is)).0;
         bundle = b;
         spells = comes.spells;
         accepted = record { formed = formed its.1.bytes b comes.spells; no_refusal = comes.accepted };
@@ -331,10 +401,10 @@ module _ (formed : SpelledIsFormed) (wanted : Command) (text_of : PlainBundle �
       }
 
 pub check_text : SpelledIsFormed → (call : Call) (s : Status) → Happens call s → CheckText call.asked s call.source call.out call.out_after
-check_text formed call s h is prints = text_printed formed command.Check (λ b. line_of_text (check_line b)) (λ b reply e. e) call s h is prints
+check_text formed call s h is prints = text_printed formed command.Check refl (λ b. line_of_text (check_line b)) (λ b reply e. e) call s h is prints
 
 pub project_text : SpelledIsFormed → (call : Call) (s : Status) → Happens call s → ProjectText call.asked s call.source call.out call.out_after
-project_text formed call s h is prints = text_printed formed command.Project project_lines (λ b reply e. e) call s h is prints
+project_text formed call s h is prints = text_printed formed command.Project refl project_lines (λ b reply e. e) call s h is prints
 
 -- ---- the judgement of a trace
 
@@ -342,11 +412,12 @@ pub replay_text : SpelledIsFormed → (call : Call) (s : Status) → Happens cal
 replay_text formed call s h is prints =
     let its = reply_told call s prints (told call s (printing s prints) h) in
     let same : its.1.command ≡ command.Replay = some_same (sym its.1.asked ∙ is) in
-    let comes : MayReply command.Replay its.1.bytes its.0 = subst (λ c. MayReply c its.1.bytes its.0) same its.1.comes in
+    let comes : MayReply command.Replay its.1.bytes its.0 = subst (λ c. Comes c its.1.bytes (Replied its.0)) same its.1.comes in
+    let read : Reads command.Replay (Replied its.0) its.1.bytes call.source call.source_after = reads_by call (Replied its.0) its.1 command.Replay is in
     let b = comes.bundle in
     record {
       bytes = its.1.bytes;
-      read = its.1.read;
+      read = read.0;
       bundle = b;
       spells = comes.spells;
       accepted = record { formed = formed its.1.bytes b comes.spells; no_refusal = comes.accepted };
@@ -384,5 +455,40 @@ module _ (written : WrittenIsSpelled) (runs : RunsReadNoVersion) (schedules : Sc
 
   pub upgrade_text : SpelledIsFormed → (call : Call) (s : Status) → Happens call s → UpgradeText call.asked s call.source call.out call.out_after
   upgrade_text formed call s h is prints =
-      let text : TextPrinted upgraded s call.source call.out call.out_after = text_printed formed command.Upgrade upgraded (λ b reply e. e) call s h is prints in
+      let text : TextPrinted upgraded s call.source call.out call.out_after = text_printed formed command.Upgrade refl upgraded (λ b reply e. e) call s h is prints in
       (text, upgraded_so text.bundle text.accepted)
+
+-- ---- the line of a made bundle
+
+module _ (accepted : MadeIsAccepted) (every : EveryRun) (sound : RunsAreSound) (number size : ℕ) where
+  gen_printed : IsAccepted (made number size) → (s : Status) (out out_after : SinkState) → s ≡ status_of_end (gen_reply number size).end
+      → Appends out.taken out_after.taken (gen_reply number size).text → GenPrinted number size s out out_after
+  gen_printed may s out out_after is wrote =
+      let b = made number size in
+      let H = gen_history number size in
+      let arrives = sound b [] (network_start b) None (usual_steps Gen) may refl (omega arith) in
+      let N = arrives.network in
+      let finished : is_finished b H ≡ network_ended b.cast N = end_is b H N arrives.runs in
+      let updates : updates_of b H ≡ N.updates = ap (λ o. option_map_or (λ (M : Network). M.updates) o 0) arrives.runs in
+      let status_is : s ≡ status_of_end (if network_ended b.cast N then end.Done else end.Limit) =
+      is ∙ ap (λ t. status_of_end (if t then end.Done else end.Limit)) finished in
+      record {
+        accepted = may;
+        network = N;
+        headline = every b H N may arrives.runs;
+        printed = subst (λ u. Appends out.taken out_after.taken (line_of_text (gen_line number size b H u))) updates wrote;
+        done = subst (λ t. (t ≡ status.Done) ↔ (network_ended b.cast N ≡ true)) (sym status_is) (ends_done (network_ended b.cast N));
+        limit = subst (λ t. (t ≡ status.Limit) ↔ ((length H ≡ usual_steps Gen) × (network_ended b.cast N ≡ false))) (sym status_is)
+            (ends_limit (network_ended b.cast N) arrives.finished);
+      }
+
+  pub gen_text : (call : Call) (s : Status) → ((found : Command) → call.asked ≡ Some found → IsShort found) → Happens call s → call.asked ≡ Some (command.Gen number size)
+      → has_printed s ≡ true → GenPrinted number size s call.out call.out_after
+  gen_text call s short h is prints =
+      let its = reply_told call s prints (told call s (printing s prints) h) in
+      let same : its.1.command ≡ command.Gen number size = some_same (sym its.1.asked ∙ is) in
+      let comes : Replied its.0 ≡ Replied (gen_reply number size) = subst (λ c. Comes c its.1.bytes (Replied its.0)) same its.1.comes in
+      let reply : its.0 ≡ gen_reply number size = ap (reply_in its.0) comes in
+      let small = short (command.Gen number size) is in
+      gen_printed (accepted number size small.0 small.1) s call.out call.out_after (its.2 ∙ ap (λ (r : Reply). status_of_end r.end) reply)
+      (subst (λ (r : Reply). Appends call.out.taken call.out_after.taken r.text) reply its.3)

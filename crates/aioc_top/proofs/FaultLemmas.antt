@@ -1,5 +1,5 @@
 -- What comes of a command and the bytes that were read, from what its parts answered.
-use Rattle.std.proofs.Common.{◌≡◌, ◌<◌, ◌≤◌, ℕ, suc, List, length, Option, Some, None, IfSome, Result, Ok, Err, IfErr, refl, sym, subst, arith}
+use Rattle.std.proofs.Common.{◌≡◌, ◌<◌, ◌≤◌, ℕ, suc, List, length, Option, Some, None, IfSome, Result, Ok, Err, IfErr, refl, sym, ap, ◌∙◌, subst, arith}
 use Rattle.std.specs.Prelude.{replicate}
 use Rattle.std.proofs.lemmas.List.{length-replicate}
 use Rattle.std.specs.Io.KnownBytes.{IsAtEnd}
@@ -8,10 +8,11 @@ use Rattle.limits.specs.Limits.{most_bytes}
 use Rattle.dioc_terms.specs.Plain.{PlainBundle}
 use Rattle.bundle_text.specs.Grammar.{Spells, SpellsNone}
 use Rattle.command_words.specs.declared.commands.Command.{Command}
-use Rattle.aioc_top.specs.Calls.{IsRead}
+use Rattle.marked_laws.proofs.Shapes.{none_some, some_same}
+use Rattle.aioc_top.specs.Calls.{IsRead, ReadsBy, ReadsNothing, ReadsTo}
 use Rattle.aioc_top.specs.Faults.{IsJudgedSo, IsRefusedSo, IsSyntaxFault, ReadSo, Stops}
-use Rattle.aioc_top.specs.Replies.{Reply, Replies, reply_of}
-use Rattle.aioc_top.specs.Verdicts.{Verdict, TooLong, Unspelled, Refused, Replied, IsReplied, Comes}
+use Rattle.aioc_top.specs.Replies.{Reply, Replies, reply_of, unread_reply}
+use Rattle.aioc_top.specs.Verdicts.{Verdict, TooLong, Unspelled, Refused, Replied, IsReplied, ComesBy, ComesOfText}
 use Rattle.aioc_top.specs.declared.faults.Fault.{Fault}
 use Rattle.aioc_top.specs.declared.faults.Fault.TheVariants as fault
 use Rattle.aioc_top.specs.declared.replies.Written.{Written}
@@ -40,23 +41,34 @@ refused_is asked bytes b spells fault.TooLong h = absurd h
 refused_is asked bytes b spells (fault.Syntax line) h = absurd h
 
 pub replied_is : (asked : Command) (bytes : List ℕ) (b : PlainBundle) → Spells bytes b → (written : Written) → IsReplied asked b written
-    → Comes asked bytes (Replied (reply_of written))
+    → ComesOfText asked bytes (Replied (reply_of written))
 replied_is asked bytes b spells written h = record { bundle = b; spells = spells; accepted = h.accepted; replies = h.replies }
 
 -- the bytes that were read are the source's, where it tells them
 pub is_read : (source : SourceState) (all : List ℕ) → IfSome source.left (λ told. all ≡ told) → IsRead source all
 is_read source all h = mapped (λ told e. sym e) source.left h
 
--- the fault of the bytes that were read
-pub stops : (asked : Command) (source source_after : SourceState) (all : List ℕ) → IsRead source all → IsAtEnd source_after.left
-    → (f : Fault) → IsJudgedSo asked all f → Stops asked source source_after f
-stops asked source source_after all read end (fault.Syntax line) h = (h.0, record { bytes = all; read = read; to_end = end; comes = h.1 }, h.2)
-stops asked source source_after all read end (fault.Refused line) h = (h.0, record { bytes = all; read = read; to_end = end; comes = h.1 }, h.2)
-stops asked source source_after all read end fault.Memory h = h
-stops asked source source_after all read end fault.Usage h = absurd h
-stops asked source source_after all read end fault.ReadFault h = absurd h
-stops asked source source_after all read end fault.WriteFault h = absurd h
-stops asked source source_after all read end fault.TooLong h = absurd h
+-- what comes of the bytes of a bundle, by a command that reads one
+module _ (asked : Command) (source source_after : SourceState) (reads : unread_reply asked ≡ None) where
+  pub read_so : (bytes : List ℕ) (verdict : Verdict) → IsRead source bytes → ReadsTo verdict source_after → ComesOfText asked bytes verdict → ReadSo asked source source_after verdict
+  read_so bytes verdict read end comes = record {
+    bytes = bytes;
+    read = subst (λ o. ReadsBy o verdict bytes source source_after) (sym reads) (read, end);
+    comes = subst (λ o. ComesBy o asked bytes verdict) (sym reads) comes;
+  }
+
+  pub reads_text : ReadsNothing (Some asked) source source_after
+  reads_text found reply is unread = absurd (none_some (sym reads ∙ ap unread_reply (some_same is) ∙ unread))
+
+  -- the fault of the bytes that were read
+  pub stops : (all : List ℕ) → IsRead source all → IsAtEnd source_after.left → (f : Fault) → IsJudgedSo asked all f → Stops asked source source_after f
+  stops all read end (fault.Syntax line) h = (h.0, read_so all (Unspelled h.0) read end h.1, h.2)
+  stops all read end (fault.Refused line) h = (h.0, read_so all (Refused h.0) read end h.1, h.2)
+  stops all read end fault.Memory h = reads_text
+  stops all read end fault.Usage h = absurd h
+  stops all read end fault.ReadFault h = absurd h
+  stops all read end fault.WriteFault h = absurd h
+  stops all read end fault.TooLong h = absurd h
 
 -- some bytes are as long as is asked
 long_enough : (n : ℕ) → (bytes : List ℕ) × (n < length bytes)
@@ -67,7 +79,8 @@ too_many None h = let long = long_enough most_bytes in (long.0, tt, long.1)
 too_many (Some told) h = (told, refl, h)
 
 -- more bytes were given than are allowed, whether the source tells them or not
-pub too_long : (asked : Command) (source source_after : SourceState) → IfSome source.left (λ told. most_bytes < length told) → ReadSo asked source source_after TooLong
-too_long asked source source_after h =
+pub too_long : (asked : Command) (source source_after : SourceState) → unread_reply asked ≡ None → IfSome source.left (λ told. most_bytes < length told)
+    → ReadSo asked source source_after TooLong
+too_long asked source source_after reads h =
     let many = too_many source.left h in
-    record { bytes = many.0; read = many.1; to_end = tt; comes = many.2 }
+    read_so asked source source_after reads many.0 TooLong many.1 tt many.2

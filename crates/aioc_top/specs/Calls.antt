@@ -1,12 +1,12 @@
 -- What a call does with its source and its sinks, status by status.
-use Rattle.std.specs.Prelude.{◌≡◌, ◌⊎◌, ℕ, List, Option, Some, None, IfSome, IsSome}
+use Rattle.std.specs.Prelude.{◌≡◌, ◌⊎◌, ℕ, List, Option, Some, None, IfSome}
 use Rattle.std.specs.Io.KnownBytes.{Appends, IsAtEnd}
 use Rattle.aioc_io.specs.Faults.{Rose}
 use Rattle.aioc_io.specs.Sink.{SinkState, TakesPart}
 use Rattle.aioc_io.specs.Source.{SourceState}
 use Rattle.command_words.specs.declared.commands.Command.{Command}
 use Rattle.aioc_top.specs.Messages.{usage_line, read_fault_line, write_fault_line, too_long_line, memory_line, syntax_line, refusal_line}
-use Rattle.aioc_top.specs.Replies.{Reply}
+use Rattle.aioc_top.specs.Replies.{Reply, unread_reply}
 use Rattle.aioc_top.specs.Verdicts.{Verdict, TooLong, Unspelled, Refused, Replied, Comes, status_of, status_of_end}
 use Rattle.aioc_top.specs.declared.status.Status.{Status}
 use Rattle.aioc_top.specs.declared.status.Status.TheVariants as status
@@ -36,6 +36,21 @@ abbrev pub ReadsTo : Verdict → SourceState → Type 0
 ReadsTo TooLong source = Unit {0}
 ReadsTo _ source = IsAtEnd source.left
 
+-- What was read of the source: its bytes, where it tells them, to their end but where they are too
+-- many; and nothing by a command that has its reply without.
+abbrev pub ReadsBy : Option Reply → Verdict → List ℕ → SourceState → SourceState → Type 0
+ReadsBy (Some reply) verdict bytes source source_after = source_after ≡ source
+ReadsBy None verdict bytes source source_after = IsRead source bytes × ReadsTo verdict source_after
+
+abbrev pub Reads : Command → Verdict → List ℕ → SourceState → SourceState → Type 0
+Reads asked verdict bytes source source_after =
+    ReadsBy (unread_reply asked) verdict bytes source source_after
+
+-- a command that has its reply without reading reads nothing
+abbrev pub ReadsNothing : Option Command → SourceState → SourceState → Type 0
+ReadsNothing asked source source_after = (found : Command) (reply : Reply) → asked ≡ Some found
+    → unread_reply found ≡ Some reply → source_after ≡ source
+
 -- all of a reply's text was written, and nothing else
 abbrev pub Writes : Verdict → SinkState → SinkState → Type 0
 Writes (Replied reply) out out_after = Appends out.taken out_after.taken reply.text
@@ -53,9 +68,12 @@ pub record Judges (call : Call) (verdict : Verdict) : Type 0 where
   pub command : Command
   pub asked : call.asked ≡ Some command
   pub bytes : List ℕ
-  pub read : IsRead call.source bytes
-  pub to_end : ReadsTo verdict call.source_after
+  pub read : Reads command verdict bytes call.source call.source_after
   pub comes : Comes command bytes verdict
+
+-- a command is asked for that reads a bundle
+abbrev pub ReadsText : Option Command → Type 0
+ReadsText asked = (found : Command) × (asked ≡ Some found) × (unread_reply found ≡ None)
 
 -- the table: what each status says of a call
 abbrev pub Happens : Call → Status → Type 0
@@ -64,8 +82,9 @@ Happens call status.Usage =
     × SaysLine call.err call.err_after usage_line
 Happens call status.Memory =
     (call.out_after ≡ call.out) × SaysLine call.err call.err_after memory_line
+    × ReadsNothing call.asked call.source call.source_after
 Happens call status.ReadFault =
-    IsSome call.asked × Rose call.source.faults call.source_after.faults
+    ReadsText call.asked × Rose call.source.faults call.source_after.faults
     × (call.out_after ≡ call.out)
     × SaysLine call.err call.err_after read_fault_line
 Happens call status.WriteFault =

@@ -6,10 +6,10 @@ use Rattle.dioc_terms.specs.Plain.{PlainBundle}
 use Rattle.rule_checks.specs.declared.refusals.Refusal.{Refusal}
 use Rattle.rule_checks.specs.declared.refusals.Refusal.TheVariants as refused
 use Rattle.command_words.specs.declared.commands.Command.{Command}
-use Rattle.aioc_top.specs.Calls.{IsRead, ReadsTo}
+use Rattle.aioc_top.specs.Calls.{Reads, ReadsNothing}
 use Rattle.aioc_top.specs.Messages.{memory_line, read_fault_line, refusal_line, syntax_line, too_long_line, usage_line, write_fault_line}
-use Rattle.aioc_top.specs.Replies.{Reply, refusal_of}
-use Rattle.aioc_top.specs.Verdicts.{Verdict, TooLong, Unspelled, Refused, Replied, Comes}
+use Rattle.aioc_top.specs.Replies.{Reply, refusal_of, unread_reply}
+use Rattle.aioc_top.specs.Verdicts.{Verdict, TooLong, Unspelled, Refused, Replied, Comes, ComesOfText}
 use Rattle.aioc_top.specs.declared.faults.Fault.{Fault}
 use Rattle.aioc_top.specs.declared.faults.Fault.TheVariants as fault
 use Rattle.aioc_top.specs.declared.status.Status.{Status}
@@ -55,9 +55,9 @@ IsRefusedSo asked b _ = ⊥
 -- the fault of some verdict on bytes, with its line; memory may run out
 abbrev pub IsJudgedSo : Command → List ℕ → Fault → Type 0
 IsJudgedSo asked bytes (fault.Syntax line) =
-    (byte : ℕ) × Comes asked bytes (Unspelled byte) × (line.items ≡ syntax_line byte)
+    (byte : ℕ) × ComesOfText asked bytes (Unspelled byte) × (line.items ≡ syntax_line byte)
 IsJudgedSo asked bytes (fault.Refused line) =
-    (why : Refusal) × Comes asked bytes (Refused why) × (line.items ≡ refusal_line why)
+    (why : Refusal) × ComesOfText asked bytes (Refused why) × (line.items ≡ refusal_line why)
 IsJudgedSo asked bytes fault.Memory = Unit {0}
 IsJudgedSo asked bytes _ = ⊥
 
@@ -65,13 +65,13 @@ IsJudgedSo asked bytes _ = ⊥
 pub record ReadSo (asked : Command) (source source_after : SourceState) (verdict : Verdict) : Type 0
   where
     pub bytes : List ℕ
-    pub read : IsRead source bytes
-    pub to_end : ReadsTo verdict source_after
+    pub read : Reads asked verdict bytes source source_after
     pub comes : Comes asked bytes verdict
 
 -- why a command has no reply to what a source has
 abbrev pub Stops : Command → SourceState → SourceState → Fault → Type 0
-Stops asked source source_after fault.ReadFault = Rose source.faults source_after.faults
+Stops asked source source_after fault.ReadFault =
+    (unread_reply asked ≡ None) × Rose source.faults source_after.faults
 Stops asked source source_after fault.TooLong = ReadSo asked source source_after TooLong
 Stops asked source source_after (fault.Syntax line) =
     (byte : ℕ) × ReadSo asked source source_after (Unspelled byte)
@@ -79,6 +79,6 @@ Stops asked source source_after (fault.Syntax line) =
 Stops asked source source_after (fault.Refused line) =
     (why : Refusal) × ReadSo asked source source_after (Refused why)
     × (line.items ≡ refusal_line why)
-Stops asked source source_after fault.Memory = Unit {0}
+Stops asked source source_after fault.Memory = ReadsNothing (Some asked) source source_after
 Stops asked source source_after fault.Usage = ⊥
 Stops asked source source_after fault.WriteFault = ⊥

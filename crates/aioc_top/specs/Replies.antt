@@ -20,7 +20,10 @@ use Rattle.trace_text.specs.Runs.{run_text}
 use Rattle.net_core.specs.Schedule.{sched, IsPrompt}
 use Rattle.rule_checks.specs.Refusals.{refusal}
 use Rattle.rule_checks.specs.declared.refusals.Refusal.{Refusal}
+use Rattle.command_words.specs.Commands.{usual_steps}
 use Rattle.command_words.specs.declared.commands.Options.{Options}
+use Rattle.command_words.specs.declared.commands.Verb.TheVariants.{Gen}
+use Rattle.load_gen.specs.Made.{made}
 use Rattle.command_words.specs.declared.commands.Command.{Command}
 use Rattle.command_words.specs.declared.commands.Command.TheVariants as command
 use Rattle.aioc_top.specs.declared.replies.End.{End}
@@ -115,6 +118,30 @@ gen_line number size b H updates = codes "gen " ++ decimal number ++ codes " " +
     ++ codes ", entries " ++ decimal (length H) ++ codes ", visible "
     ++ decimal (length (visible H))
     ++ codes ", updates " ++ decimal updates ++ codes ", played yes"
+
+-- how many updates a run has made
+abbrev pub updates_of : PlainBundle → List Entry → ℕ
+updates_of b H = option_map_or (λ (N : Network). N.updates) (network_run b H) 0
+
+-- the history of `gen`: the run that the schedule takes from the start of the made bundle, with as
+-- many entries at most as where no other number is asked for
+abbrev pub gen_history : ℕ → ℕ → List Entry
+gen_history number size = sched (made number size) None (usual_steps Gen)
+
+-- the reply of `gen`: the line of the made bundle and of its run
+abbrev pub gen_reply : ℕ → ℕ → Reply
+gen_reply number size =
+    let b = made number size in
+    let H = gen_history number size in
+    record {
+      end = if is_finished b H then end.Done else end.Limit;
+      text = line_of_text (gen_line number size b H (updates_of b H));
+    }
+
+-- the reply of a command that reads nothing
+abbrev pub unread_reply : Command → Option Reply
+unread_reply (command.Gen number size) = Some (gen_reply number size)
+unread_reply _ = None
 
 -- ---- a line for each role
 

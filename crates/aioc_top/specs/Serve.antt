@@ -15,12 +15,15 @@ use Rattle.net_core.specs.Schedule.{sched}
 use Rattle.rule_checks.specs.declared.refusals.Refusal.{Refusal}
 use Rattle.net_core.specs.Headline.{Headline}
 use Rattle.rule_checks.specs.Refusals.{IsAccepted, refusal}
+use Rattle.command_words.specs.Commands.{usual_steps}
 use Rattle.command_words.specs.declared.commands.Options.{Options}
+use Rattle.command_words.specs.declared.commands.Verb.TheVariants.{Gen}
+use Rattle.load_gen.specs.Made.{made}
 use Rattle.command_words.specs.declared.commands.Command.{Command}
 use Rattle.command_words.specs.declared.commands.Command.TheVariants as command
-use Rattle.aioc_top.specs.Calls.{IsRead, SaysLine}
+use Rattle.aioc_top.specs.Calls.{IsRead, ReadsNothing, SaysLine}
 use Rattle.aioc_top.specs.Messages.{usage_line, read_fault_line, write_fault_line, too_long_line, memory_line, syntax_line, refusal_line}
-use Rattle.aioc_top.specs.Replies.{Reply, Replies, refusal_of, run_reply, step_history, line_of_text, check_line, project_text, replay_reply, upgrade_text}
+use Rattle.aioc_top.specs.Replies.{Reply, Replies, refusal_of, run_reply, step_history, line_of_text, check_line, project_text, replay_reply, upgrade_text, unread_reply, gen_line, gen_history}
 use Rattle.aioc_top.specs.Verdicts.{Replied, Comes, Cause, MayReply, Refuses, status_of_end}
 use Rattle.aioc_top.specs.declared.status.Status.{Status}
 use Rattle.aioc_top.specs.declared.status.Status.TheVariants as status
@@ -123,6 +126,24 @@ UpgradeText asked result source out out_after =
     asked ≡ Some command.Upgrade → has_printed result ≡ true
     → (text : TextPrinted upgrade_text result source out out_after) × IsUpgraded text.bundle
 
+-- The line of the bundle that is made of these numbers was printed, and the status tells how its run
+-- ended. The bundle is accepted, and the headline holds of the very run that is counted there.
+pub record GenPrinted (number size : ℕ) (result : Status) (out out_after : SinkState) : Type 0 where
+  pub accepted : IsAccepted (made number size)
+  pub network : Network
+  pub headline : Headline (made number size) (gen_history number size) network
+  pub printed : Appends out.taken out_after.taken (line_of_text (gen_line number size
+      (made number size) (gen_history number size) network.updates))
+  pub done : (result ≡ status.Done) ↔ (network_ended (made number size).cast network ≡ true)
+  pub limit : (result ≡ status.Limit) ↔ ((length (gen_history number size) ≡ usual_steps Gen)
+      × (network_ended (made number size).cast network ≡ false))
+
+-- with `gen` it is the line of the made bundle
+abbrev pub GenText : Option Command → Status → SinkState → SinkState → Type 0
+GenText asked result out out_after =
+    (number size : ℕ) → asked ≡ Some (command.Gen number size) → has_printed result ≡ true
+    → GenPrinted number size result out out_after
+
 -- memory ran out, or a device failed: nothing in the bytes makes it come
 abbrev pub GivesUp : Status → Type 0
 GivesUp status.Memory = Unit {0}
@@ -145,26 +166,43 @@ pub record UsageComes (result : Status) (asked : Option Command) : Type 0 where
   pub only : result ≡ status.Usage → asked ≡ None
   pub always : asked ≡ None → (result ≡ status.Usage) ⊎ (result ≡ status.Memory)
 
--- a bundle that is spelled and not refused gets an answer of its command, or want of memory, where
--- no device failed
+-- Where no device failed, a bundle that is spelled and not refused gets an answer of its command, or
+-- want of memory; and a command that reads nothing gets its reply, or want of memory.
+pub record IsComplete (result : Status) (found : Command) (source : SourceState) : Type 0 where
+  pub text : unread_reply found ≡ None → IfSome source.left
+      (λ bytes. (b : PlainBundle) → Spells bytes b → refusal_of found b ≡ None
+      → ((reply : Reply) × Replies found b reply × (result ≡ status_of_end reply.end))
+      ⊎ (result ≡ status.Memory))
+  pub unread : (reply : Reply) → unread_reply found ≡ Some reply
+      → (result ≡ status_of_end reply.end) ⊎ (result ≡ status.Memory)
+
 abbrev pub Complete : Status → Option Command → SourceState → SourceState → SinkState → SinkState
     → Type 0
 Complete result asked source source_after out out_after = (found : Command) → asked ≡ Some found
     → (Rose source.faults source_after.faults → ⊥) → (Rose out.faults out_after.faults → ⊥)
-    → IfSome source.left (λ bytes. (b : PlainBundle) → Spells bytes b → refusal_of found b ≡ None
-    → ((reply : Reply) × Replies found b reply × (result ≡ status_of_end reply.end))
-    ⊎ (result ≡ status.Memory))
+    → IsComplete result found source
 
--- words that ask for no command read nothing; what a text was read for comes after its end
-abbrev pub ReadsAll : Status → SourceState → SourceState → Type 0
-ReadsAll status.Usage source source_after = source_after ≡ source
-ReadsAll status.Done source source_after = IsAtEnd source_after.left
-ReadsAll status.Limit source source_after = IsAtEnd source_after.left
-ReadsAll status.No source source_after = IsAtEnd source_after.left
-ReadsAll status.Syntax source source_after = IsAtEnd source_after.left
-ReadsAll status.Refused source source_after = IsAtEnd source_after.left
-ReadsAll status.WriteFault source source_after = IsAtEnd source_after.left
-ReadsAll _ source source_after = Unit {0}
+-- what a text was read for comes after its end
+abbrev pub AfterEnd : Option Command → SourceState → Type 0
+AfterEnd asked source_after = (found : Command) → asked ≡ Some found → unread_reply found ≡ None
+    → IsAtEnd source_after.left
+
+abbrev pub EndsAt : Status → Option Command → SourceState → SourceState → Type 0
+EndsAt status.Usage asked source source_after = source_after ≡ source
+EndsAt status.Done asked source source_after = AfterEnd asked source_after
+EndsAt status.Limit asked source source_after = AfterEnd asked source_after
+EndsAt status.No asked source source_after = AfterEnd asked source_after
+EndsAt status.Syntax asked source source_after = AfterEnd asked source_after
+EndsAt status.Refused asked source source_after = AfterEnd asked source_after
+EndsAt status.WriteFault asked source source_after = AfterEnd asked source_after
+EndsAt _ asked source source_after = Unit {0}
+
+-- Words that ask for no command, or for one that has its reply without reading, read nothing; a
+-- text is read to its end.
+pub record ReadsAll (result : Status) (asked : Option Command) (source source_after : SourceState) :
+    Type 0 where
+  pub to_end : EndsAt result asked source source_after
+  pub nothing : ReadsNothing asked source source_after
 
 -- a part of a text that the command may write for the bytes
 pub record PartPrinted (asked : Option Command) (source : SourceState) (out out_after : SinkState) :
@@ -172,9 +210,9 @@ pub record PartPrinted (asked : Option Command) (source : SourceState) (out out_
   pub command : Command
   pub asked_for : asked ≡ Some command
   pub bytes : List ℕ
-  pub read : IsRead source bytes
+  pub read : unread_reply command ≡ None → IsRead source bytes
   pub reply : Reply
-  pub comes : MayReply command bytes reply
+  pub comes : Comes command bytes (Replied reply)
   pub part : TakesPart out.taken out_after.taken reply.text
 
 -- `out` isn't called before a refusal; with a fault of `out` it took a part of a text that it might

@@ -10,7 +10,7 @@ use Rattle.aioc_top.specs.declared.replies.End.TheVariants as end
 use Rattle.aioc_top.specs.declared.replies.Written.{Written}
 use Rattle.aioc_top.specs.declared.status.Status.{Status}
 use Rattle.aioc_top.specs.declared.status.Status.TheVariants as status
-use Rattle.aioc_top.specs.Replies.{Reply, Replies, refusal_of, reply_of}
+use Rattle.aioc_top.specs.Replies.{Reply, Replies, refusal_of, reply_of, unread_reply}
 
 pub data Verdict : Type 0 where
   TooLong : Verdict
@@ -37,11 +37,20 @@ pub record IsReplied (asked : Command) (bundle : PlainBundle) (written : Written
   pub accepted : refusal_of asked bundle ≡ None
   pub replies : Replies asked bundle (reply_of written)
 
+-- what comes of the bytes of one bundle
+abbrev pub ComesOfText : Command → List ℕ → Verdict → Type 0
+ComesOfText asked bytes TooLong = most_bytes < length bytes
+ComesOfText asked bytes (Unspelled byte) = (length bytes ≤ most_bytes) × SpellsNone bytes
+ComesOfText asked bytes (Refused why) = Refuses asked bytes why
+ComesOfText asked bytes (Replied reply) = MayReply asked bytes reply
+
+-- where the command has its reply without reading, that comes of any bytes
+abbrev pub ComesBy : Option Reply → Command → List ℕ → Verdict → Type 0
+ComesBy (Some reply) asked bytes verdict = verdict ≡ Replied reply
+ComesBy None asked bytes verdict = ComesOfText asked bytes verdict
+
 abbrev pub Comes : Command → List ℕ → Verdict → Type 0
-Comes asked bytes TooLong = most_bytes < length bytes
-Comes asked bytes (Unspelled byte) = (length bytes ≤ most_bytes) × SpellsNone bytes
-Comes asked bytes (Refused why) = Refuses asked bytes why
-Comes asked bytes (Replied reply) = MayReply asked bytes reply
+Comes asked bytes verdict = ComesBy (unread_reply asked) asked bytes verdict
 
 abbrev pub status_of_end : End → Status
 status_of_end end.Done = status.Done

@@ -4,6 +4,7 @@ use Rattle.command_words.specs.Commands.{command_of, most_steps}
 use Rattle.command_words.specs.declared.commands.Command.{Command}
 use Rattle.command_words.specs.declared.commands.Command.TheVariants as command
 use Rattle.command_words.specs.declared.commands.Verb.TheVariants.{Step}
+use Rattle.load_gen.specs.Made.{most_size}
 
 -- the commands that are built
 abbrev pub is_built : Command → Bool
@@ -12,6 +13,7 @@ is_built command.Check = true
 is_built command.Project = true
 is_built command.Replay = true
 is_built command.Upgrade = true
+is_built (command.Gen number size) = true
 is_built _ = false
 
 -- the command that the words ask for, where it is built
@@ -19,9 +21,10 @@ abbrev pub asked : List (List ℕ) → Option Command
 asked words =
     option_and_then (λ found. if is_built found then Some found else None) (command_of words)
 
--- a run is to have no more entries than words can ask for
+-- A run is to have no more entries than words can ask for, and what is made is no larger.
 abbrev pub IsShort : Command → Type 0
 IsShort (command.Step options) = options.steps ≤ most_steps Step
+IsShort (command.Gen number size) = (1 ≤ size) × (size ≤ most_size)
 IsShort _ = Unit {0}
 
 -- what holds of each command that words ask for

@@ -1,6 +1,7 @@
 //! The commands: one module for each, from an accepted bundle to its text.
 
 pub mod check;
+pub mod generate;
 pub mod project;
 pub mod replay;
 pub mod step;

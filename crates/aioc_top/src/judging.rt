@@ -1,13 +1,13 @@
 //! From the bytes of a bundle to the reply of a command, or to why there is none.
 
-ghost use Rattle.std.specs.Prelude.{◌≡◌, ◌≤◌, length, true, IfErr, IfOk};
+ghost use Rattle.std.specs.Prelude.{◌≡◌, ◌≤◌, length, None, IfErr, IfOk};
 ghost use Rattle.dioc_terms.specs.Bundles.{IsFormed};
 ghost use Rattle.limits.specs.Limits.{most_bytes};
 ghost use Rattle.dioc_terms.specs.Plain.{plain};
 ghost use Rattle.rule_checks.specs.Refusals.{IsAccepted};
 ghost use Rattle.aioc_top.specs.Faults.{IsJudgedSo, IsRefusalFault, IsSyntaxFault, IsRefusedSo};
-ghost use Rattle.aioc_top.specs.Replies.{Replies, reply_of};
-ghost use Rattle.aioc_top.specs.Verdicts.{Comes, Replied, IsReplied};
+ghost use Rattle.aioc_top.specs.Replies.{Replies, reply_of, unread_reply};
+ghost use Rattle.aioc_top.specs.Verdicts.{ComesOfText, Replied, IsReplied};
 ghost use Rattle.aioc_top.specs.Words.{IsServed};
 
 use crate::commands::check::check;
@@ -26,9 +26,10 @@ use std::alloc::Global;
 /// What the command replies to the bundle that the bytes spell, or why it doesn't.
 pub fn judge(alloc: Global, command: &Command, bytes: &[u8]) -> Result<Written, Fault>
     requires served { IsServed command.now }
+    requires reads { unread_reply command.now ≡ None }
     requires small { length bytes.now ≤ most_bytes }
     ensures reply { IfOk result
-        (λ written. Comes command.now bytes.now (Replied (reply_of written))) }
+        (λ written. ComesOfText command.now bytes.now (Replied (reply_of written))) }
     ensures fault { IfErr result (IsJudgedSo command.now bytes.now) }
 {
     match read_bundle(alloc, bytes) {
@@ -50,6 +51,7 @@ fn syntax_fault(alloc: Global, byte: usize) -> Fault
 // What the command replies to a formed bundle, or the first refusal of the bundle.
 fn reply_to(alloc: Global, command: &Command, bundle: &mut Bundle) -> Result<Written, Fault>
     requires served { IsServed command.now }
+    requires reads { unread_reply command.now ≡ None }
     requires formed { IsFormed (plain bundle.old) }
     ensures reply { IfOk result (IsReplied command.now (plain bundle.old)) }
     ensures fault { IfErr result (IsRefusedSo command.now (plain bundle.old)) }
@@ -78,6 +80,7 @@ fn refusal_fault(alloc: Global, refusal: &Refusal) -> Fault
 // The reply of a command that is built. Only `upgrade` changes the bundle.
 fn do_command(alloc: Global, command: &Command, bundle: &mut Bundle) -> Result<Written, Memory>
     requires served { IsServed command.now }
+    requires reads { unread_reply command.now ≡ None }
     requires accepted { IsAccepted (plain bundle.old) }
     ensures { IfOk result (λ written. Replies command.now (plain bundle.old) (reply_of written)) }
 {

@@ -1,22 +1,45 @@
 //! From a source to the reply of a command.
 
-ghost use Rattle.std.specs.Prelude.{◌≡◌, true, IfErr, IfOk};
+ghost use Rattle.std.specs.Prelude.{◌≡◌, None, IfErr, IfOk};
 ghost use Rattle.aioc_top.specs.Faults.{ReadSo, Stops};
-ghost use Rattle.aioc_top.specs.Replies.{reply_of};
+ghost use Rattle.aioc_top.specs.Replies.{reply_of, unread_reply};
 ghost use Rattle.aioc_top.specs.Verdicts.{Replied};
 ghost use Rattle.aioc_top.specs.Words.{IsServed};
 
+use crate::commands::generate::generate;
 use crate::faults::Fault;
 use crate::judging::judge;
 use crate::replies::Written;
 use aioc_io::{ReadAllFault, Source, read_all};
 use command_words::Command;
+use dioc_terms::Memory;
 use limits::MOST_BYTES;
 use std::alloc::Global;
 
-/// What the command replies to all the bytes of the source, or why it doesn't.
+/// What the command replies, to all the bytes of the source or without reading, or why it doesn't.
 pub fn answer<S: Source>(alloc: Global, command: &Command, source: &mut S) -> Result<Written, Fault>
     requires served { IsServed command.now }
+    ensures reply { IfOk result (λ written.
+        ReadSo command.now (S.state source.old) (S.state source.new) (Replied (reply_of written))) }
+    ensures fault { IfErr result (Stops command.now (S.state source.old) (S.state source.new)) }
+{
+    match command {
+        Command::Gen { number, size } => match generate(alloc, *number, *size) {
+            Ok(written) => Ok(written),
+            Err(Memory) => Err(Fault::Memory),
+        },
+        _ => answer_text(alloc, command, source),
+    }
+}
+
+// What a command that reads a bundle replies to all the bytes of the source, or why it doesn't.
+fn answer_text<S: Source>(
+    alloc: Global,
+    command: &Command,
+    source: &mut S,
+) -> Result<Written, Fault>
+    requires served { IsServed command.now }
+    requires reads { unread_reply command.now ≡ None }
     ensures reply { IfOk result (λ written.
         ReadSo command.now (S.state source.old) (S.state source.new) (Replied (reply_of written))) }
     ensures fault { IfErr result (Stops command.now (S.state source.old) (S.state source.new)) }

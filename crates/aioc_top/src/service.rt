@@ -4,12 +4,13 @@ ghost use Rattle.std.specs.Prelude.{◌≡◌, Some, true};
 ghost use Rattle.aioc_io.specs.Faults.{Rose};
 ghost use Rattle.bundle_text.specs.Laws.{OneBundle, SpelledIsFormed, WrittenIsSpelled};
 ghost use Rattle.net_core.specs.Headline.{EveryRun};
+ghost use Rattle.load_gen.specs.Made.{MadeIsAccepted};
 ghost use Rattle.marked_laws.specs.Versions.{RunsReadNoVersion};
 ghost use Rattle.net_core.specs.Laws.{RunsAreSound, SchedulesReadNoVersion};
 ghost use Rattle.aioc_top.specs.Calls.{Happens, PrintsReply, SaysLine};
 ghost use Rattle.aioc_top.specs.Faults.{line_of, status_of};
 ghost use Rattle.aioc_top.specs.Replies.{reply_of};
-ghost use Rattle.aioc_top.specs.Serve.{CheckText, ComesExactly, Complete, HeadlineHolds, ProjectText, ReadsAll, ReplayText, SaysWhy, Silent, StepText, UpgradeText, UsageComes};
+ghost use Rattle.aioc_top.specs.Serve.{CheckText, ComesExactly, Complete, GenText, HeadlineHolds, ProjectText, ReadsAll, ReplayText, SaysWhy, Silent, StepText, UpgradeText, UsageComes};
 ghost use Rattle.aioc_top.specs.Words.{asked, IsServed};
 ghost use Rattle.command_words.specs.Commands.{spelled};
 
@@ -22,6 +23,7 @@ use aioc_io::{Failed, Sink, Source, write_all};
 use command_words::Command;
 use bundle_text::{one_bundle, spelled_is_formed, written_is_spelled};
 use dioc_terms::Memory;
+use load_gen::made_is_accepted;
 use marked_laws::runs_read_no_version;
 use net_core::{every_run, runs_are_sound, schedules_read_no_version};
 use std::alloc::Global;
@@ -45,13 +47,16 @@ pub fn serve_alone<S: Source, O: Sink, E: Sink>(
         (O.state out.old) (O.state out.new) }
 
     // With `check` the line that says how large the bundle is, with `project` a line for each role,
-    // with `replay` the judgement of the trace, with `upgrade` the bundle in its second version.
+    // with `replay` the judgement of the trace, with `upgrade` the bundle in its second version,
+    // with `gen` the line of the bundle that is made of its numbers.
     ensures check_text { CheckText (asked (spelled words.now)) result (S.state source.old)
         (O.state out.old) (O.state out.new) }
     ensures project_text { ProjectText (asked (spelled words.now)) result (S.state source.old)
         (O.state out.old) (O.state out.new) }
     ensures replay_text { ReplayText (asked (spelled words.now)) result (S.state source.old)
         (O.state out.old) (O.state out.new) }
+    ensures gen_text { GenText (asked (spelled words.now)) result (O.state out.old)
+        (O.state out.new) }
     ensures upgrade_text { UpgradeText (asked (spelled words.now)) result (S.state source.old)
         (O.state out.old) (O.state out.new) }
 
@@ -83,7 +88,8 @@ pub fn serve_alone<S: Source, O: Sink, E: Sink>(
         (S.state source.new) (O.state out.old) (O.state out.new) }
 
     // What is done with the source and the sinks.
-    ensures reads_all { ReadsAll result (S.state source.old) (S.state source.new) }
+    ensures reads_all { ReadsAll result (asked (spelled words.now)) (S.state source.old)
+        (S.state source.new) }
     ensures silent { Silent result (asked (spelled words.now)) (S.state source.old)
         (O.state out.old) (O.state out.new) }
     ensures says { SaysWhy result (asked (spelled words.now)) (S.state source.old)
@@ -98,6 +104,7 @@ fn know_laws()
     ensures one { OneBundle }
     ensures formed { SpelledIsFormed }
     ensures written { WrittenIsSpelled }
+    ensures made { MadeIsAccepted }
     ensures every_run { EveryRun }
     ensures sound { RunsAreSound }
     ensures runs { RunsReadNoVersion }
@@ -106,6 +113,7 @@ fn know_laws()
     one_bundle();
     spelled_is_formed();
     written_is_spelled();
+    made_is_accepted();
     every_run();
     runs_are_sound();
     runs_read_no_version();

@@ -37,6 +37,7 @@ fn is_built(command: &Command) -> bool
     match command {
         Command::Step(_) => true,
         Command::Check | Command::Project | Command::Replay | Command::Upgrade => true,
+        Command::Gen { .. } => true,
         _ => false,
     }
 }

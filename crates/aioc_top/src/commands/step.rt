@@ -41,7 +41,7 @@ pub fn step(alloc: Global, options: &Options, bundle: &Bundle) -> Result<Written
     })
 }
 
-fn end_of(finish: Finish) -> End
+pub(crate) fn end_of(finish: Finish) -> End
     ensures { result ≡ end_of finish }
 {
     match finish {

@@ -22,6 +22,11 @@ pub returns-clause-upgrade_text : goal.returns-clause-upgrade_text
 returns-clause-upgrade_text g c =
     clauses.upgrade_text c.know_laws.ensures.written c.know_laws.ensures.runs c.know_laws.ensures.schedules c.know_laws.ensures.formed _ c.do_words.result c.do_words.ensures
 
+pub returns-clause-gen_text : goal.returns-clause-gen_text
+returns-clause-gen_text g c number size is prints =
+    clauses.gen_text c.know_laws.ensures.made c.know_laws.ensures.every_run c.know_laws.ensures.sound number size _ c.do_words.result
+    (λ found asked. (asking.asked_served _ found asked).short) c.do_words.ensures is prints
+
 pub returns-clause-headline : goal.returns-clause-headline
 returns-clause-headline g c options is prints =
     (clauses.step_text c.know_laws.ensures.formed c.know_laws.ensures.every_run c.know_laws.ensures.sound options _ c.do_words.result c.do_words.ensures is prints).0
