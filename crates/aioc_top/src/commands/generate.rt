@@ -1,9 +1,13 @@
 //! `gen`: a made bundle, its run, and a line that counts them.
 
-ghost use Rattle.std.specs.Prelude.{◌≡◌, ◌≤◌, IfOk};
+ghost use Rattle.std.specs.Prelude.{◌≡◌, ◌≤◌, ◌++◌, ◌∷◌, [], codes, decimal, length, IfOk, OnOk};
+ghost use Rattle.dioc_terms.specs.Messages.{visible};
 ghost use Rattle.dioc_terms.specs.Plain.{plain};
+ghost use Rattle.dioc_terms.specs.Terms.{nodes, term};
 ghost use Rattle.load_gen.specs.Made.{most_size};
-ghost use Rattle.aioc_top.specs.Replies.{gen_line, gen_reply, line_of_text, reply_of};
+ghost use Rattle.role_network.specs.Nets.{network_of};
+ghost use Rattle.trace_text.specs.Lines.{line_end};
+ghost use Rattle.aioc_top.specs.Replies.{gen_reply, reply_of};
 
 use crate::commands::step::end_of;
 use crate::replies::Written;
@@ -42,4 +46,45 @@ pub fn generate(alloc: Global, number: u64, size: u32) -> Result<Written, Memory
         end: end_of(finish),
         text,
     })
+}
+
+// Appends the words that asked for the bundle.
+fn write_head(number: u64, size: u32, out: &mut Vec<u8>) -> Result<(), Memory>
+    ensures { OnOk result (out.new.items
+        ≡ out.old.items ++ (codes "gen " ++ decimal number ++ codes " " ++ decimal size)) }
+{
+    write_bytes(b"gen ", out)?;
+    write_number(number, out)?;
+    write_bytes(b" ", out)?;
+    write_number(size as u64, out)
+}
+
+// Appends how many roles and nodes the bundle has.
+fn write_bundle_counts(bundle: &Bundle, out: &mut Vec<u8>) -> Result<(), Memory>
+    requires few { nodes (term bundle.now.choreo) ≤ 4294967295 }
+    ensures { OnOk result (out.new.items ≡ out.old.items
+        ++ (codes ": roles " ++ decimal (length bundle.now.cast) ++ codes ", nodes "
+        ++ decimal (nodes (term bundle.now.choreo)))) }
+{
+    write_bytes(b": roles ", out)?;
+    write_number(bundle.cast.len() as u64, out)?;
+    write_bytes(b", nodes ", out)?;
+    write_number(nodes(&bundle.choreo) as u64, out)
+}
+
+// Appends how many entries the run has, how many of them are visible, and its updates; the line
+// ends there.
+fn write_run_counts(net: &Net<RoleState>, out: &mut Vec<u8>) -> Result<(), Memory>
+    ensures { OnOk result (out.new.items ≡ out.old.items
+        ++ (codes ", entries " ++ decimal (length net.now.history) ++ codes ", visible "
+        ++ decimal (length (visible net.now.history)) ++ codes ", updates "
+        ++ decimal (network_of net.now).updates ++ codes ", played yes" ++ line_end ∷ [])) }
+{
+    write_bytes(b", entries ", out)?;
+    write_number(net.history().len(), out)?;
+    write_bytes(b", visible ", out)?;
+    write_number(net.history().visible_len(), out)?;
+    write_bytes(b", updates ", out)?;
+    write_number(net.updates() as u64, out)?;
+    write_bytes(b", played yes\n", out)
 }
