@@ -2,14 +2,12 @@
 use Rattle.std.proofs.Common.{◌≡◌, ◌≤◌, ℕ, suc, List, [], ◌∷◌, Bool, true, false, true≢false, Option, Some, None, refl, sym, ap, ◌∙◌, subst, arith}
 use Rattle.std.specs.Prelude.{not, length, if◌then◌else◌, option_and_then}
 use Rattle.std.specs.Option.{option_map_or}
-use Rattle.dioc_terms.specs.declared.names.Role.{Role}
 use Rattle.dioc_terms.specs.declared.entries.Entry.{Entry}
 use Rattle.dioc_terms.specs.declared.bundles.Last.{Last}
 use Rattle.dioc_terms.specs.declared.bundles.Last.TheVariants as last
-use Rattle.dioc_terms.specs.declared.bundles.Timed.{Timed}
-use Rattle.dioc_terms.specs.Attempts.{Attempt, Stuck, Does}
 use Rattle.dioc_terms.specs.Messages.{is_aux, visible, doer}
 use Rattle.dioc_terms.specs.Plain.{PlainBundle, Setting, setting}
+use Rattle.global_steps.specs.Laws.{PlaysGoOn}
 use Rattle.global_steps.specs.Follow.{State, follow, play, play_from, play_start, stray, stray_from}
 use Rattle.global_steps.specs.Running.{ended}
 use Rattle.marked_laws.proofs.Shapes.{none_some, some_same}
@@ -62,13 +60,10 @@ plays_whole b S none plays =
 
 -- ---- how many entries a state has seen
 
-seen_by : (o : Option State) (S T : State) → ((U : State) → o ≡ Some U → U.entries ≡ suc S.entries) → (aux : Bool) → (if aux then Some S else o) ≡ Some T → T.entries ≤ suc S.entries
-seen_by o S T more true h = omega (arith, ap (λ (U : State). U.entries) (some_same h))
-seen_by o S T more false h = omega (arith, more T h)
+module _ (goes : PlaysGoOn) (b : Setting) (S T : State) (e : Entry) where
+  seen_by : (aux : Bool) → (if aux then Some S else follow b S e) ≡ Some T → T.entries ≤ suc S.entries
+  seen_by true h = omega (arith, ap (λ (U : State). U.entries) (some_same h))
+  seen_by false h = omega (arith, goes.counted b S T (e ∷ []) (ap (option_and_then Some) h))
 
-role_seen : (b : Setting) (S : State) (r : Role) (e : Entry) (T : State) → follow_role b S r e ≡ Some T → T.entries ≡ suc S.entries
-role_seen b S r e T h =
-    by (plays b.cast S.stores (λ head. book_choice b.rules S.book head (S.stores head.leader)) S.updates S.running e) h
-  where
-    by : (o : Attempt Effect Running) → _ → T.entries ≡ suc S.entries
-    by o h = grind h
+  pub seen : passed b S e ≡ Some T → T.entries ≤ suc S.entries
+  seen h = seen_by (is_aux e) h

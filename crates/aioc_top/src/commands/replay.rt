@@ -14,6 +14,7 @@ use crate::replies::{End, Written};
 use aux_messages::is_aux;
 use dioc_terms::{Bundle, Entry, Last, Memory};
 use global_follower::{FollowFault, Follower};
+use global_steps::plays_go_on;
 use std::alloc::Global;
 use text_pieces::{write_bytes, write_number};
 
@@ -75,6 +76,7 @@ fn first_stray(
         → play_from (setting_of follower.old) (state_of follower.old) (visible entries.now)
         ≡ Some (state_of follower.new)) }
 {
+    plays_go_on();
     let mut number: u64 = 0;
     for entry in entries {
         number += 1;
