@@ -30,12 +30,21 @@ impl Marks {
 
     /// A part of the text.
     pub(crate) fn part<'a>(self, choreo: &'a Choreo) -> Part<'a>
-        ensures { part_term result ≡ marked choreo.now self }
+        ensures text { part_term result ≡ marked choreo.now self }
+        ensures marks { result.marks ≡ self }
     {
         Part {
             choreo,
             marks: self,
         }
+    }
+
+    /// A part of the text that lies in a box.
+    pub(crate) fn inside<'a>(self, part: &'a Box<Choreo>) -> Part<'a>
+        ensures text { part_term result ≡ marked part.now.value self }
+        ensures marks { result.marks ≡ self }
+    {
+        self.part(part)
     }
 }
 

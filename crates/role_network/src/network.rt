@@ -7,7 +7,7 @@ ghost use Rattle.marked_laws.specs.Network.{network_ended};
 ghost use Rattle.net_core.specs.Schedule.{change_due, moves};
 ghost use Rattle.process_steps.specs.Steps.{ended};
 ghost use Rattle.role_network.specs.Changes.{IsChangeOf, change_fault};
-ghost use Rattle.role_network.specs.Nets.{bundle_of, network_of};
+ghost use Rattle.role_network.specs.Nets.{IsSoundRun, bundle_of, network_of};
 ghost use Rattle.role_network.specs.Steps.{IsStepOf, fault_of};
 
 use crate::bodies::{Coming, RuleBody};
@@ -79,18 +79,12 @@ impl<R: Runs> Model for Net<R> {
 }
 
 impl<R: Runs> Net<R> {
-    /// The entries so far.
+    /// The entries so far. They are a run of the bundle, of at most as many entries as the limit.
     pub fn history(&self) -> &History
-        ensures { result.now.entries ≡ self.now.history }
+        ensures entries { result.now.entries ≡ self.now.history }
+        ensures run { IsSoundRun self.now }
     {
         &self.history
-    }
-
-    /// How many entries there may be.
-    pub fn limit(&self) -> u64
-        ensures { result ≡ self.now.limit }
-    {
-        self.limit
     }
 
     /// How many updates were made.

@@ -3,7 +3,7 @@ use Rattle.std.proofs.Common.{◌≡◌, take}
 use Rattle.dioc_terms.specs.KeptStores.{store_of}
 use Rattle.dioc_terms.specs.RuleLaws.{chosen_among}
 use Rattle.global_follower.specs.KeptBooks.{book_of, rules_of}
-use Rattle.global_follower.proofs.books.PlainBook.choose.Given as goal
+use Rattle.global_follower.proofs.books.PlainBook.best_rule.Given as goal
 
 abbrev pub invariant-loop-number : goal.invariant-loop-number
 invariant-loop-number l =
