@@ -119,8 +119,8 @@ impl<R: Runs> Net<R> {
     }
 
     /// The moves of the network, in the order in which a schedule numbers them: the script's next
-    /// change where it is due and the network has not ended, and then the acts that the roles offer,
-    /// role by role in the cast's order, without takes whose message isn't pending.
+    /// change where it is due and the network has not ended, and then the acts that the roles
+    /// offer, role by role in the cast's order, without takes whose message isn't pending.
     pub fn moves(&self) -> Result<Vec<Move>, Memory>
         ensures { IfOk result
             (λ found. found.items ≡ moves (setting (bundle_of self.now)) (network_of self.now)) }
