@@ -102,9 +102,9 @@ below_top law rules book head s (Some n) is =
     by None at fit = absurd (false≢true (rw at at fit))
     by (Some rule) at fit =
         let all : ((holds rule.cond s (bound head.props) book.environment
-            && list_all (λ q. member q head.roles) (mentions rule.body))
-            && nat_lt head.level 16) ≡ true
-            = rw at at fit in
+        && list_all (λ q. member q head.roles) (mentions rule.body))
+        && nat_lt head.level 16) ≡ true
+        = rw at at fit in
         ltb-true head.level 16 (and_parts (holds rule.cond s (bound head.props) book.environment
         && list_all (λ q. member q head.roles) (mentions rule.body)) _ all).1
 

@@ -1,5 +1,5 @@
 -- One step of a play, from what the running term does.
-use Rattle.std.proofs.Common.{◌≡◌, ℕ, suc, ◌+◌, List, Option, Some, None, refl, sym, ap, ap₂, subst}
+use Rattle.std.proofs.Common.{◌≡◌, ℕ, suc, ◌+◌, Some, None, refl, sym, ap, ap₂, subst}
 use Rattle.dioc_terms.specs.declared.names.Role.{Role}
 use Rattle.dioc_terms.specs.declared.entries.Entry.{Entry}
 use Rattle.dioc_terms.specs.Attempts.{Attempt, Stuck, Does}
@@ -22,7 +22,7 @@ module _ (b : Setting) (S : State) (r : Role) (e : Entry) where
       → follow_role b S r e ≡ None
   role_stray stores same is =
       let stuck : Stuck ≡ played_with S.stores =
-          subst (λ (s : Role → Store). Stuck ≡ played_with s) same is in
+      subst (λ (s : Role → Store). Stuck ≡ played_with s) same is in
       rw (← stuck) refl
 
   pub role_played : (stores new : Role → Store) (effect : Effect) (G : Running)
@@ -40,7 +40,7 @@ module _ (b : Setting) (S : State) (r : Role) (e : Entry) where
       })
   role_played stores new effect G updates entries same is becomes more one_more =
       let does : Does effect G ≡ played_with S.stores =
-          subst (λ (s : Role → Store). Does effect G ≡ played_with s) same is in
+      subst (λ (s : Role → Store). Does effect G ≡ played_with s) same is in
       rw (← does, becomes, more, one_more, same) refl
 
 -- marks of the program's own text change nothing

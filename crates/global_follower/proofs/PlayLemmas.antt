@@ -1,9 +1,9 @@
 -- How a sequence and a parallel play an entry, by what their parts do.
-use Rattle.std.proofs.Common.{◌≡◌, ℕ, List, Bool, true, false, ◌&&◌, not, Option, Some, None, refl, sym, ap, subst, ◌∙◌}
+use Rattle.std.proofs.Common.{◌≡◌, ℕ, List, true, false, ◌&&◌, not, Option, Some, None, refl, ◌∙◌}
 use Rattle.dioc_terms.specs.declared.names.Role.{Role}
 use Rattle.dioc_terms.specs.declared.processes.ScopeHead.{ScopeHead}
 use Rattle.dioc_terms.specs.declared.entries.Entry.{Entry}
-use Rattle.dioc_terms.specs.Attempts.{Attempt, Stuck, Does, orelse, under, when}
+use Rattle.dioc_terms.specs.Attempts.{Attempt, Stuck, under}
 use Rattle.dioc_terms.specs.Messages.{doer}
 use Rattle.dioc_terms.specs.Stores.{Store}
 use Rattle.dioc_terms.specs.Terms as term
@@ -11,8 +11,6 @@ use Rattle.dioc_terms.specs.Terms.{Term, empty, stamped}
 use Rattle.std.proofs.lemmas.Bool.{and_left}
 use Rattle.global_steps.specs.Follow.{BookChoice, Effect, is_doer_due, plays}
 use Rattle.global_steps.specs.Running.{Running, Seq, started, light}
-use Rattle.global_follower.specs.declared.effects.Effect.{Effect as KeptEffect}
-use Rattle.global_follower.specs.Playing.{done}
 use Rattle.global_follower.proofs.StillLemmas.{light_still, nobody_due}
 
 -- no message is in flight in a part that nobody has begun
@@ -30,21 +28,6 @@ module _ (cast : List Role) (stores : Role → Store) (choices : ScopeHead → B
       → (light G && not (is_doer_due e G)) ≡ false
       → Stuck ≡ plays cast stores choices updates (Seq G H) e
   seq_waits G H is waits = rw (← is, waits) refl
-
-  -- the second part plays, where the first lets it
-  pub seq_second : (G K H L : Running) (effect : Option KeptEffect) → K ≡ G
-      → Stuck ≡ plays cast stores choices updates G e
-      → (light K && not (is_doer_due e K)) ≡ true
-      → done effect L ≡ plays cast stores choices updates H e
-      → done effect (Seq K L) ≡ plays cast stores choices updates (Seq G H) e
-  seq_second G K H L effect same is lets played =
-      let goes : (light G && not (is_doer_due e G)) ≡ true =
-          subst (λ (F : Running). (light F && not (is_doer_due e F)) ≡ true) same lets in
-      rw (← is, goes, ← played, same) (by effect)
-    where
-      by : (effect : Option KeptEffect) → done effect (Seq G L) ≡ under (Seq G) (done effect L)
-      by None = refl
-      by (Some one) = refl
 
   -- the same of a sequence that nobody has begun
   pub still_waits : (n level : ℕ) (I J : Term)
@@ -64,5 +47,5 @@ module _ (cast : List Role) (stores : Role → Store) (choices : ScopeHead → B
   still_second n level I J K whole part is no_first same played around =
       let all_light : light (started (stamped I n level)) ≡ true = light_still n level I ∙ no_first in
       let due : is_doer_due e (started (stamped I n level)) ≡ false =
-          none_due e (stamped I n level) in
+      none_due e (stamped I n level) in
       around ∙ rw (← is, all_light, due, ← played, same) refl

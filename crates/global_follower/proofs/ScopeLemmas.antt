@@ -7,7 +7,7 @@ use Rattle.dioc_terms.specs.declared.entries.Chosen.{Chosen}
 use Rattle.dioc_terms.specs.declared.entries.Chosen.TheVariants as chosen
 use Rattle.dioc_terms.specs.declared.entries.Entry.{Entry}
 use Rattle.dioc_terms.specs.declared.entries.Entry.TheVariants as entry
-use Rattle.dioc_terms.specs.Attempts.{Attempt, Stuck, Does, when}
+use Rattle.dioc_terms.specs.Attempts.{Stuck, Does, when}
 use Rattle.dioc_terms.specs.Equality.{chosen_eq, entry_eq}
 use Rattle.dioc_terms.specs.Plain.{PlainRule}
 use Rattle.dioc_terms.specs.Rules.{Book, choose}
@@ -16,7 +16,7 @@ use Rattle.dioc_terms.specs.declared.values.Value.{Value}
 use Rattle.dioc_terms.specs.Terms as term
 use Rattle.dioc_terms.specs.Terms.{Term, head_of, is_in, stamped}
 use Rattle.global_follower.specs.Scopes.{choice_of, chosen_body, entered}
-use Rattle.global_steps.specs.Follow.{BookChoice, KeepsBody, TakesRule, Effect, Leaves, book_choice, plays, scope_plays}
+use Rattle.global_steps.specs.Follow.{BookChoice, KeepsBody, TakesRule, Leaves, book_choice, plays, scope_plays}
 use Rattle.global_steps.specs.Running as runs
 use Rattle.global_steps.specs.Running.{Running, Bar, started}
 

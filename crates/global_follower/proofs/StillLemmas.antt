@@ -6,7 +6,7 @@ use Rattle.dioc_terms.specs.declared.names.Index.{Index}
 use Rattle.dioc_terms.specs.declared.names.Role.{Role}
 use Rattle.dioc_terms.specs.declared.processes.ScopeHead.{ScopeHead}
 use Rattle.dioc_terms.specs.declared.entries.Entry.{Entry}
-use Rattle.dioc_terms.specs.Attempts.{Attempt, Stuck, orelse, under, when}
+use Rattle.dioc_terms.specs.Attempts.{Stuck, when}
 use Rattle.dioc_terms.specs.Expressions.{Expression}
 use Rattle.dioc_terms.specs.Stores.{Store}
 use Rattle.dioc_terms.specs.Terms as term

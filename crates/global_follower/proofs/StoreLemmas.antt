@@ -1,5 +1,5 @@
 -- The stores of all roles, in a map of those that have a place.
-use Rattle.std.proofs.Common.{◌≡◌, ◌+◌, ◌<◌, ℕ, suc, List, [], ◌∷◌, ◌++◌, Bool, true, false, ◌&&◌, ◌||◌, is_none, is_some, cond, if◌then◌else◌, length, take, get_or, Option, Some, None, unwrap_or, refl, sym, ap, ◌∙◌, subst}
+use Rattle.std.proofs.Common.{◌≡◌, ◌<◌, ℕ, suc, List, [], ◌∷◌, ◌++◌, Bool, true, false, ◌&&◌, ◌||◌, is_none, is_some, cond, if◌then◌else◌, length, take, get_or, Option, Some, None, unwrap_or, refl, sym, ap, ◌∙◌}
 use Rattle.std.proofs.Math.Seq.{take-suc}
 use Rattle.std.proofs.lemmas.List.Folds.{list_any-append}
 use Rattle.std.specs.List.{list_any}
@@ -117,14 +117,14 @@ module _ (given : List (Role × List Value)) where
       by true same true had =
           let one : pair.0 ≡ q = (role_eq-decides pair.0 q).0 same in
           let there : old q ≡ Some (fresh_store (inputs_of given q)) =
-              so_far q
-              ∙ ap (λ (t : Bool). if t then Some (fresh_store (inputs_of given q)) else None) had in
+          so_far q
+          ∙ ap (λ (t : Bool). if t then Some (fresh_store (inputs_of given q)) else None) had in
           rw (one, there) refl
       by true same false had =
           let one : pair.0 ≡ q = (role_eq-decides pair.0 q).0 same in
           let there : old q ≡ None =
-              so_far q
-              ∙ ap (λ (t : Bool). if t then Some (fresh_store (inputs_of given q)) else None) had in
+          so_far q
+          ∙ ap (λ (t : Bool). if t then Some (fresh_store (inputs_of given q)) else None) had in
           rw (one, there) refl
       by false same u had =
           so_far q

@@ -7,9 +7,7 @@ ghost use Rattle.dioc_terms.specs.Rules.{add_rule, added, apply, choose, is_name
 ghost use Rattle.global_follower.specs.KeptBooks.{book_of, rules_of};
 
 use crate::rules::RuleList;
-use dioc_terms::{
-    Bindings, Change, Memory, Name, ScopeHead, Store, Value, choices_go_on,
-};
+use dioc_terms::{Bindings, Change, Memory, Name, ScopeHead, Store, Value, choices_go_on};
 use std::alloc::Global;
 
 /// The rules in the book, by their numbers, and the pairs of the environment, of which the last one
@@ -132,7 +130,9 @@ fn place_of(rules: RuleList<'_>, name: &Name, order: &[u32]) -> Option<usize>
     ensures place { result ≡ position (is_named (rules_of rules.entry) name.now) order.now }
     ensures within { IfSome result (λ place. place < length order.now) }
 {
-    order.iter().position(|number| rules.is_named(name, *number))
+    order
+        .iter()
+        .position(|number| rules.is_named(name, *number))
 }
 
 /// Drops the rules of the name.

@@ -61,6 +61,7 @@ pub(crate) fn play<'a>(
     }
     match left {
         Running::Seq(first, _) => {
+            let first: &mut Running<'a> = first;
             if let Some(effect) = play(alloc, first, rules, scene)? {
                 return Ok(Some(effect));
             }

@@ -94,11 +94,7 @@ fn open_role(
 }
 
 /// Gives the role a place, where it has none.
-fn make_place(
-    alloc: Global,
-    stores: &mut IndexMap<Role, Store>,
-    role: &Role,
-) -> Result<(), Memory>
+fn make_place(alloc: Global, stores: &mut IndexMap<Role, Store>, role: &Role) -> Result<(), Memory>
     ensures same { stores_in stores.new ≡ stores_in stores.old }
     ensures there { OnOk result (ContainsKey role_eq stores.new role.now) }
 {

@@ -87,6 +87,13 @@ impl<R: Runs> Net<R> {
         &self.history
     }
 
+    /// How many entries there may be.
+    pub fn limit(&self) -> u64
+        ensures { result ≡ self.now.limit }
+    {
+        self.limit
+    }
+
     /// How many updates were made.
     pub fn updates(&self) -> u32
         ensures { result ≡ (network_of self.now).updates }

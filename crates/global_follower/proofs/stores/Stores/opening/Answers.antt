@@ -1,4 +1,4 @@
-use Rattle.std.proofs.Common.{ℕ, List, ◌×◌, ◌<◌, ◌+◌, length, suc, add-one, sym, subst, take, arith}
+use Rattle.std.proofs.Common.{ℕ, List, add-one, sym, subst, take, arith}
 use Rattle.indexmap.specs.IndexMap.{get}
 use Rattle.std.proofs.lemmas.List.{take_all}
 use Rattle.dioc_terms.specs.declared.names.Role.{Role}
