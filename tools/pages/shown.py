@@ -6,7 +6,7 @@ import subprocess
 import sys
 import tempfile
 
-from pages.table import find, print_row, read
+from pages.table import find, lines_of, print_row, read
 
 # An answer that the program never gives: the table has no such case.
 NO_CASE = 99
@@ -39,7 +39,7 @@ def check_examples(shown):
     for name in names:
         stem, _, kind = name.rpartition(".")
         if kind == "aioc" and f"{stem}.trace" in names:
-            lines = read(f"examples/{stem}.trace").removesuffix("\n").split("\n")
+            lines = lines_of(read(f"examples/{stem}.trace"))
             shown.add(f"examples/{name}", ["step"], read(f"examples/{name}"), "out", lines)
             if not lines[-1].startswith("ended "):
                 shown.problems.append(f"examples/{stem}.trace: the run hasn't ended")
@@ -138,7 +138,7 @@ class Room:
                               stderr=subprocess.STDOUT, check=False)
         self.status = done.returncode
         text = done.stdout.decode("latin-1")
-        return text.removesuffix("\n").split("\n") if text else []
+        return lines_of(text) if text else []
 
     def lacked(self):
         """The calls that the table had no answer for, since this was asked last."""
@@ -170,10 +170,19 @@ def check_console(shown, room, where, lines):
             shown.missing.append((words, text, [f"? {it}" for it in below]))
             shown.problems.append(f"{where}: `aioc {' '.join(words)}` in `{command}` is no case")
         if shows != below and not lacked:
-            shown.problems.append(f"{where}: `{command}` shows other lines: {' / '.join(shows)}")
+            shown.problems.append(f"{where}: `{command}` shows {difference(below, shows)}")
         tells = number + 1 < len(found) and found[number + 1][0] == "echo $?"
         if room.status != 0 and not tells and not lacked:
             shown.problems.append(f"{where}: `{command}` ends with {room.status}, and the page doesn't say so")
+
+
+def difference(below, shows):
+    """The first line that isn't as the page has it."""
+    for number in range(max(len(below), len(shows))):
+        wanted, found = (f"`{it[number]}`" if number < len(it) else "no more" for it in (below, shows))
+        if wanted != found:
+            return f"{found} as line {number + 1}, where the page has {wanted}"
+    return "the same"
 
 
 def answer(rows, program, words):

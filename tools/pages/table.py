@@ -2,11 +2,21 @@
 import re
 
 TABLE = "crates/aioc_cases/stdout"
+INPUT = "crates/aioc_cases/stdin"
 
 
 def read(path):
     with open(path, "rb") as it:
         return it.read().decode("latin-1")
+
+
+def without_space(text):
+    """The text without one space at its front."""
+    return text[1:] if text.startswith(" ") else text
+
+
+def lines_of(text):
+    return (text[:-1] if text.endswith("\n") else text).split("\n")
 
 
 def repeated(piece):
@@ -32,7 +42,7 @@ class Row:
         return self.words == words and "".join(map(expanded, self.written)) == text
 
     def said(self, sink):
-        return [it.removeprefix(f"{sink} ") for it in self.answer if it.startswith(f"{sink} ")]
+        return [it[len(sink) + 1:] for it in self.answer if it.startswith(f"{sink} ")]
 
     def code(self):
         return int(self.said("code")[0])
@@ -44,13 +54,19 @@ def read_rows():
         if line.startswith("  ") and row:
             row.answer.append(line[2:])
         elif line.startswith("|") and row:
-            row.written.append((line[2:] if line.startswith("| ") else line[1:]) + "`0A`")
+            row.written.append(without_space(line[1:]) + "`0A`")
         else:
             head, _, text = line.partition(":")
             words = head.split(" ")
-            row = Row(words[1:], text.removeprefix(" ")) if words[0] == "serve_alone" else None
+            row = Row(words[1:], without_space(text)) if words[0] == "serve_alone" else None
             rows += [row] if row else []
     return rows
+
+
+def check_input():
+    """The table without its answers is what the program of cases reads."""
+    asked = "".join(f"{it}\n" for it in lines_of(read(TABLE)) if not it.startswith("  "))
+    return [] if asked == read(INPUT) else [f"{INPUT}: it isn't {TABLE} without its answers"]
 
 
 def find(rows, words, text):
@@ -60,7 +76,7 @@ def find(rows, words, text):
 def print_row(words, text, lines):
     """A row for the table; the letters `?` are for the one who works out the answer."""
     print(f"serve_alone {' '.join(words)}:" if words else "serve_alone:")
-    for line in text.removesuffix("\n").split("\n"):
+    for line in lines_of(text):
         print(f"| {line}" if line else "|")
     print("  code ?")
     for line in lines:

@@ -16,8 +16,12 @@ pub fn answer(alloc: Global, case: &Case, out: &mut Vec<u8>) -> Result<(), Probl
 }
 
 fn write_marks(alloc: Global, choreo: &Choreo, out: &mut Vec<u8>) -> Result<(), Memory> {
-    let is_distinct = distinct(alloc, choreo)?;
-    write_bytes(if is_distinct { b"distinct" } else { b"repeated" }, out)?;
+    let word = if distinct(alloc, choreo)? {
+        "distinct"
+    } else {
+        "repeated"
+    };
+    write_bytes(word.as_bytes(), out)?;
     write_indices(choreo, out)
 }
 
