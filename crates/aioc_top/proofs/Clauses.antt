@@ -1,7 +1,6 @@
 -- What the table of calls says by each clause.
-use Rattle.std.proofs.Common.{◌≡◌, ◌⊎◌, ◌↔◌, ◌≤◌, ℕ, List, [], length, Bool, true, false, true≢false, Option, Some, None, IfSome, IsSome, refl, sym, ap, ◌∙◌, subst, inl, inr, ⊎_elim, arith}
+use Rattle.std.proofs.Common.{◌≡◌, ◌⊎◌, ◌↔◌, ℕ, List, [], length, Bool, true, false, true≢false, Option, Some, None, IfSome, IsSome, refl, sym, ap, ◌∙◌, subst, inl, inr, ⊎_elim, arith}
 use Rattle.std.specs.Prelude.{if◌then◌else◌}
-use Rattle.std.proofs.lemmas.Bool.{cases_Bool, cond-true, cond-false}
 use Rattle.std.specs.Option.{option_map_or}
 use Rattle.std.specs.Io.KnownBytes.{Appends, IsAtEnd}
 use Rattle.aioc_io.specs.Faults.{Rose}
@@ -22,16 +21,15 @@ use Rattle.command_words.specs.declared.commands.Options.{Options}
 use Rattle.command_words.specs.declared.commands.Command.{Command}
 use Rattle.command_words.specs.declared.commands.Command.TheVariants as command
 use Rattle.aioc_top.specs.Calls.{Call, Judges, Happens, IsRead, ReadsTo, Says, Writes}
-use Rattle.aioc_top.specs.Replies.{Reply, Replies, is_finished, refusal_of, run_reply, step_history, line_of_text, check_line, project_text as project_lines, replay_reply, upgrade_text as upgraded}
-use Rattle.aioc_top.specs.Serve.{CheckText, ComesExactly, Complete, GivesUp, HeadlineHolds, IsUpgraded, JudgementPrinted, PartPrinted, ProjectText, ReadsAll, ReplayText, RunPrinted, SaysWhy, Silent, StepText, TextPrinted, UpgradeText, UsageComes, has_printed}
+use Rattle.aioc_top.specs.Replies.{Reply, Replies, is_finished, refusal_of, step_history, line_of_text, check_line, project_text as project_lines, upgrade_text as upgraded}
+use Rattle.aioc_top.specs.Serve.{CheckText, ComesExactly, Complete, GivesUp, IsUpgraded, ProjectText, ReadsAll, ReplayText, RunPrinted, SaysWhy, Silent, TextPrinted, UpgradeText, UsageComes, has_printed}
 use Rattle.aioc_top.specs.Verdicts.{Verdict, TooLong, Unspelled, Refused, Replied, MayReply, Cause, Comes, status_of, status_of_end}
 use Rattle.aioc_top.specs.Words.{is_built}
-use Rattle.aioc_top.specs.declared.replies.End.{End}
 use Rattle.aioc_top.specs.declared.replies.End.TheVariants as end
 use Rattle.aioc_top.specs.declared.status.Status.{Status}
 use Rattle.aioc_top.specs.declared.status.Status.TheVariants as status
 use Rattle.aioc_top.proofs.Table.{prints_always}
-use Rattle.aioc_top.proofs.Causes.{not_too_long, one_kind, one_reply_of}
+use Rattle.aioc_top.proofs.Causes.{not_too_long, one_kind}
 
 filled : {A : Type 0} {P : A → Type 0} → ((x : A) → P x) → (o : Option A) → IfSome o P
 filled f None = tt

@@ -1,5 +1,5 @@
 -- What comes of a command and the bytes that were read, from what its parts answered.
-use Rattle.std.proofs.Common.{◌≡◌, ◌<◌, ◌≤◌, ℕ, suc, List, length, Option, Some, None, IfSome, Result, Ok, Err, IfErr, refl, sym, subst, arith}
+use Rattle.std.proofs.Common.{◌≡◌, ◌<◌, ◌≤◌, ℕ, suc, List, length, Option, Some, None, IfSome, Result, Ok, Err, IfErr, refl, sym, arith}
 use Rattle.std.specs.Prelude.{replicate}
 use Rattle.std.proofs.lemmas.List.{length-replicate}
 use Rattle.std.specs.Io.KnownBytes.{IsAtEnd}
@@ -10,8 +10,8 @@ use Rattle.bundle_text.specs.Grammar.{Spells, SpellsNone}
 use Rattle.command_words.specs.declared.commands.Command.{Command}
 use Rattle.aioc_top.specs.Calls.{IsRead}
 use Rattle.aioc_top.specs.Faults.{IsJudgedSo, IsRefusedSo, IsSyntaxFault, ReadSo, Stops}
-use Rattle.aioc_top.specs.Replies.{Reply, Replies, reply_of}
-use Rattle.aioc_top.specs.Verdicts.{Verdict, TooLong, Unspelled, Refused, Replied, IsReplied, Comes}
+use Rattle.aioc_top.specs.Replies.{reply_of}
+use Rattle.aioc_top.specs.Verdicts.{TooLong, Replied, IsReplied, Comes}
 use Rattle.aioc_top.specs.declared.faults.Fault.{Fault}
 use Rattle.aioc_top.specs.declared.faults.Fault.TheVariants as fault
 use Rattle.aioc_top.specs.declared.replies.Written.{Written}
