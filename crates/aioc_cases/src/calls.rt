@@ -1,18 +1,23 @@
 //! The calls that a case can name, each in a module of its own.
 
+mod auxiliary;
 mod bundles;
 mod casts;
 mod choreographies;
 mod expressions;
+mod indices;
 mod lexemes;
 mod links;
 mod projections;
+mod refusals;
+mod rules;
 mod services;
 mod sizes;
 mod spellings;
 mod tokenizing;
 mod traces;
 mod values;
+mod words;
 
 use crate::cases::Case;
 use crate::problems::Problem;
@@ -21,25 +26,71 @@ use std::alloc::Global;
 /// The lines that answer a case.
 pub fn answer(alloc: Global, case: &Case) -> Result<Vec<u8>, Problem> {
     let mut out = Vec::new(alloc);
-    match case.call.as_slice() {
-        b"name" => spellings::answer_name(alloc, case, &mut out)?,
-        b"text" => spellings::answer_text(alloc, case, &mut out)?,
-        b"tokens" => tokenizing::answer(alloc, case, &mut out)?,
-        b"lexemes" => lexemes::answer(alloc, case, &mut out)?,
-        b"read_expr" => expressions::answer(alloc, case, &mut out)?,
-        b"eval" => values::answer(alloc, case, &mut out)?,
-        b"read_choreo" => choreographies::answer(alloc, case, &mut out)?,
-        b"nodes" => sizes::answer_nodes(alloc, case, &mut out)?,
-        b"depth" => sizes::answer_depth(alloc, case, &mut out)?,
-        b"roles" => casts::answer(alloc, case, &mut out)?,
-        b"check" => links::answer(alloc, case, &mut out)?,
-        b"read_bundle" => bundles::answer(alloc, case, &mut out)?,
-        b"project" => projections::answer(alloc, case, &mut out)?,
-        b"read_trace" => traces::answer_trace(alloc, case, &mut out)?,
-        b"trace_line" => traces::answer_line(alloc, case, false, &mut out)?,
-        b"json_line" => traces::answer_line(alloc, case, true, &mut out)?,
-        b"serve_alone" => services::answer(alloc, case, &mut out)?,
-        _ => return Err(Problem::Bad("there is no such call")),
+    let is_answered = answer_piece(alloc, case, &mut out)?
+        || answer_choreography(alloc, case, &mut out)?
+        || answer_message(alloc, case, &mut out)?
+        || answer_whole(alloc, case, &mut out)?;
+    if is_answered {
+        Ok(out)
+    } else {
+        Err(Problem::Bad("there is no such call"))
     }
-    Ok(out)
+}
+
+// Answers a call that is about names, tokens or expressions, and says whether it is one.
+fn answer_piece(alloc: Global, case: &Case, out: &mut Vec<u8>) -> Result<bool, Problem> {
+    match case.call.as_slice() {
+        b"name" => spellings::answer_name(alloc, case, out)?,
+        b"text" => spellings::answer_text(alloc, case, out)?,
+        b"tokens" => tokenizing::answer(alloc, case, out)?,
+        b"lexemes" => lexemes::answer(alloc, case, out)?,
+        b"read_expr" => expressions::answer(alloc, case, out)?,
+        b"eval" => values::answer(alloc, case, out)?,
+        _ => return Ok(false),
+    }
+    Ok(true)
+}
+
+// Answers a call that is about a choreography, and says whether it is one.
+fn answer_choreography(alloc: Global, case: &Case, out: &mut Vec<u8>) -> Result<bool, Problem> {
+    match case.call.as_slice() {
+        b"read_choreo" => choreographies::answer(alloc, case, out)?,
+        b"nodes" => sizes::answer_nodes(alloc, case, out)?,
+        b"depth" => sizes::answer_depth(alloc, case, out)?,
+        b"indices" => indices::answer(alloc, case, out)?,
+        b"roles" => casts::answer(alloc, case, out)?,
+        b"check" => links::answer(alloc, case, out)?,
+        b"project" => projections::answer(alloc, case, out)?,
+        _ => return Ok(false),
+    }
+    Ok(true)
+}
+
+// Answers a call that is about messages or the lines of a trace, and says whether it is one.
+fn answer_message(alloc: Global, case: &Case, out: &mut Vec<u8>) -> Result<bool, Problem> {
+    match case.call.as_slice() {
+        b"is_aux" => auxiliary::answer_is_aux(alloc, case, out)?,
+        b"leader_plan" => auxiliary::answer_plan(alloc, case, out)?,
+        b"read_trace" => traces::answer_trace(alloc, case, out)?,
+        b"trace_line" => traces::answer_line(alloc, case, false, out)?,
+        b"json_line" => traces::answer_line(alloc, case, true, out)?,
+        _ => return Ok(false),
+    }
+    Ok(true)
+}
+
+// Answers a call that is about rules, bundles or the words of a command, and says whether it is
+// one.
+fn answer_whole(alloc: Global, case: &Case, out: &mut Vec<u8>) -> Result<bool, Problem> {
+    match case.call.as_slice() {
+        b"read_rule" => rules::answer_rule(alloc, case, out)?,
+        b"read_change" => rules::answer_change(alloc, case, out)?,
+        b"read_bundle" => bundles::answer_read(alloc, case, out)?,
+        b"write_bundle" => bundles::answer_written(alloc, case, out)?,
+        b"accept" => refusals::answer(alloc, case, out)?,
+        b"read_words" => words::answer(alloc, case, out)?,
+        b"serve_alone" => services::answer(alloc, case, out)?,
+        _ => return Ok(false),
+    }
+    Ok(true)
 }

@@ -2,15 +2,20 @@
 //!
 //! A byte stands for itself, but for the backtick. Between two backticks stand either bytes in
 //! hexadecimal digits, as `0A` or `C3A9`, or a number, a `*` and bytes that are repeated so often,
-//! as `512*(`.
+//! as `512*(`. With a `#` for the `*` each `#` in the repeated bytes stands for the number of the
+//! repetition, from 0: `2#r#;` is `r0;r1;`.
 
 ghost use Rattle.std.specs.Prelude.{◌<◌, IfOk};
 
 use crate::problems::Problem;
 use std::alloc::Global;
+use text_pieces::write_number;
 
 /// The most bytes of one text.
 pub const TEXT_LIMIT: usize = 8_388_608;
+
+// The most numbers of one repetition.
+const NUMBERED_LIMIT: usize = 10_000;
 
 /// The bytes that a written text stands for.
 pub fn expand(alloc: Global, written: &[u8]) -> Result<Vec<u8>, Problem> {
@@ -39,10 +44,15 @@ pub fn expand_into(written: &[u8], out: &mut Vec<u8>) -> Result<(), Problem> {
 
 // What stands between two backticks.
 fn expand_piece(piece: &[u8], out: &mut Vec<u8>) -> Result<(), Problem> {
-    match piece.iter().position(|byte| *byte == b'*') {
-        Some(star) => {
-            let count = read_number(&piece[..star])?;
-            append_times(&piece[star + 1..], count, out)
+    match piece.iter().position(|byte| *byte == b'*' || *byte == b'#') {
+        Some(mark) => {
+            let count = read_number(&piece[..mark])?;
+            let repeated = &piece[mark + 1..];
+            if piece[mark] == b'*' {
+                append_times(repeated, count, out)
+            } else {
+                append_numbered(repeated, count, out)
+            }
         }
         None => append_hexadecimal(piece, out),
     }
@@ -58,6 +68,23 @@ fn append_times(bytes: &[u8], count: usize, out: &mut Vec<u8>) -> Result<(), Pro
     }
     for _ in 0..count {
         append(bytes, out)?;
+    }
+    Ok(())
+}
+
+// The bytes so often, with the number of the repetition for each `#`.
+fn append_numbered(bytes: &[u8], count: usize, out: &mut Vec<u8>) -> Result<(), Problem> {
+    if count > NUMBERED_LIMIT {
+        return Err(Problem::Bad("too many numbers"));
+    }
+    for number in 0..count {
+        for byte in bytes {
+            if *byte == b'#' {
+                write_number(number as u64, out)?;
+            } else {
+                append(&[*byte], out)?;
+            }
+        }
     }
     Ok(())
 }

@@ -12,8 +12,8 @@ use text_pieces::{write_bytes, write_number};
 // The version of the grammar that has every form.
 const LAST_VERSION: u32 = 2;
 
-// The reader of choreographies takes no more tokens.
-const MOST_TOKENS: usize = 4_294_967_295;
+/// The readers of choreographies and rules take no more tokens.
+pub const MOST_TOKENS: usize = 4_294_967_295;
 
 /// What stands at the front of a text.
 #[derive(Drop)]

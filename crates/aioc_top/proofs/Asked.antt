@@ -1,13 +1,13 @@
 -- Words ask for commands that are built, and for no others; and for no longer runs than they can say.
-use Rattle.std.proofs.Common.{◌≡◌, ◌≤◌, ◌×◌, ℕ, List, [], ◌∷◌, Bool, true, false, ◌&&◌, Option, Some, None, refl, sym, ap, ◌∙◌, subst, ⊎_elim, arith}
+use Rattle.std.proofs.Common.{◌≡◌, ◌≤◌, ℕ, List, [], ◌∷◌, Bool, true, false, ◌&&◌, Option, Some, None, refl, ap, ◌∙◌, subst, arith}
 use Rattle.std.specs.Prelude.{option_map, option_and_then, unwrap_or, nat_le, codes, if◌then◌else◌}
 use Rattle.std.specs.List.{list_all}
 use Rattle.std.specs.Str.{is_utf8}
 use Rattle.std.specs.Str.Parse.{digits_value}
-use Rattle.std.proofs.lemmas.Bool.{cases_Bool, cond-true, cond-false}
+use Rattle.std.proofs.lemmas.Bool.{leb-true}
 use Rattle.marked_laws.proofs.Shapes.{none_some, some_same}
 use Rattle.command_words.specs.Words.{Text, text_of, given_by}
-use Rattle.command_words.specs.Commands.{Texts, command_of, named_first, command_by, command_with, options_of, gen_of, monitor_by, number_or, number_within, optional_number, are_digits, known_options, positional_names, verb_of, most_steps, usual_steps, most_seed}
+use Rattle.command_words.specs.Commands.{Texts, command_of, named_first, command_by, command_with, options_of, monitor_by, number_or, number_within, optional_number, are_digits, known_options, positional_names, verb_of, most_steps, usual_steps, most_seed}
 use Rattle.command_words.specs.declared.commands.Options.{Options}
 use Rattle.command_words.specs.declared.commands.Command.{Command}
 use Rattle.command_words.specs.declared.commands.Command.TheVariants as command
@@ -44,7 +44,7 @@ within least most text n h =
     let number = digits_value 10 text in
     let is = kept (are_digits text && (nat_le least number && nat_le number most)) number n h in
     let bounded : nat_le number most ≡ true = second_true (nat_le least number) (nat_le number most) (second_true (are_digits text) (nat_le least number && nat_le number most) is.0) in
-    subst (λ m. m ≤ most) is.1 (omega (arith, bounded))
+    subst (λ m. m ≤ most) is.1 (leb-true number most bounded)
 
 first_true : (a b : Bool) → (a && b) ≡ true → a ≡ true
 first_true true b h = refl

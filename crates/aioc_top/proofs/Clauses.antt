@@ -1,7 +1,6 @@
 -- What the table of calls says by each clause.
-use Rattle.std.proofs.Common.{◌≡◌, ◌⊎◌, ◌↔◌, ◌≤◌, ℕ, List, [], length, Bool, true, false, true≢false, Option, Some, None, IfSome, IsSome, refl, sym, ap, ◌∙◌, subst, inl, inr, ⊎_elim, arith}
+use Rattle.std.proofs.Common.{◌≡◌, ◌⊎◌, ◌↔◌, ℕ, List, [], length, Bool, true, false, true≢false, Option, Some, None, IfSome, IsSome, refl, sym, ap, ◌∙◌, subst, inl, inr, ⊎_elim, arith}
 use Rattle.std.specs.Prelude.{if◌then◌else◌}
-use Rattle.std.proofs.lemmas.Bool.{cases_Bool, cond-true, cond-false}
 use Rattle.std.specs.Option.{option_map_or}
 use Rattle.std.specs.Io.KnownBytes.{Appends, IsAtEnd}
 use Rattle.aioc_io.specs.Faults.{Rose}
@@ -28,14 +27,15 @@ use Rattle.aioc_top.specs.Verdicts.{Verdict, TooLong, Unspelled, Refused, Replie
 use Rattle.aioc_top.specs.Words.{is_built, IsShort}
 use Rattle.command_words.specs.Commands.{usual_steps}
 use Rattle.command_words.specs.declared.commands.Verb.TheVariants.{Gen}
-use Rattle.load_gen.specs.Made.{made, MadeIsAccepted}
+use Rattle.load_gen.specs.Laws.{MadeAreAccepted}
+use Rattle.load_gen.specs.Made.{made}
 use Rattle.rule_checks.specs.declared.refusals.Refusal.{Refusal}
 use Rattle.aioc_top.specs.declared.replies.End.{End}
 use Rattle.aioc_top.specs.declared.replies.End.TheVariants as end
 use Rattle.aioc_top.specs.declared.status.Status.{Status}
 use Rattle.aioc_top.specs.declared.status.Status.TheVariants as status
 use Rattle.aioc_top.proofs.Table.{prints_always}
-use Rattle.aioc_top.proofs.Causes.{not_too_long, one_kind, one_reply_of}
+use Rattle.aioc_top.proofs.Causes.{not_too_long, one_kind}
 
 filled : {A : Type 0} {P : A → Type 0} → ((x : A) → P x) → (o : Option A) → IfSome o P
 filled f None = tt
@@ -460,7 +460,7 @@ module _ (written : WrittenIsSpelled) (runs : RunsReadNoVersion) (schedules : Sc
 
 -- ---- the line of a made bundle
 
-module _ (accepted : MadeIsAccepted) (every : EveryRun) (sound : RunsAreSound) (number size : ℕ) where
+module _ (accepted : MadeAreAccepted) (every : EveryRun) (sound : RunsAreSound) (number size : ℕ) where
   gen_printed : IsAccepted (made number size) → (s : Status) (out out_after : SinkState) → s ≡ status_of_end (gen_reply number size).end
       → Appends out.taken out_after.taken (gen_reply number size).text → GenPrinted number size s out out_after
   gen_printed may s out out_after is wrote =

@@ -7,7 +7,7 @@ use Rattle.dioc_terms.specs.declared.bundles.Last.{Last}
 use Rattle.dioc_terms.specs.declared.bundles.Last.TheVariants as last
 use Rattle.dioc_terms.specs.declared.processes.Tag.TheVariants.{Op}
 use Rattle.dioc_terms.specs.Plain.{PlainBundle}
-use Rattle.net_core.proofs.Examples.{program, hello, hello_run, put, take_op, at, val}
+use Rattle.net_core.proofs.Examples.{program, hello, hello_run, put, at, val}
 use Rattle.command_words.specs.declared.commands.Options.{Options}
 use Rattle.aioc_top.specs.declared.replies.End.TheVariants as end
 use Rattle.aioc_top.specs.Replies.{Reply, run_reply, step_history, check_line, project_text, replay_reply, gen_line, line_of_text}

@@ -1,14 +1,12 @@
 -- The text of a run that has finished is that of the schedule's run.
-use Rattle.std.proofs.Common.{◌≡◌, ◌↔◌, ℕ, List, [], length, Bool, true, false, Option, Some, None, refl, sym, ap, ◌∙◌, subst, arith}
+use Rattle.std.proofs.Common.{◌≡◌, ◌↔◌, ℕ, List, [], length, Bool, true, false, Some, refl, sym, ap, ◌∙◌, arith}
 use Rattle.std.specs.Prelude.{unwrap_or, if◌then◌else◌}
 use Rattle.std.specs.Option.{option_map_or}
 use Rattle.dioc_terms.specs.declared.entries.Entry.{Entry}
-use Rattle.dioc_terms.specs.declared.bundles.Last.{Last}
 use Rattle.dioc_terms.specs.Plain.{PlainBundle}
 use Rattle.trace_text.specs.Runs.{run_text}
-use Rattle.marked_laws.specs.Network.{Network, network_run, network_start, network_ended}
+use Rattle.marked_laws.specs.Network.{network_run, network_start, network_ended}
 use Rattle.net_core.specs.Laws.{RunsAreSound, Arrives}
-use Rattle.net_core.specs.Schedule.{sched}
 use Rattle.role_network.specs.Nets.{network_at}
 use Rattle.rule_checks.specs.Refusals.{IsAccepted}
 use Rattle.schedule.specs.declared.runs.Finish.{Finish}
@@ -16,7 +14,7 @@ use Rattle.schedule.specs.declared.runs.Finish.TheVariants as finish
 use Rattle.command_words.specs.declared.commands.Options.{Options}
 use Rattle.aioc_top.specs.declared.replies.End.TheVariants as end
 use Rattle.aioc_top.specs.declared.replies.Written.{Written}
-use Rattle.aioc_top.specs.Replies.{Reply, reply_of, run_reply, last_of, is_finished, step_history}
+use Rattle.aioc_top.specs.Replies.{reply_of, run_reply, last_of, is_finished, step_history}
 use Rattle.aioc_top.specs.Endings.{end_of, last_for}
 
 abbrev is_end : Finish → Bool

@@ -1,6 +1,6 @@
 -- What a choreography gives a role to do has a text, and an accepted bundle has few nodes.
-use Rattle.std.proofs.Common.{◌≡◌, ◌≤◌, ◌<◌, ◌^◌, ◌-◌, ℕ, List, ◌∷◌, Bool, true, false, cond, ◌&&◌, Option, Some, None, refl, arith}
-use Rattle.std.specs.Prelude.{if◌then◌else◌, min, nat_lt}
+use Rattle.std.proofs.Common.{◌≡◌, ◌≤◌, ℕ, List, ◌∷◌, Bool, true, false, cond, ◌&&◌, Option, Some, None, refl}
+use Rattle.std.specs.Prelude.{if◌then◌else◌, nat_lt}
 use Rattle.std.proofs.lemmas.Bool.{ltb-false}
 use Rattle.dioc_terms.specs.declared.names.Role.{Role}
 use Rattle.dioc_terms.specs.Equality.{role_eq}
@@ -13,9 +13,8 @@ use Rattle.dioc_terms.specs.Terms.{Term, is_in, nodes, others, head_of}
 use Rattle.projection.specs.Projection.{projected}
 use Rattle.rule_checks.specs.declared.refusals.Refusal.{Refusal}
 use Rattle.rule_checks.specs.declared.refusals.Refusal.TheVariants.{TooMany}
-use Rattle.rule_checks.specs.declared.refusals.Which.{Which}
 use Rattle.rule_checks.specs.declared.refusals.Which.TheVariants.{Nodes}
-use Rattle.rule_checks.specs.Refusals.{IsAccepted, first_refusal, refusal, too_many}
+use Rattle.rule_checks.specs.Refusals.{IsAccepted, first_refusal, too_many}
 use Rattle.trace_text.specs.Process.{has_text}
 
 both : (a b : Bool) → a ≡ true → b ≡ true → (a && b) ≡ true

@@ -1,5 +1,5 @@
 -- How a trace is judged, entry by entry.
-use Rattle.std.specs.Prelude.{◌≡◌, Bool, true, false, not, Option, Some, None, if◌then◌else◌}
+use Rattle.std.specs.Prelude.{◌≡◌, Bool, true, false, Option, Some, None, if◌then◌else◌}
 use Rattle.dioc_terms.specs.declared.entries.Entry.{Entry}
 use Rattle.dioc_terms.specs.declared.bundles.Last.{Last}
 use Rattle.dioc_terms.specs.declared.bundles.Last.TheVariants as last
@@ -18,5 +18,5 @@ PlaysOn b S e next false = passed b S e ≡ None
 
 -- the section says that the run has ended, and the choreography has not
 abbrev pub is_cut_short : Option Last → Bool → Bool
-is_cut_short (Some (last.Ended n)) over = not over
+is_cut_short (Some (last.Ended n)) over = if over then false else true
 is_cut_short _ over = false

@@ -4,7 +4,6 @@ use Rattle.command_words.specs.Commands.{command_of, most_steps}
 use Rattle.command_words.specs.declared.commands.Command.{Command}
 use Rattle.command_words.specs.declared.commands.Command.TheVariants as command
 use Rattle.command_words.specs.declared.commands.Verb.TheVariants.{Step}
-use Rattle.load_gen.specs.Made.{most_size}
 
 -- the commands that are built
 abbrev pub is_built : Command → Bool
@@ -24,7 +23,7 @@ asked words =
 -- A run is to have no more entries than words can ask for, and what is made is no larger.
 abbrev pub IsShort : Command → Type 0
 IsShort (command.Step options) = options.steps ≤ most_steps Step
-IsShort (command.Gen number size) = (1 ≤ size) × (size ≤ most_size)
+IsShort (command.Gen number size) = (1 ≤ size) × (size ≤ 400)
 IsShort _ = Unit {0}
 
 -- what holds of each command that words ask for

@@ -4,7 +4,7 @@ ghost use Rattle.std.specs.Prelude.{◌≡◌, Some, true};
 ghost use Rattle.aioc_io.specs.Faults.{Rose};
 ghost use Rattle.bundle_text.specs.Laws.{OneBundle, SpelledIsFormed, WrittenIsSpelled};
 ghost use Rattle.net_core.specs.Headline.{EveryRun};
-ghost use Rattle.load_gen.specs.Made.{MadeIsAccepted};
+ghost use Rattle.load_gen.specs.Laws.{MadeAreAccepted};
 ghost use Rattle.marked_laws.specs.Versions.{RunsReadNoVersion};
 ghost use Rattle.net_core.specs.Laws.{RunsAreSound, SchedulesReadNoVersion};
 ghost use Rattle.aioc_top.specs.Calls.{Happens, PrintsReply, SaysLine};
@@ -20,10 +20,10 @@ use crate::replies::Written;
 use crate::status::Status;
 use crate::words::ask;
 use aioc_io::{Failed, Sink, Source, write_all};
-use command_words::Command;
 use bundle_text::{one_bundle, spelled_is_formed, written_is_spelled};
+use command_words::Command;
 use dioc_terms::Memory;
-use load_gen::made_is_accepted;
+use load_gen::made_are_accepted;
 use marked_laws::runs_read_no_version;
 use net_core::{every_run, runs_are_sound, schedules_read_no_version};
 use std::alloc::Global;
@@ -104,7 +104,7 @@ fn know_laws()
     ensures one { OneBundle }
     ensures formed { SpelledIsFormed }
     ensures written { WrittenIsSpelled }
-    ensures made { MadeIsAccepted }
+    ensures made { MadeAreAccepted }
     ensures every_run { EveryRun }
     ensures sound { RunsAreSound }
     ensures runs { RunsReadNoVersion }
@@ -113,7 +113,7 @@ fn know_laws()
     one_bundle();
     spelled_is_formed();
     written_is_spelled();
-    made_is_accepted();
+    made_are_accepted();
     every_run();
     runs_are_sound();
     runs_read_no_version();

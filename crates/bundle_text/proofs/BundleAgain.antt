@@ -1,6 +1,6 @@
 -- What is written of a formed bundle reads as that bundle.
-use Rattle.std.proofs.Common.{◌≡◌, ℕ, zero, suc, ◌+◌, ◌-◌, ◌≤◌, ◌⊎◌, inl, inr, Bool, true, false, ◌&&◌, List, [], ◌∷◌, ◌++◌, length, map, take, drop, get_or, Option, Some, None, codes, pos, refl, ap, sym, ◌∙◌, subst, arith, append-nil, length-append, take-append-drop, nat_le, drop_of_length-le}
-use Rattle.std.specs.Prelude.{All, slice_get, int_le}
+use Rattle.std.proofs.Common.{◌≡◌, ℕ, ◌+◌, ◌-◌, ◌≤◌, ◌⊎◌, inl, inr, true, List, [], ◌∷◌, ◌++◌, length, map, take, drop, Option, Some, None, pos, refl, ap, sym, ◌∙◌, subst, arith, append-nil, take-append-drop, nat_le, drop_of_length-le}
+use Rattle.std.specs.Prelude.{slice_get}
 use Rattle.std.specs.Ordering.{int_eq}
 use Rattle.std.specs.List.{list_all, flat_map, AllByRecursion}
 use Rattle.std.proofs.lemmas.List.{length-take-le}
@@ -15,18 +15,17 @@ use Rattle.dioc_terms.specs.declared.bundles.Timed.{Timed}
 use Rattle.dioc_terms.specs.declared.bundles.Last.{Last}
 use Rattle.dioc_terms.specs.declared.bundles.Trace.{Trace}
 use Rattle.limits.specs.Limits.{largest, most_bytes}
-use Rattle.dioc_terms.specs.Terms.{Term}
 use Rattle.dioc_terms.specs.Plain.{PlainRule, PlainBundle}
-use Rattle.dioc_terms.specs.Bundles.{is_formed_binding, is_formed_inputs, is_formed_timed, is_formed_change, is_formed_entry, is_formed_last, has_no_priority, names_no_roles, IsOfVersion, IsFormed, IsFormedRule}
-use Rattle.aioc_tokens.specs.Lexemes.{Lexeme, HasLexemes}
+use Rattle.dioc_terms.specs.Bundles.{is_formed_binding, is_formed_inputs, is_formed_timed, is_formed_change, has_no_priority, names_no_roles, IsOfVersion, IsFormed, IsFormedRule}
+use Rattle.aioc_tokens.specs.Lexemes.{Lexeme}
 use Rattle.aioc_tokens.proofs.Written.{IsRead, nothing_read, whole_read}
 use Rattle.dioc_syntax.specs.Laws.{FitsVersion as BodyFits}
 use Rattle.dioc_syntax.proofs.RoundTrip.{both_true}
-use Rattle.rule_syntax.specs.Grammar.{PlainChange, Add, Drop, Env}
+use Rattle.rule_syntax.specs.Grammar.{PlainChange}
 use Rattle.rule_syntax.specs.Laws.{FitsVersion}
-use Rattle.trace_text.proofs.Standing.{Stands, behind}
-use Rattle.bundle_text.specs.Grammar.{PlainTimed, Section, Aioc, Rules, Environment, Inputs, Script, Traced, Joined, with_first, nothing_joined, joined, added_rules, numbered, empty_trace, IsOnly, IsMadeOf, HasVersion, first_version, second_version, IsBundle, ReadsAs, Spells}
-use Rattle.bundle_text.specs.Writing.{written_all, written_section, section_text, added_by, changes_of, timed_of, script_of, some, script_section, traced, sections_of, version_text, bundle_text}
+use Rattle.trace_text.proofs.Standing.{behind}
+use Rattle.bundle_text.specs.Grammar.{Section, Aioc, Rules, Environment, Inputs, Script, Joined, with_first, joined, added_rules, numbered, IsOnly, IsMadeOf, HasVersion, first_version, second_version, ReadsAs, Spells}
+use Rattle.bundle_text.specs.Writing.{written_all, written_section, section_text, added_by, changes_of, timed_of, script_of, some, script_section, traced, sections_of, bundle_text}
 use Rattle.bundle_text.proofs.FormedParts.{IsRuleOf, IsFormedTimed, IsFormedTrace, IsFormedSection, all_both, all_first, all_mapped}
 use Rattle.bundle_text.proofs.RoundTrip.{many_written, from_test, section_stands, sections_show, written_version, version_shows}
 use Rattle.bundle_text.proofs.ScriptAgain.{script_again}

@@ -30,9 +30,11 @@ use Rattle.trace_syntax.specs.Grammar.{IsTrace, IsClosedTrace, IsBadLine}
 use Rattle.trace_syntax.proofs.TraceLaws.{trace_or_bad_line}
 use Rattle.bundle_text.specs.Many.{Many, no_more, one_more}
 use Rattle.bundle_text.specs.Grammar.{inside_limit, IsBound, IsNextValue, AreValues, IsInput, PlainTimed, IsTimed, Section, Aioc, Rules, Environment, Inputs, Script, Traced, opened_by, closed_before, IsSection, aioc, rules, environment, inputs, script, trace, Joined, HasVersion, first_version, second_version}
-use Rattle.bundle_text.specs.Readers.{FindsValues, ValuesAt, TakesItems, NoItems, TakesSection, IsSecond, NoSection, with_last, FindsVersion, ChoreographyTaken, NoChoreography, TraceTaken, NoTrace}
-use Rattle.bundle_text.proofs.Repeated.{many_last, Behind, many_behind, ended}
-use Rattle.bundle_text.proofs.Unique.{bounds_each, values_each, no_value, inputs_each, timed_each, letter, version_apart}
+use Rattle.bundle_text.specs.Readers.{FindsValues, ValuesAt, TakesItems, TakesSection, with_last, FindsVersion, ChoreographyTaken, TraceTaken, NoTrace}
+use Rattle.bundle_text.specs.Stops.{EndsInChoreography, missing, unclosed, aioc_before, BeginsSection, begins_aioc, begins_rules, begins_environment, begins_inputs, begins_script, begins_trace, EndsInSection, no_word, second_choreography, in_choreography, in_rules, in_environment, in_inputs, in_script, second_trace, in_trace}
+use Rattle.bundle_text.proofs.Missing.{NoItems, IsSecond, NoSection, NoChoreography}
+use Rattle.bundle_text.proofs.Repeated.{many_last, Behind, many_behind, ended, no_items}
+use Rattle.bundle_text.proofs.Unique.{rules_each, rule_never, bounds_each, bound_never, values_each, no_value, inputs_each, input_never, timed_each, timed_never, letter, version_apart}
 
 module _ (text : List Lexeme) (at : ℕ) where
   -- a binding with its `;`
@@ -187,14 +189,15 @@ module _ (text : List Lexeme) (at : ℕ) where
 
   -- a choreography up to a `}`
   module _ (version : ℕ) where
-    pub choreography_missing : NoFront (IsChoreography version inside_limit (drop at text)) → NoChoreography version (drop at text)
-    choreography_missing none whole to is = none whole (closed_before to) is
+    pub choreography_none : {place : ℕ} → EndsInChoreography version text at place → NoChoreography version (drop at text)
+    choreography_none (missing here none) whole to is = none whole (closed_before to) is
+    choreography_none (unclosed front no_close) whole to is = no_close (ap sort_of (choreography.settled front is refl).1)
 
     abbrev TermFound : FoundChoreo → Type 0
     TermFound found = Finds (IsShallow version Choreography inside_limit most_depth 0) 1 most_depth 0 text at found
 
-    pub choreography_open : {found : FoundChoreo} → TermFound found → sort_of (drop found.at text) ≢ sorts.Symbol punctuator.RightBrace → NoChoreography version (drop at text)
-    choreography_open {found} read unlike whole to is = unlike (ap sort_of (choreography.settled read.front is refl).1)
+    pub choreography_open : {found : FoundChoreo} → TermFound found → sort_of (drop found.at text) ≢ sorts.Symbol punctuator.RightBrace → EndsInChoreography version text at found.at
+    choreography_open read unlike = unclosed read.front unlike
 
     pub choreography_found : {found : FoundChoreo} → TermFound found → sort_of (drop found.at text) ≡ sorts.Symbol punctuator.RightBrace → ChoreographyTaken version text at found.choreo (found.at + 1)
     choreography_found {found} read closes =
@@ -206,26 +209,26 @@ module _ (text : List Lexeme) (at : ℕ) where
     abbrev aioc_sorts : List Sort
     aioc_sorts = sorts.Reserved word.Aioc ∷ sorts.Symbol punctuator.LeftBrace ∷ []
 
-    aioc_begins : Begins aioc_sorts (drop at text) → drop at text ≡ Reserved word.Aioc ∷ Symbol punctuator.LeftBrace ∷ drop (at + 2) text
+    pub aioc_begins : Begins aioc_sorts (drop at text) → drop at text ≡ Reserved word.Aioc ∷ Symbol punctuator.LeftBrace ∷ drop (at + 2) text
     aioc_begins starts =
         let both = follows text (sorts.Reserved word.Aioc) (sorts.Symbol punctuator.LeftBrace ∷ []) at (at + 1) refl starts in
         reserved_here text word.Aioc at (at + 1) refl both.0 ∙ ap (λ l. Reserved word.Aioc ∷ l) (symbol_here text punctuator.LeftBrace (at + 1) (at + 2) (omega arith) both.1.0)
 
     -- where `aioc {` stands, the section is a choreography
-    aioc_only : {from to : List Lexeme} {section : Section} → from ≡ drop at text → Begins aioc_sorts (drop at text) → IsSection version from section to → (P : Section → Type 0)
+    aioc_only : {from to : List Lexeme} {section : Section} → from ≡ drop at text → drop at text ≡ aioc_before (drop (at + 2) text) → IsSection version from section to → (P : Section → Type 0)
         → ((whole : Term) → IsChoreography version inside_limit (drop (at + 2) text) whole (closed_before to) → P (Aioc whole)) → P section
     aioc_only {to = to} froms starts (aioc {whole = whole} begins is closes) P go =
-        go whole (subst (λ l. IsChoreography version inside_limit l whole (closed_before to)) (ap (drop 2) (sym begins ∙ froms ∙ aioc_begins starts)) (subst (IsChoreography version inside_limit _ whole) closes is))
-    aioc_only froms starts (rules begins stand closes) P go = let s = ap sort_of (sym begins ∙ froms ∙ aioc_begins starts) in absurd cc
-    aioc_only froms starts (environment begins stand closes) P go = let s = ap sort_of (sym begins ∙ froms ∙ aioc_begins starts) in absurd cc
-    aioc_only froms starts (inputs begins stand closes) P go = let s = ap sort_of (sym begins ∙ froms ∙ aioc_begins starts) in absurd cc
-    aioc_only froms starts (script begins stand closes) P go = let s = ap sort_of (sym begins ∙ froms ∙ aioc_begins starts) in absurd cc
-    aioc_only froms starts (trace begins stand closes) P go = let s = ap sort_of (sym begins ∙ froms ∙ aioc_begins starts) in absurd cc
+        go whole (subst (λ l. IsChoreography version inside_limit l whole (closed_before to)) (ap (drop 2) (sym begins ∙ froms ∙ starts)) (subst (IsChoreography version inside_limit _ whole) closes is))
+    aioc_only froms starts (rules begins stand closes) P go = let s = ap sort_of (sym begins ∙ froms ∙ starts) in absurd cc
+    aioc_only froms starts (environment begins stand closes) P go = let s = ap sort_of (sym begins ∙ froms ∙ starts) in absurd cc
+    aioc_only froms starts (inputs begins stand closes) P go = let s = ap sort_of (sym begins ∙ froms ∙ starts) in absurd cc
+    aioc_only froms starts (script begins stand closes) P go = let s = ap sort_of (sym begins ∙ froms ∙ starts) in absurd cc
+    aioc_only froms starts (trace begins stand closes) P go = let s = ap sort_of (sym begins ∙ froms ∙ starts) in absurd cc
 
-    pub second_choreography : (found : Joined) → Begins aioc_sorts (drop at text) → 0 < length found.choreos → NoSection version (drop at text) found
-    second_choreography found starts some section to is = aioc_only refl starts is (IsSecond found) (λ whole is2. some)
+    pub second_untaken : (found : Joined) → drop at text ≡ aioc_before (drop (at + 2) text) → 0 < length found.choreos → NoSection version (drop at text) found
+    second_untaken found starts some section to is = aioc_only refl starts is (IsSecond found) (λ whole is2. some)
 
-    pub choreography_untaken : (found : Joined) → Begins aioc_sorts (drop at text) → NoChoreography version (drop (at + 2) text) → NoSection version (drop at text) found
+    pub choreography_untaken : (found : Joined) → drop at text ≡ aioc_before (drop (at + 2) text) → NoChoreography version (drop (at + 2) text) → NoSection version (drop at text) found
     choreography_untaken found starts none section to is = aioc_only refl starts is (IsSecond found) (λ whole is2. absurd (none whole to is2))
 
     pub choreography_taken : (old new : Joined) (choreo : Choreo) (next : ℕ) → Begins aioc_sorts (drop at text) → ChoreographyTaken version text (at + 2) choreo next → new ≡ with_last old (Aioc (term choreo))
@@ -235,18 +238,21 @@ module _ (text : List Lexeme) (at : ℕ) where
         record { section = Aioc (term choreo); stands = aioc (aioc_begins starts) taken.stands taken.closes; joins = joins; after = omega arith; within = taken.within }
 
     -- every section has a bracket
-    pub unopened : (found : Joined) → sort_of (drop (at + 1) text) ≢ sorts.Symbol punctuator.LeftBrace → NoSection version (drop at text) found
-    unopened found unlike section to is = absurd (go refl is)
+    pub unopened : sort_of (drop (at + 1) text) ≢ sorts.Symbol punctuator.LeftBrace → BeginsSection (drop at text) → ⊥
+    unopened unlike begins = go refl begins
       where
-        go : {from to : List Lexeme} {section : Section} → from ≡ drop at text → IsSection version from section to → ⊥
-        go froms (aioc begins stand closes) = unlike (ap sort_of (sym (further text at (at + 1) refl)) ∙ ap (λ l. sort_of (drop 1 l)) (sym froms ∙ begins))
-        go froms (rules begins stand closes) = unlike (ap sort_of (sym (further text at (at + 1) refl)) ∙ ap (λ l. sort_of (drop 1 l)) (sym froms ∙ begins))
-        go froms (environment begins stand closes) = unlike (ap sort_of (sym (further text at (at + 1) refl)) ∙ ap (λ l. sort_of (drop 1 l)) (sym froms ∙ begins))
-        go froms (inputs begins stand closes) = unlike (ap sort_of (sym (further text at (at + 1) refl)) ∙ ap (λ l. sort_of (drop 1 l)) (sym froms ∙ begins))
-        go froms (script begins stand closes) = unlike (ap sort_of (sym (further text at (at + 1) refl)) ∙ ap (λ l. sort_of (drop 1 l)) (sym froms ∙ begins))
-        go froms (trace begins stand closes) = unlike (ap sort_of (sym (further text at (at + 1) refl)) ∙ ap (λ l. sort_of (drop 1 l)) (sym froms ∙ begins))
+        second : {first : Lexeme} {from inside : List Lexeme} → from ≡ drop at text → from ≡ first ∷ Symbol punctuator.LeftBrace ∷ inside → ⊥
+        second froms begins = unlike (ap sort_of (sym (further text at (at + 1) refl)) ∙ ap (λ l. sort_of (drop 1 l)) (sym froms ∙ begins))
 
-    opened_here : (name : List ℕ) → drop at text ≡ Name name ∷ drop (at + 1) text → sort_of (drop (at + 1) text) ≡ sorts.Symbol punctuator.LeftBrace → drop at text ≡ opened_by name (drop (at + 2) text)
+        go : {from : List Lexeme} → from ≡ drop at text → BeginsSection from → ⊥
+        go froms (begins_aioc begins) = second froms begins
+        go froms (begins_rules begins) = second froms begins
+        go froms (begins_environment begins) = second froms begins
+        go froms (begins_inputs begins) = second froms begins
+        go froms (begins_script begins) = second froms begins
+        go froms (begins_trace begins) = second froms begins
+
+    pub opened_here : (name : List ℕ) → drop at text ≡ Name name ∷ drop (at + 1) text → sort_of (drop (at + 1) text) ≡ sorts.Symbol punctuator.LeftBrace → drop at text ≡ opened_by name (drop (at + 2) text)
     opened_here name named opens = named ∙ ap (λ l. Name name ∷ l) (symbol_here text punctuator.LeftBrace (at + 1) (at + 2) (omega arith) opens)
 
     -- `rules`
@@ -262,13 +268,10 @@ module _ (text : List Lexeme) (at : ℕ) where
           within = taken.within;
         }
 
-    pub rules_untaken : (found : Joined) → drop at text ≡ Name (codes "rules") ∷ drop (at + 1) text → sort_of (drop (at + 1) text) ≡ sorts.Symbol punctuator.LeftBrace → NoItems (IsRule version inside_limit) (drop (at + 2) text)
+    pub rules_untaken : (found : Joined) → drop at text ≡ opened_by (codes "rules") (drop (at + 2) text) → NoItems (IsRule version inside_limit) (drop (at + 2) text)
         → NoSection version (drop at text) found
-    rules_untaken found named opens none section to is = go refl is
+    rules_untaken found begun none section to is = go refl is
       where
-        begun : drop at text ≡ opened_by (codes "rules") (drop (at + 2) text)
-        begun = opened_here (codes "rules") named opens
-
         go : {from to : List Lexeme} {section : Section} → from ≡ drop at text → IsSection version from section to → IsSecond found section
         go froms (aioc begins stand closes) = absurd (let apart : ◌≡◌ {A = ℕ} 0 114 = sym (ap letter begins) ∙ ap letter froms ∙ ap letter begun in omega arith)
         go froms (rules {to = to} {items = items} begins stand closes) =
@@ -291,13 +294,10 @@ module _ (text : List Lexeme) (at : ℕ) where
           within = taken.within;
         }
 
-    pub environment_untaken : (found : Joined) → drop at text ≡ Name (codes "env") ∷ drop (at + 1) text → sort_of (drop (at + 1) text) ≡ sorts.Symbol punctuator.LeftBrace → NoItems IsBound (drop (at + 2) text)
+    pub environment_untaken : (found : Joined) → drop at text ≡ opened_by (codes "env") (drop (at + 2) text) → NoItems IsBound (drop (at + 2) text)
         → NoSection version (drop at text) found
-    environment_untaken found named opens none section to is = go refl is
+    environment_untaken found begun none section to is = go refl is
       where
-        begun : drop at text ≡ opened_by (codes "env") (drop (at + 2) text)
-        begun = opened_here (codes "env") named opens
-
         go : {from to : List Lexeme} {section : Section} → from ≡ drop at text → IsSection version from section to → IsSecond found section
         go froms (aioc begins stand closes) = absurd (let apart : ◌≡◌ {A = ℕ} 0 101 = sym (ap letter begins) ∙ ap letter froms ∙ ap letter begun in omega arith)
         go froms (rules begins stand closes) = absurd (let apart : ◌≡◌ {A = ℕ} 114 101 = sym (ap letter begins) ∙ ap letter froms ∙ ap letter begun in omega arith)
@@ -320,13 +320,10 @@ module _ (text : List Lexeme) (at : ℕ) where
           within = taken.within;
         }
 
-    pub inputs_untaken : (found : Joined) → drop at text ≡ Name (codes "inputs") ∷ drop (at + 1) text → sort_of (drop (at + 1) text) ≡ sorts.Symbol punctuator.LeftBrace → NoItems IsInput (drop (at + 2) text)
+    pub inputs_untaken : (found : Joined) → drop at text ≡ opened_by (codes "inputs") (drop (at + 2) text) → NoItems IsInput (drop (at + 2) text)
         → NoSection version (drop at text) found
-    inputs_untaken found named opens none section to is = go refl is
+    inputs_untaken found begun none section to is = go refl is
       where
-        begun : drop at text ≡ opened_by (codes "inputs") (drop (at + 2) text)
-        begun = opened_here (codes "inputs") named opens
-
         go : {from to : List Lexeme} {section : Section} → from ≡ drop at text → IsSection version from section to → IsSecond found section
         go froms (aioc begins stand closes) = absurd (let apart : ◌≡◌ {A = ℕ} 0 105 = sym (ap letter begins) ∙ ap letter froms ∙ ap letter begun in omega arith)
         go froms (rules begins stand closes) = absurd (let apart : ◌≡◌ {A = ℕ} 114 105 = sym (ap letter begins) ∙ ap letter froms ∙ ap letter begun in omega arith)
@@ -349,13 +346,10 @@ module _ (text : List Lexeme) (at : ℕ) where
           within = taken.within;
         }
 
-    pub script_untaken : (found : Joined) → drop at text ≡ Name (codes "script") ∷ drop (at + 1) text → sort_of (drop (at + 1) text) ≡ sorts.Symbol punctuator.LeftBrace → NoItems (IsTimed version) (drop (at + 2) text)
+    pub script_untaken : (found : Joined) → drop at text ≡ opened_by (codes "script") (drop (at + 2) text) → NoItems (IsTimed version) (drop (at + 2) text)
         → NoSection version (drop at text) found
-    script_untaken found named opens none section to is = go refl is
+    script_untaken found begun none section to is = go refl is
       where
-        begun : drop at text ≡ opened_by (codes "script") (drop (at + 2) text)
-        begun = opened_here (codes "script") named opens
-
         go : {from to : List Lexeme} {section : Section} → from ≡ drop at text → IsSection version from section to → IsSecond found section
         go froms (aioc begins stand closes) = absurd (let apart : ◌≡◌ {A = ℕ} 0 115 = sym (ap letter begins) ∙ ap letter froms ∙ ap letter begun in omega arith)
         go froms (rules begins stand closes) = absurd (let apart : ◌≡◌ {A = ℕ} 114 115 = sym (ap letter begins) ∙ ap letter froms ∙ ap letter begun in omega arith)
@@ -383,11 +377,11 @@ module _ (text : List Lexeme) (at : ℕ) where
     trace_only froms begun (inputs begins stand closes) P go = absurd (let apart : ◌≡◌ {A = ℕ} 105 116 = sym (ap letter begins) ∙ ap letter froms ∙ ap letter begun in omega arith)
     trace_only froms begun (script begins stand closes) P go = absurd (let apart : ◌≡◌ {A = ℕ} 115 116 = sym (ap letter begins) ∙ ap letter froms ∙ ap letter begun in omega arith)
 
-    pub second_trace : (found : Joined) → drop at text ≡ Name (codes "trace") ∷ drop (at + 1) text → sort_of (drop (at + 1) text) ≡ sorts.Symbol punctuator.LeftBrace → 0 < length found.traces → NoSection version (drop at text) found
-    second_trace found named opens some section to is = trace_only refl (opened_here (codes "trace") named opens) is (IsSecond found) (λ other is2. some)
+    pub second_trace_untaken : (found : Joined) → drop at text ≡ opened_by (codes "trace") (drop (at + 2) text) → 0 < length found.traces → NoSection version (drop at text) found
+    second_trace_untaken found begun some section to is = trace_only refl begun is (IsSecond found) (λ other is2. some)
 
-    pub trace_untaken : (found : Joined) → drop at text ≡ Name (codes "trace") ∷ drop (at + 1) text → sort_of (drop (at + 1) text) ≡ sorts.Symbol punctuator.LeftBrace → NoTrace (drop (at + 2) text) → NoSection version (drop at text) found
-    trace_untaken found named opens none section to is = trace_only refl (opened_here (codes "trace") named opens) is (IsSecond found) (λ other is2. absurd (none other to is2))
+    pub trace_untaken : (found : Joined) → drop at text ≡ opened_by (codes "trace") (drop (at + 2) text) → NoTrace (drop (at + 2) text) → NoSection version (drop at text) found
+    trace_untaken found begun none section to is = trace_only refl begun is (IsSecond found) (λ other is2. absurd (none other to is2))
 
     pub trace_taken : (old new : Joined) (found : Trace) (next : ℕ) → drop at text ≡ Name (codes "trace") ∷ drop (at + 1) text → sort_of (drop (at + 1) text) ≡ sorts.Symbol punctuator.LeftBrace → TraceTaken text (at + 2) found next
         → new ≡ with_last old (Traced found) → TakesSection version text at old new next
@@ -395,20 +389,40 @@ module _ (text : List Lexeme) (at : ℕ) where
         let after = taken.after in
         record { section = Traced found; stands = trace (opened_here (codes "trace") named opens) taken.stands taken.closes; joins = joins; after = omega arith; within = taken.within }
 
-    pub no_word : (found : Joined) → (Begins aioc_sorts (drop at text) → ⊥) → (drop at text ≡ Name (codes "rules") ∷ drop (at + 1) text → ⊥) → (drop at text ≡ Name (codes "env") ∷ drop (at + 1) text → ⊥)
-        → (drop at text ≡ Name (codes "inputs") ∷ drop (at + 1) text → ⊥) → (drop at text ≡ Name (codes "script") ∷ drop (at + 1) text → ⊥) → (drop at text ≡ Name (codes "trace") ∷ drop (at + 1) text → ⊥) → NoSection version (drop at text) found
-    no_word found no_aioc no_rules no_env no_inputs no_script no_trace section to is = absurd (go refl is)
+    pub no_word_here : (Begins aioc_sorts (drop at text) → ⊥) → (drop at text ≡ Name (codes "rules") ∷ drop (at + 1) text → ⊥) → (drop at text ≡ Name (codes "env") ∷ drop (at + 1) text → ⊥)
+        → (drop at text ≡ Name (codes "inputs") ∷ drop (at + 1) text → ⊥) → (drop at text ≡ Name (codes "script") ∷ drop (at + 1) text → ⊥) → (drop at text ≡ Name (codes "trace") ∷ drop (at + 1) text → ⊥) → BeginsSection (drop at text) → ⊥
+    no_word_here no_aioc no_rules no_env no_inputs no_script no_trace begins = go refl begins
       where
         named : {name : List ℕ} {from others : List Lexeme} → from ≡ drop at text → from ≡ Name name ∷ others → drop at text ≡ Name name ∷ drop (at + 1) text
         named {name} froms begins = sym froms ∙ begins ∙ ap (λ l. Name name ∷ l) (sym (ap (drop 1) begins) ∙ ap (drop 1) froms ∙ further text at (at + 1) refl)
 
-        go : {from to : List Lexeme} {section : Section} → from ≡ drop at text → IsSection version from section to → ⊥
-        go froms (aioc begins is closes) = no_aioc (ap sort_of (sym froms ∙ begins), (ap (λ l. sort_of (drop 1 l)) (sym froms ∙ begins), tt))
-        go froms (rules begins stand closes) = no_rules (named froms begins)
-        go froms (environment begins stand closes) = no_env (named froms begins)
-        go froms (inputs begins stand closes) = no_inputs (named froms begins)
-        go froms (script begins stand closes) = no_script (named froms begins)
-        go froms (trace begins stand closes) = no_trace (named froms begins)
+        go : {from : List Lexeme} → from ≡ drop at text → BeginsSection from → ⊥
+        go froms (begins_aioc begins) = no_aioc (ap sort_of (sym froms ∙ begins), (ap (λ l. sort_of (drop 1 l)) (sym froms ∙ begins), tt))
+        go froms (begins_rules begins) = no_rules (named froms begins)
+        go froms (begins_environment begins) = no_env (named froms begins)
+        go froms (begins_inputs begins) = no_inputs (named froms begins)
+        go froms (begins_script begins) = no_script (named froms begins)
+        go froms (begins_trace begins) = no_trace (named froms begins)
+
+-- where the reading of a section ends, none stands that may stand there
+begins_one : {version : ℕ} {from to : List Lexeme} {section : Section} → IsSection version from section to → BeginsSection from
+begins_one (aioc begins is closes) = begins_aioc begins
+begins_one (rules begins stand closes) = begins_rules begins
+begins_one (environment begins stand closes) = begins_environment begins
+begins_one (inputs begins stand closes) = begins_inputs begins
+begins_one (script begins stand closes) = begins_script begins
+begins_one (trace begins stand closes) = begins_trace begins
+
+pub section_none : (version : ℕ) (text : List Lexeme) (at : ℕ) (found : Joined) (place : ℕ) → EndsInSection version text at found place → NoSection version (drop at text) found
+section_none version text at found place (no_word here none) = λ section to is. absurd (none (begins_one is))
+section_none version text at found place (second_choreography here begun some) = second_untaken text at version found begun some
+section_none version text at found place (in_choreography begun first ends) = choreography_untaken text at version found begun (choreography_none text (at + 2) version ends)
+section_none version text at found place (in_rules begun ends) = rules_untaken text at version found begun (no_items rules_each rule_never ends)
+section_none version text at found place (in_environment begun ends) = environment_untaken text at version found begun (no_items bounds_each bound_never ends)
+section_none version text at found place (in_inputs begun ends) = inputs_untaken text at version found begun (no_items inputs_each input_never ends)
+section_none version text at found place (in_script begun ends) = script_untaken text at version found begun (no_items timed_each timed_never ends)
+section_none version text at found place (second_trace here begun some) = second_trace_untaken text at version found begun some
+section_none version text at found place (in_trace here begun first none) = trace_untaken text at version found begun none
 
 -- the version at the front of a text
 module _ (text : List Lexeme) where
@@ -419,6 +433,7 @@ module _ (text : List Lexeme) where
   pub unversioned : (text ≡ Name (codes "version") ∷ drop 1 text → ⊥) → FindsVersion text 1 0
   unversioned none = record {
     reads = first_version;
+    latest = λ other inside has. let same = (version_only (λ rest begins two. none (begins ∙ ap (λ l. Name (codes "version") ∷ l) (sym (ap (drop 1) begins)))) has).0 in omega arith;
     only = λ other inside to section has is. version_only (λ rest begins two. none (begins ∙ ap (λ l. Name (codes "version") ∷ l) (sym (ap (drop 1) begins)))) has;
     within = omega arith;
   }
@@ -426,6 +441,7 @@ module _ (text : List Lexeme) where
   pub no_two : (number 2 (drop 1 text) ≡ Some 2 → ⊥) → FindsVersion text 1 0
   no_two none = record {
     reads = first_version;
+    latest = λ other inside has. let same = (version_only (λ rest begins two. none (ap (number 2) (ap (drop 1) begins) ∙ two)) has).0 in omega arith;
     only = λ other inside to section has is. version_only (λ rest begins two. none (ap (number 2) (ap (drop 1) begins) ∙ two)) has;
     within = omega arith;
   }
@@ -436,6 +452,7 @@ module _ (text : List Lexeme) where
       let begins : text ≡ Name (codes "version") ∷ Number read.digits ∷ drop 2 text = named ∙ ap (λ l. Name (codes "version") ∷ l) (read.first ∙ ap (λ l. Number read.digits ∷ l) (drop-drop 1 1 text)) in
       record {
         reads = second_version begins (two_of read.digits read.value);
+        latest = λ other inside has. no_later has;
         only = λ other inside to section has is. only begins has is;
         within = omega (arith, ap length begins);
       }
@@ -446,6 +463,10 @@ module _ (text : List Lexeme) where
           go : (fits : Bool) → Some 2 ≡ cond fits (Some (digits_value 10 digits)) None → digits_value 10 digits ≡ 2
           go true is = cc
           go false is = absurd cc
+
+      no_later : {from inside : List Lexeme} {other : ℕ} → HasVersion from other inside → other ≤ 2
+      no_later first_version = omega arith
+      no_later (second_version begins2 two) = omega arith
 
       only : {digits : List ℕ} {other : ℕ} {inside to : List Lexeme} {section : Section} → text ≡ Name (codes "version") ∷ Number digits ∷ drop 2 text → HasVersion text other inside → IsSection other inside section to → (other ≡ 2) × (inside ≡ drop 2 text)
       only begins first_version is = absurd (version_apart begins is)

@@ -3,7 +3,8 @@ use Rattle.std.proofs.Common.{◌≡◌, ◌+◌, ◌≤◌, List, [], ◌∷◌
 use Rattle.dioc_terms.specs.declared.bundles.Trace.{Trace}
 use Rattle.dioc_terms.specs.Terms.{Term}
 use Rattle.bundle_text.specs.Grammar.{Section, Aioc, Rules, Environment, Inputs, Script, Traced, Joined, with_first, nothing_joined, joined, IsOnly}
-use Rattle.bundle_text.specs.Readers.{with_last, IsSecond}
+use Rattle.bundle_text.specs.Readers.{with_last}
+use Rattle.bundle_text.proofs.Missing.{IsSecond}
 
 -- a section behind a section
 first_of_last : (first last : Section) (found : Joined) → with_first first (with_last found last) ≡ with_last (with_first first found) last

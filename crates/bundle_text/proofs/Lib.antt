@@ -1,3 +1,4 @@
+pub mod Missing
 pub mod Results
 pub mod Repeated
 pub mod Unique

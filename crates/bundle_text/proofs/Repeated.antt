@@ -8,7 +8,9 @@ use Rattle.dioc_syntax.proofs.HeadSorts.{symbol_here, within_here}
 use Rattle.rule_syntax.specs.Readers.{StandsAt}
 use Rattle.bundle_text.specs.Many.{Many, no_more, one_more}
 use Rattle.bundle_text.specs.Grammar.{closed_before}
-use Rattle.bundle_text.specs.Readers.{TakesItems, NoItems}
+use Rattle.bundle_text.specs.Readers.{TakesItems}
+use Rattle.bundle_text.specs.Stops.{EndsAmong}
+use Rattle.bundle_text.proofs.Missing.{NoItems}
 
 -- at most one item stands at a place
 abbrev pub OneEach : {A : Type 0} → (List Lexeme → A → List Lexeme → Type 0) → Type 0
@@ -95,13 +97,17 @@ module _ {A : Type 0} (Reads : List Lexeme → A → List Lexeme → Type 0) (te
         within = omega arith;
       }
 
-  pub none_further : OneEach Reads → ((from : List Lexeme) (item : A) (to : List Lexeme) → Reads from item to → sort_of from ≢ sorts.Symbol punctuator.RightBrace) → (new : List A) (next : ℕ) → SoFar Reads text at old new next
-      → NoFront (Reads (drop next text)) → sort_of (drop next text) ≢ sorts.Symbol punctuator.RightBrace → NoItems Reads (drop at text)
-  none_further one never new next so_far none unlike items to stand = by_rest more.rest more.stand
-    where
-      more : Behind Reads so_far.items items (drop next text) (closed_before to)
-      more = many_behind one (λ from is item end reads. never from item end reads (ap sort_of is)) refl so_far.stand stand
+  pub ends_among : (new : List A) (next : ℕ) → SoFar Reads text at old new next → NoFront (Reads (drop next text)) → sort_of (drop next text) ≢ sorts.Symbol punctuator.RightBrace → EndsAmong Reads text at next
+  ends_among new next so_far none unlike = record { items = so_far.items; stand = so_far.stand; none = none; no_close = unlike }
 
-      by_rest : (rest : List A) → Many Reads (drop next text) rest (closed_before to) → ⊥
-      by_rest [] s = unlike (ap sort_of (ended s refl))
-      by_rest (first ∷ rest) (one_more r s) = none first _ r
+-- where the reading of items ends, none stand up to a `}`
+pub no_items : {A : Type 0} {Reads : List Lexeme → A → List Lexeme → Type 0} {text : List Lexeme} {at place : ℕ} → OneEach Reads → ((from : List Lexeme) (item : A) (to : List Lexeme) → Reads from item to → sort_of from ≢ sorts.Symbol punctuator.RightBrace)
+    → EndsAmong Reads text at place → NoItems Reads (drop at text)
+no_items {A} {Reads} {text} {at} {place} one never ends items to stand = by_rest more.rest more.stand
+  where
+    more : Behind Reads ends.items items (drop place text) (closed_before to)
+    more = many_behind one (λ from is item end reads. never from item end reads (ap sort_of is)) refl ends.stand stand
+
+    by_rest : (rest : List A) → Many Reads (drop place text) rest (closed_before to) → ⊥
+    by_rest [] s = ends.no_close (ap sort_of (ended s refl))
+    by_rest (first ∷ rest) (one_more r s) = ends.none first _ r

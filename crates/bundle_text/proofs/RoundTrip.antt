@@ -1,41 +1,31 @@
 -- Each section of a formed bundle stands where it is written, and its text reads as its lexemes.
-use Rattle.std.proofs.Common.{◌≡◌, ℕ, zero, suc, ◌+◌, ◌-◌, ◌≤◌, ◌⊎◌, inl, inr, Bool, true, false, ◌&&◌, nat_le, nat_lt, List, [], ◌∷◌, ◌++◌, length, map, take, drop, Option, Some, None, codes, decimal, pos, refl, ap, sym, ◌∙◌, subst, arith, append_assoc, append-nil, length-append, length-drop, drop-drop, drop_at, add-zero, ◌==◌, if◌then◌else◌}
-use Rattle.std.specs.Prelude.{All}
+use Rattle.std.proofs.Common.{◌≡◌, ℕ, ◌+◌, ◌≤◌, Bool, true, false, ◌&&◌, nat_lt, List, [], ◌∷◌, ◌++◌, length, drop, Option, Some, None, codes, decimal, pos, refl, ap, sym, ◌∙◌, subst, arith, append_assoc, length-append, drop-drop, drop_at, add-zero, ◌==◌, if◌then◌else◌}
 use Rattle.std.specs.List.{list_all, flat_map, AllByRecursion}
-use Rattle.std.proofs.lemmas.List.Elements.{recursion_from_All}
-use borrow.Author.Tests.{leb-true, le-leb}
+use borrow.Author.Tests.{le-leb}
 use Rattle.dioc_terms.specs.declared.names.Role.{Role}
 use Rattle.dioc_terms.specs.declared.values.Value.{Value}
 use Rattle.dioc_terms.specs.declared.values.Value.TheVariants as value
 use Rattle.dioc_terms.specs.declared.entries.Entry.{Entry}
-use Rattle.dioc_terms.specs.declared.bundles.Change.{Change}
-use Rattle.dioc_terms.specs.declared.bundles.Change.TheVariants as change
-use Rattle.dioc_terms.specs.declared.bundles.Timed.{Timed}
 use Rattle.dioc_terms.specs.declared.bundles.Last.{Last}
 use Rattle.dioc_terms.specs.declared.bundles.Trace.{Trace}
-use Rattle.limits.specs.Limits.{largest, most_bytes}
+use Rattle.limits.specs.Limits.{largest}
 use Rattle.dioc_terms.specs.Names as names
-use Rattle.dioc_terms.specs.Expressions.{Const}
-use Rattle.dioc_terms.specs.Terms.{Term}
-use Rattle.dioc_terms.specs.Plain.{PlainRule, PlainBundle}
-use Rattle.dioc_terms.specs.Bundles.{is_identifier, is_constant, is_formed_role, is_formed_binding, is_formed_inputs, is_formed_timed, is_formed_change, is_formed_entry, is_formed_last, adds, numbers_from, has_no_priority, IsOfVersion, IsFormed, IsFormedTerm, IsFormedRule}
+use Rattle.dioc_terms.specs.Plain.{PlainRule}
+use Rattle.dioc_terms.specs.Bundles.{is_identifier, is_constant, is_formed_role, is_formed_binding, is_formed_inputs, is_formed_entry, is_formed_last}
 use Rattle.aioc_tokens.specs.declared.words.Word.TheVariants as word
 use Rattle.aioc_tokens.specs.declared.words.Punctuator.TheVariants as punctuator
 use Rattle.aioc_tokens.specs.Lexemes.{Lexeme, Name, Number, Reserved, Symbol, HasSpelling}
 use Rattle.aioc_tokens.specs.Spelling.{spelled}
 use Rattle.aioc_tokens.proofs.Written.{IsRead, space_read, spelled_read, space_ends}
-use Rattle.expr_syntax.specs.Constants.{number_up_to}
 use Rattle.expr_syntax.specs.Writing.{written_value}
-use Rattle.dioc_syntax.specs.Laws.{FitsVersion as BodyFits}
 use Rattle.dioc_syntax.proofs.RoundTrip.{both_true, decimal_number, value_stands, value_spelled, written_spellings}
 use Rattle.dioc_syntax.proofs.RoundTrip.{written_reads as choreography_reads}
-use Rattle.rule_syntax.specs.Grammar.{PlainChange, Add, Drop, Env, IsRule, IsBinding, IsChange, adds as adds_rule, drops, sets}
+use Rattle.rule_syntax.specs.Grammar.{PlainChange, Add, Drop, Env, IsRule, IsChange, adds as adds_rule, drops, sets}
 use Rattle.rule_syntax.specs.Writing.{written as written_rule}
 use Rattle.rule_syntax.proofs.RoundTrip.{rule_stands, rule_spellings, name_spelled}
 use Rattle.trace_syntax.specs.Grammar.{AreEntries, no_entry, IsTrace, goes_on, is_over}
 use Rattle.trace_syntax.specs.Grammar.{one_more as entry_more}
-use Rattle.trace_text.specs.Lines.{last_line}
-use Rattle.trace_text.specs.Written.{written_line, written_lines, written_last}
+use Rattle.trace_text.specs.Written.{written_lines, written_last}
 use Rattle.trace_text.proofs.Standing.{Stands, behind, one, gap, line_stands, last_stands}
 use Rattle.trace_text.proofs.LinesAgain.{line_again, last_again}
 use Rattle.bundle_text.specs.Many.{Many, no_more, one_more}

@@ -1,5 +1,5 @@
 -- The script of a formed bundle is what its written changes are numbered to.
-use Rattle.std.proofs.Common.{◌≡◌, ℕ, zero, suc, ◌+◌, ◌<◌, ◌≤◌, List, [], ◌∷◌, ◌++◌, length, map, drop, get_or, Option, Some, refl, ap, sym, ◌∙◌, arith, drop-cons, drop_of_length-le}
+use Rattle.std.proofs.Common.{◌≡◌, ℕ, zero, suc, ◌+◌, ◌<◌, List, [], ◌∷◌, ◌++◌, length, map, drop, get_or, Some, refl, ap, sym, ◌∙◌, arith, drop-cons, drop_of_length-le}
 use Rattle.std.specs.Prelude.{slice_get}
 use Rattle.std.proofs.lemmas.Option.{slice_get-get_or}
 use Rattle.dioc_terms.specs.declared.bundles.Change.{Change}
@@ -7,7 +7,7 @@ use Rattle.dioc_terms.specs.declared.bundles.Change.TheVariants as change
 use Rattle.dioc_terms.specs.declared.bundles.Timed.{Timed}
 use Rattle.dioc_terms.specs.Plain.{PlainRule}
 use Rattle.dioc_terms.specs.Bundles.{adds, numbers_from}
-use Rattle.rule_syntax.specs.Grammar.{PlainChange, Add, Drop, Env}
+use Rattle.rule_syntax.specs.Grammar.{PlainChange, Add}
 use Rattle.bundle_text.specs.Grammar.{PlainTimed, added_rules, numbered}
 use Rattle.bundle_text.specs.Writing.{added_by, script_of}
 

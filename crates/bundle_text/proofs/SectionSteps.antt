@@ -7,9 +7,12 @@ use Rattle.dioc_terms.specs.Terms.{term}
 use Rattle.aioc_tokens.specs.Lexemes.{Lexeme}
 use Rattle.bundle_text.specs.Many.{Many, no_more, one_more}
 use Rattle.bundle_text.specs.Grammar.{Section, Aioc, Traced, IsSection, Joined, nothing_joined, joined, IsOnly}
-use Rattle.bundle_text.specs.Readers.{listed, listed_trace, with_last, TakesSection, NoSection, TakesSections, NoSections}
+use Rattle.bundle_text.specs.Readers.{listed, listed_trace, with_last, TakesSection, TakesSections}
+use Rattle.bundle_text.specs.Stops.{EndsInSection, EndsAmongSections}
+use Rattle.bundle_text.proofs.Missing.{NoSections}
 use Rattle.bundle_text.proofs.Repeated.{many_last, Behind, many_behind, ended}
 use Rattle.bundle_text.proofs.Unique.{sections_each, no_section}
+use Rattle.bundle_text.proofs.Found.{section_none}
 use Rattle.bundle_text.proofs.Joins.{joined_last, no_second}
 
 -- the sections that a reader has joined so far
@@ -36,16 +39,23 @@ module _ (version : ℕ) (text : List Lexeme) (at : ℕ) where
     joins = so_far.joins;
   }
 
-  pub sections_stopped : (found : Joined) (next : ℕ) → SectionsSoFar version text at found next → next < length text → NoSection version (drop next text) found → NoSections version (drop at text)
-  sections_stopped found next so_far inside none sections choreo only stand one last = by_rest more.rest more.are more.stand
-    where
-      more : Behind (IsSection version) so_far.sections sections (drop next text) []
-      more = many_behind sections_each no_section refl so_far.stand stand
+  pub sections_ended : (found : Joined) (next place : ℕ) → SectionsSoFar version text at found next → next < length text → EndsInSection version text next found place → EndsAmongSections version text at place
+  sections_ended found next place so_far inside ends = record { sections = so_far.sections; next = next; stand = so_far.stand; inside = inside; ends = subst (λ joins. EndsInSection version text next joins place) so_far.joins ends }
 
-      by_rest : (rest : List Section) → sections ≡ so_far.sections ++ rest → Many (IsSection version) (drop next text) rest [] → ⊥
-      by_rest [] are s = omega (arith, length-drop next text, ap length (ended s refl))
+  pub sections_none : (place : ℕ) → EndsAmongSections version text at place → NoSections version (drop at text)
+  sections_none place ended_there sections choreo only stand one last = by_rest more.rest more.are more.stand
+    where
+      next : ℕ
+      next = ended_there.next
+
+      more : Behind (IsSection version) ended_there.sections sections (drop next text) []
+      more = many_behind sections_each no_section refl ended_there.stand stand
+
+      by_rest : (rest : List Section) → sections ≡ ended_there.sections ++ rest → Many (IsSection version) (drop next text) rest [] → ⊥
+      by_rest [] are s = let inside = ended_there.inside in omega (arith, length-drop next text, ap length (ended s refl))
       by_rest (first ∷ rest) are (one_more {middle = middle} r s) =
-          no_second first so_far.sections rest choreo only (subst (λ joins. NoSection version (drop next text) joins) so_far.joins none first middle r) (sym (ap (λ all. (joined all).choreos) are) ∙ one) (subst (λ all. IsOnly (joined all).traces only) are last)
+          no_second first ended_there.sections rest choreo only (section_none version text next (joined ended_there.sections) place ended_there.ends first middle r) (sym (ap (λ all. (joined all).choreos) are) ∙ one)
+          (subst (λ all. IsOnly (joined all).traces only) are last)
 
 -- a choreography that was read before
 pub listed_some : (choreo : Option Choreo) → is_some choreo ≡ true → 0 < length (listed choreo)
@@ -62,6 +72,10 @@ filled old slot before choreo is none are =
     ap (λ list. record old { choreos = list }) (ap listed is ∙ sym (ap (λ list. list ++ term choreo ∷ []) (are ∙ listed_none before none)))
 
 -- a trace that was read before, and the one that was read
+pub traced_some : (found : Option Trace) → is_some found ≡ true → 0 < length (listed_trace found)
+traced_some None is = absurd cc
+traced_some (Some found) is = omega arith
+
 pub traced_none : (found : Option Trace) → is_some found ≡ false → listed_trace found ≡ []
 traced_none None is = refl
 traced_none (Some found) is = absurd cc

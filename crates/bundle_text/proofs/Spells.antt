@@ -1,5 +1,5 @@
 -- The bytes of a bundle are the text of its sections.
-use Rattle.std.proofs.Common.{◌≡◌, ℕ, ◌<◌, Bool, true, false, List, [], ◌∷◌, ◌++◌, length, map, take, Option, Some, None, codes, decimal, refl, ap, sym, ◌∙◌, append_assoc, append-nil}
+use Rattle.std.proofs.Common.{◌≡◌, ℕ, ◌<◌, List, [], ◌∷◌, ◌++◌, length, map, take, Option, Some, None, codes, decimal, refl, ap, sym, ◌∙◌, append_assoc, append-nil}
 use Rattle.std.specs.List.{flat_map}
 use Rattle.std.specs.Prelude.{slice_get, option_map}
 use Rattle.std.proofs.lemmas.Grind.{flat_map-append}
@@ -15,9 +15,8 @@ use Rattle.dioc_terms.specs.declared.bundles.Bundle.{Bundle}
 use Rattle.dioc_terms.specs.Expressions.{Const}
 use Rattle.dioc_terms.specs.Terms.{Term, term}
 use Rattle.dioc_terms.specs.Plain.{PlainRule, plain_rule, plain}
-use Rattle.aioc_tokens.specs.declared.words.Word.TheVariants as word
 use Rattle.aioc_tokens.specs.declared.words.Punctuator.TheVariants as punctuator
-use Rattle.aioc_tokens.specs.Lexemes.{Lexeme, Name, Number, Reserved, Symbol}
+use Rattle.aioc_tokens.specs.Lexemes.{Lexeme, Name, Symbol}
 use Rattle.aioc_tokens.specs.Spelling.{spelling, spelled}
 use Rattle.expr_syntax.specs.Writing.{written_value}
 use Rattle.expr_syntax.proofs.Spells.{behind, spelled_first, behind_some}
@@ -31,8 +30,8 @@ use Rattle.rule_syntax.specs.Grammar.{PlainChange, Add, Drop, Env}
 use Rattle.rule_syntax.specs.Writing.{written as written_rule}
 use Rattle.rule_syntax.proofs.Spells.{spelled_before as rule_before}
 use Rattle.bundle_text.specs.Grammar.{PlainTimed, Section, Aioc, Rules, Environment, Inputs, Script, opened_by, closed_before}
-use Rattle.bundle_text.specs.Writing.{written_all, written_bound, written_next_value, written_values, written_input, written_change, written_timed, written_section, text_line, section_text, added_by, changes_of, timed_of, script_of, some, script_section, traced, sections_of, version_text, bundle_text}
-use Rattle.bundle_text.specs.Pieces.{closing_text, choreography_text, items_text, rule_text, bound_text, next_value_text, values_text, input_text, after_text, added_text, found_text, change_text, timed_text, trace_text, sections_text, pieces_text}
+use Rattle.bundle_text.specs.Writing.{written_all, written_bound, written_next_value, written_values, written_input, written_timed, text_line, section_text, added_by, changes_of, timed_of, script_of, some, script_section, traced, version_text, bundle_text}
+use Rattle.bundle_text.specs.Pieces.{closing_text, choreography_text, items_text, rule_text, bound_text, next_value_text, values_text, input_text, after_text, added_text, found_text, change_text, timed_text, sections_text, pieces_text}
 
 -- a lexeme that others follow
 spelled_on : (first : Lexeme) (others : List Lexeme) → 0 < length others → spelled (first ∷ others) ≡ spelling first ++ 32 ∷ spelled others

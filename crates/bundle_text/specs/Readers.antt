@@ -13,7 +13,7 @@ use Rattle.rule_syntax.specs.Grammar.{plain_change}
 use Rattle.rule_syntax.specs.Readers.{StandsAt}
 use Rattle.trace_syntax.specs.Grammar.{IsTrace}
 use Rattle.bundle_text.specs.Many.{Many}
-use Rattle.bundle_text.specs.Grammar.{AreValues, PlainTimed, IsTimed, Section, Aioc, Rules, Environment, Inputs, Script, Traced, inside_limit, closed_before, IsSection, Joined, joined, IsOnly, HasVersion}
+use Rattle.bundle_text.specs.Grammar.{AreValues, PlainTimed, IsTimed, Section, Aioc, Rules, Environment, Inputs, Script, Traced, inside_limit, closed_before, IsSection, Joined, joined, HasVersion}
 use Rattle.bundle_text.specs.declared.parts.ReadTimed.{ReadTimed}
 use Rattle.bundle_text.specs.declared.parts.Parts.{Parts}
 
@@ -26,11 +26,6 @@ pub record TakesItems {A : Type 0} (Reads : List Lexeme → A → List Lexeme �
   pub joins : new ≡ old ++ items
   pub after : at < next
   pub within : next ≤ length text
-
--- no items stand up to a `}`
-abbrev pub NoItems : {A : Type 0} → (List Lexeme → A → List Lexeme → Type 0) → List Lexeme → Type 0
-NoItems {A} Reads from =
-    (items : List A) (to : List Lexeme) → Many Reads from items (closed_before to) → ⊥
 
 -- what a reader of one item answers
 abbrev pub ItemAt : {A : Type 0} → (List Lexeme → A → List Lexeme → Type 0) → List Lexeme → ℕ →
@@ -100,21 +95,11 @@ pub record TakesSection (version : ℕ) (text : List Lexeme) (at : ℕ) (old new
   pub after : at < next
   pub within : next ≤ length text
 
--- such a section has stood before, and a bundle has one alone
-abbrev pub IsSecond : Joined → Section → Type 0
-IsSecond found (Aioc whole) = 0 < length found.choreos
-IsSecond found (Traced other) = 0 < length found.traces
-IsSecond found _ = ⊥
-
--- no section stands here that may stand behind the others
-abbrev pub NoSection : ℕ → List Lexeme → Joined → Type 0
-NoSection version from found =
-    (section : Section) (to : List Lexeme) → IsSection version from section to →
-    IsSecond found section
-
--- the version at the front of a text, and the place behind it; no other has a section behind it
+-- the version at the front of a text, and the place behind it: no later one stands there, and no
+-- other has a section behind it
 pub record FindsVersion (text : List Lexeme) (version at : ℕ) : Type 0 where
   pub reads : HasVersion text version (drop at text)
+  pub latest : (other : ℕ) (inside : List Lexeme) → HasVersion text other inside → other ≤ version
   pub only : (other : ℕ) (inside to : List Lexeme) (section : Section)
       → HasVersion text other inside → IsSection other inside section to
       → (other ≡ version) × (inside ≡ drop at text)
@@ -128,10 +113,6 @@ pub record ChoreographyTaken (version : ℕ) (text : List Lexeme) (at : ℕ) (ch
   pub closes : behind ≡ closed_before (drop next text)
   pub after : at < next
   pub within : next ≤ length text
-
-abbrev pub NoChoreography : ℕ → List Lexeme → Type 0
-NoChoreography version from = (whole : Term) (to : List Lexeme)
-    → IsChoreography version inside_limit from whole (closed_before to) → ⊥
 
 -- the lines of a trace stand at a place of the text up to a `}`, and this is the place behind that
 pub record TraceTaken (text : List Lexeme) (at : ℕ) (found : Trace) (next : ℕ) : Type 0 where
@@ -150,9 +131,3 @@ pub record TakesSections (version : ℕ) (from : List Lexeme) (found : Joined) :
   pub sections : List Section
   pub stand : Many (IsSection version) from sections []
   pub joins : found ≡ joined sections
-
--- it isn't that of sections with one choreography and at most one trace
-abbrev pub NoSections : ℕ → List Lexeme → Type 0
-NoSections version from = (sections : List Section) (choreo : Term) (found : Trace)
-    → Many (IsSection version) from sections [] → (joined sections).choreos ≡ choreo ∷ []
-    → IsOnly (joined sections).traces found → ⊥

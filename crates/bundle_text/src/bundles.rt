@@ -6,6 +6,7 @@ ghost use Rattle.dioc_terms.specs.Plain.{plain, plain_rule};
 ghost use Rattle.rule_syntax.specs.Grammar.{plain_change};
 ghost use Rattle.bundle_text.specs.Grammar.{IsOnly, IsMadeOf, with_added, added_rules, numbered_change, numbered};
 ghost use Rattle.bundle_text.specs.Readers.{listed_trace, found_in, plain_timed};
+ghost use Rattle.bundle_text.specs.Stops.{place_in};
 
 use crate::parts::{Parts, ReadTimed};
 use crate::stops::{Stop, lost};
@@ -85,7 +86,7 @@ pub fn bundle_of(alloc: Global, version: u32, parts: Parts, end: usize) -> Resul
     ensures found { IfOk result (λ b. IsMadeOf (found_in parts) (plain b)) }
     ensures version { IfOk result (λ b. b.version ≡ version) }
     ensures stopped { IfErr result (λ stop. stop ≢ Stop.Memory →
-        (found_in parts).choreos ≡ []) }
+        ((found_in parts).choreos ≡ []) × (place_in stop ≡ end)) }
 {
     let Parts {
         choreo,

@@ -1,18 +1,19 @@
 //! The items of sections, each up to the `}` behind them.
 
-ghost use Rattle.std.specs.Prelude.{◌≡◌, ◌≢◌, ◌≤◌, length, drop, map, IfOk, IfErr};
+ghost use Rattle.std.specs.Prelude.{◌≡◌, ◌≢◌, ◌≤◌, length, map, IfOk, IfErr};
 ghost use Rattle.limits.specs.Limits.{greatest_place};
 ghost use Rattle.dioc_terms.specs.Plain.{plain_rule};
 ghost use Rattle.rule_syntax.specs.Grammar.{IsRule};
 ghost use Rattle.bundle_text.specs.Grammar.{inside_limit, IsBound, IsInput, IsTimed};
-ghost use Rattle.bundle_text.specs.Readers.{plain_timed, TakesItems, NoItems, ItemAt, TimedAt, ValuesAt};
+ghost use Rattle.bundle_text.specs.Readers.{plain_timed, TakesItems, ItemAt, TimedAt, ValuesAt};
+ghost use Rattle.bundle_text.specs.Stops.{place_in, EndsAmong};
 
 use crate::parts::ReadTimed;
 use crate::stops::Stop;
 use aioc_tokens::{Lexed, Punctuator, Sort};
 use dioc_terms::{Items, Memory, Name, Role, Rule, Value, Values};
-use limits::MOST_BRACKETS;
 use expr_syntax::{GREATEST, constant_at, name_at, number_at};
+use limits::MOST_BRACKETS;
 use rule_syntax::{binding_at, change_at, rule_at};
 use std::alloc::Global;
 
@@ -48,7 +49,7 @@ pub fn rules_at(
     ensures found { IfOk result (λ next. TakesItems (IsRule version inside_limit) text.now at
         (map plain_rule rules.old.items) (map plain_rule rules.new.items) next) }
     ensures stopped { IfErr result (λ stop. stop ≢ Stop.Memory →
-        NoItems (IsRule version inside_limit) (drop at text.now)) }
+        EndsAmong (IsRule version inside_limit) text.now at (place_in stop)) }
 {
     let mut next = at;
     while !text.has(next, CLOSING) {
@@ -98,7 +99,7 @@ pub fn environment_at(
     ensures found { IfOk result (λ next.
         TakesItems IsBound text.now at env.old.items env.new.items next) }
     ensures stopped { IfErr result (λ stop. stop ≢ Stop.Memory →
-        NoItems IsBound (drop at text.now)) }
+        EndsAmong IsBound text.now at (place_in stop)) }
 {
     let mut next = at;
     while !text.has(next, CLOSING) {
@@ -176,7 +177,7 @@ pub fn inputs_at(
     ensures found { IfOk result (λ next.
         TakesItems IsInput text.now at inputs.old.items inputs.new.items next) }
     ensures stopped { IfErr result (λ stop. stop ≢ Stop.Memory →
-        NoItems IsInput (drop at text.now)) }
+        EndsAmong IsInput text.now at (place_in stop)) }
 {
     let mut next = at;
     while !text.has(next, CLOSING) {
@@ -231,7 +232,7 @@ pub fn script_at(
     ensures found { IfOk result (λ next. TakesItems (IsTimed version) text.now at
         (map plain_timed script.old.items) (map plain_timed script.new.items) next) }
     ensures stopped { IfErr result (λ stop. stop ≢ Stop.Memory →
-        NoItems (IsTimed version) (drop at text.now)) }
+        EndsAmong (IsTimed version) text.now at (place_in stop)) }
 {
     let mut next = at;
     while !text.has(next, CLOSING) {

@@ -1,28 +1,34 @@
 //! From the bytes of a text to its bundle.
 
-ghost use Rattle.std.specs.Prelude.{◌≡◌, ◌≢◌, ◌≤◌, [], length, IfOk, IfErr};
+ghost use Rattle.std.specs.Prelude.{◌≡◌, ◌≢◌, ◌≤◌, ℕ, [], length, Err, IfOk, IfErr};
 ghost use Rattle.dioc_terms.specs.Bundles.{IsFormed};
 ghost use Rattle.limits.specs.Limits.{greatest_place};
-ghost use Rattle.dioc_terms.specs.Plain.{PlainBundle, plain};
+ghost use Rattle.dioc_terms.specs.Plain.{plain};
 ghost use Rattle.bundle_text.specs.Grammar.{IsBundle, Spells, SpellsNone};
 ghost use Rattle.bundle_text.specs.Readers.{FindsVersion};
+ghost use Rattle.bundle_text.specs.Stops.{place_in, EndsAt, EndsAtByte};
 
 use crate::bundles::bundle_of;
 use crate::sections::sections_at;
 use crate::stops::Stop;
 use aioc_tokens::{Lexed, TokenFault, place, tokens};
 use dioc_terms::{Bundle, SyntaxFault};
-use limits::MOST_BYTES;
 use expr_syntax::number_at;
+use limits::MOST_BYTES;
 use std::alloc::Global;
 
 /// The bundle that the bytes spell.
 ///
-/// The error is `Syntax` exactly where they spell none: its number is a byte near which the grammar
-/// wanted something else. It is `Memory` where memory runs out.
+/// The error is `Syntax` exactly where they spell none. Its number is the byte at which the reading
+/// ended: the limit of bytes where there are more, the first byte that is in no token, or the first
+/// of the token where something else was wanted: a word of a section with its `{`, an item of a
+/// section or its `}`, a first choreography or trace; or the end of the text where a choreography
+/// is missing. It is `Memory` where memory runs out.
 pub fn read_bundle(alloc: Global, bytes: &[u8]) -> Result<Bundle, SyntaxFault>
     ensures found { IfOk result (λ b. Spells bytes.now (plain b)) }
     ensures syntax { IfErr result (λ fault. fault ≢ SyntaxFault.Memory → SpellsNone bytes.now) }
+    ensures byte { (byte : ℕ) → result ≡ Err (SyntaxFault.Syntax byte) →
+        EndsAtByte bytes.now byte }
     ensures formed { IfOk result (λ b. IsFormed (plain b)) }
 {
     if bytes.len() > MOST_BYTES {
@@ -49,7 +55,7 @@ fn bundle_at(alloc: Global, text: &Lexed<'_>) -> Result<Bundle, Stop>
     requires { length text.now ≤ greatest_place }
     ensures found { IfOk result (λ b. IsBundle text.now (plain b) []) }
     ensures stopped { IfErr result (λ stop. stop ≢ Stop.Memory →
-        (b : PlainBundle) → IsBundle text.now b [] → ⊥) }
+        EndsAt text.now (place_in stop)) }
 {
     let (version, at) = version_at(text);
     let parts = sections_at(alloc, text, version, at)?;

@@ -5,7 +5,8 @@ ghost use Rattle.aioc_tokens.specs.declared.words.Punctuator.{Punctuator};
 ghost use Rattle.aioc_tokens.specs.declared.words.Sort.{Sort};
 ghost use Rattle.aioc_tokens.specs.Lexemes.{Lexeme, sort_of};
 ghost use Rattle.limits.specs.Limits.{greatest_place};
-ghost use Rattle.bundle_text.specs.Readers.{found_in, TakesSection, NoSection, TakesSections, NoSections, ChoreographyTaken, NoChoreography, TraceTaken, NoTrace};
+ghost use Rattle.bundle_text.specs.Readers.{found_in, TakesSection, TakesSections, ChoreographyTaken, TraceTaken, NoTrace};
+ghost use Rattle.bundle_text.specs.Stops.{place_in, EndsInChoreography, EndsInSection, EndsAmongSections};
 
 use crate::items::{INSIDE_LIMIT, environment_at, inputs_at, rules_at, script_at};
 use crate::parts::Parts;
@@ -33,7 +34,7 @@ fn choreography_at(
     requires { length text.now ≤ greatest_place }
     ensures found { IfOk result (λ read. ChoreographyTaken version text.now at read.0 read.1) }
     ensures stopped { IfErr result (λ stop. stop ≢ Stop.Memory →
-        NoChoreography version (drop at text.now)) }
+        EndsInChoreography version text.now at (place_in stop)) }
 {
     let reader = Reader {
         alloc,
@@ -80,7 +81,7 @@ fn section_at(
     ensures found { IfOk result (λ next.
         TakesSection version text.now at (found_in parts.old) (found_in parts.new) next) }
     ensures stopped { IfErr result (λ stop. stop ≢ Stop.Memory →
-        NoSection version (drop at text.now) (found_in parts.old)) }
+        EndsInSection version text.now at (found_in parts.old) (place_in stop)) }
 {
     if text.begins(at, &CHOREOGRAPHY) {
         if parts.choreo.is_some() {
@@ -116,7 +117,8 @@ fn section_at(
 fn lines_at(alloc: Global, text: &Lexed<'_>, at: usize) -> Result<(Trace, usize), Stop>
     requires { length text.now ≤ greatest_place }
     ensures found { IfOk result (λ read. TraceTaken text.now at read.0 read.1) }
-    ensures stopped { IfErr result (λ stop. stop ≢ Stop.Memory → NoTrace (drop at text.now)) }
+    ensures stopped { IfErr result (λ stop. stop ≢ Stop.Memory →
+        (place_in stop ≡ at) × NoTrace (drop at text.now)) }
 {
     match trace_at(alloc, text, at) {
         Ok((trace, closes)) => Ok((trace, closes + 1)),
@@ -139,7 +141,7 @@ fn trace_section_at(
     ensures found { IfOk result (λ next. (version : ℕ) →
         TakesSection version text.now at (found_in parts.old) (found_in parts.new) next) }
     ensures stopped { IfErr result (λ stop. stop ≢ Stop.Memory → (version : ℕ) →
-        NoSection version (drop at text.now) (found_in parts.old)) }
+        EndsInSection version text.now at (found_in parts.old) (place_in stop)) }
 {
     if parts.trace.is_some() {
         return Err(Stop::At(at));
@@ -159,7 +161,7 @@ pub fn sections_at(alloc: Global, text: &Lexed<'_>, version: u32, at: usize) -> 
     ensures found { IfOk result (λ parts.
         TakesSections version (drop at text.now) (found_in parts)) }
     ensures stopped { IfErr result (λ stop. stop ≢ Stop.Memory →
-        NoSections version (drop at text.now)) }
+        EndsAmongSections version text.now at (place_in stop)) }
 {
     let mut parts = Parts::new(alloc);
     let mut next = at;

@@ -14,7 +14,7 @@ use dioc_terms::{
 };
 use expr_syntax::write_value;
 use rule_syntax::write_rule;
-use text_pieces::{write_bytes, write_number};
+use text_pieces::{cut_back, write_bytes, write_number};
 use trace_text::{write_last, write_line};
 
 /// Appends the text of a bundle: its sections in the order aioc, rules, env, inputs, script, trace,
@@ -28,11 +28,8 @@ pub fn write_bundle(bundle: &Bundle, out: &mut Vec<u8>) -> Result<(), Memory>
     ensures memory { OnErr result (out.new.items ≡ out.old.items) }
 {
     let start = out.len();
-    let result = write_pieces(bundle, out);
-    if result.is_err() {
-        out.truncate(start);
-    }
-    result
+    let written = write_pieces(bundle, out);
+    cut_back(written, start, out)
 }
 
 fn write_pieces(bundle: &Bundle, out: &mut Vec<u8>) -> Result<(), Memory>

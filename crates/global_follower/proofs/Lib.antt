@@ -1,5 +1,7 @@
 pub mod BookLemmas
+pub mod FollowLemmas
 pub mod PlayLemmas
+pub mod RuleLemmas
 pub mod ScopeLemmas
-pub mod StillLemmas
+pub mod Stills
 pub mod StoreLemmas

@@ -1,45 +1,51 @@
--- How what is left plays an entry.
-use Rattle.std.proofs.Common.{◌≡◌, ℕ, List, [], Bool, true, false, Option, Some, None, refl, sym, ap, ◌∙◌, subst}
+-- How a sequence and a parallel play an entry, by what their parts do.
+use Rattle.std.proofs.Common.{◌≡◌, ℕ, List, true, false, ◌&&◌, not, Option, Some, None, refl, ◌∙◌}
 use Rattle.dioc_terms.specs.declared.names.Role.{Role}
+use Rattle.dioc_terms.specs.declared.processes.ScopeHead.{ScopeHead}
 use Rattle.dioc_terms.specs.declared.entries.Entry.{Entry}
-use Rattle.dioc_terms.specs.Attempts.{Attempt, Stuck, Does, orelse, under, when}
-use Rattle.dioc_terms.specs.Plain.{PlainRule, Setting}
-use Rattle.dioc_terms.specs.Rules.{Book}
+use Rattle.dioc_terms.specs.Attempts.{Attempt, Stuck, under}
+use Rattle.dioc_terms.specs.Messages.{doer}
 use Rattle.dioc_terms.specs.Stores.{Store}
-use Rattle.global_steps.specs.Follow.{Effect, State, book_choice, plays, follow_role}
-use Rattle.global_steps.specs.Laws.{PlaysGoOn}
-use Rattle.global_steps.specs.Running.{Running, ended}
+use Rattle.dioc_terms.specs.Terms as term
+use Rattle.dioc_terms.specs.Terms.{Term, empty, stamped}
+use Rattle.std.proofs.lemmas.Bool.{and_left}
+use Rattle.global_steps.specs.Follow.{BookChoice, Effect, is_doer_due, plays}
+use Rattle.global_steps.specs.Running.{Running, Seq, started, light}
+use Rattle.global_follower.proofs.Stills.{light_still, nobody_due}
 
-none_some : {A : Type 0} {x : A} → None ≡ Some x → ⊥
-none_some h = cc
-
--- where nothing is left no entry is played
-pub ended_plays : PlaysGoOn → (cast : List Role) (rules : List PlainRule) (stores : Role → Store)
-    (book : Book) (updates : ℕ) (G : Running) (e : Entry) → ended G ≡ true
-    → plays cast stores (λ head. book_choice rules book head (stores head.leader)) updates G e
-    ≡ Stuck
-ended_plays go cast rules stores book updates G e over =
-    stuck (plays cast stores (λ head. book_choice rules book head (stores head.leader)) updates G e)
-    refl
+-- no message is in flight in a part that nobody has begun
+pub none_due : (e : Entry) (I : Term) → is_doer_due e (started I) ≡ false
+none_due e I = by (doer e) refl
   where
-    b : Setting
-    b = record { cast = cast; rules = rules; script = [] }
+    by : (o : Option Role) → doer e ≡ o → is_doer_due e (started I) ≡ false
+    by None at = rw at refl
+    by (Some q) at = rw at (nobody_due q I)
 
-    S : State
-    S = record {
-      running = G;
-      stores = stores;
-      book = book;
-      updates = updates;
-      changes = 0;
-      entries = 0;
-    }
+module _ (cast : List Role) (stores : Role → Store) (choices : ScopeHead → BookChoice) (updates : ℕ)
+    (e : Entry) where
+  -- the first part of a sequence keeps the second one waiting
+  pub seq_waits : (G H : Running) → Stuck ≡ plays cast stores choices updates G e
+      → (light G && not (is_doer_due e G)) ≡ false
+      → Stuck ≡ plays cast stores choices updates (Seq G H) e
+  seq_waits G H is waits = rw (← is, waits) refl
 
-    stuck : (m : Attempt Effect Running)
-        → plays cast stores (λ head. book_choice rules book head (stores head.leader)) updates G e
-        ≡ m → m ≡ Stuck
-    stuck Stuck is = refl
-    stuck (Does effect H) is =
-        let none : follow_role b S (record { 0 = [] }) e ≡ None = go.over b S (record { 0 = [] }) e
-        over in
-        absurd (none_some (rw is at none))
+  -- the same of a sequence that nobody has begun
+  pub waits : (n level : ℕ) (I J : Term)
+      → Stuck ≡ plays cast stores choices updates (started (stamped I n level)) e
+      → empty I ≡ false
+      → Stuck ≡ plays cast stores choices updates (started (stamped (term.Seq I J) n level)) e
+  waits n level I J is full =
+      seq_waits (started (stamped I n level)) (started (stamped J n level)) is
+      (and_left _ _ (light_still n level I ∙ full))
+
+  pub still_second : (n level : ℕ) (I J K : Term) (whole part : Attempt Effect Running)
+      → Stuck ≡ plays cast stores choices updates (started (stamped I n level)) e
+      → empty I ≡ true → K ≡ stamped I n level
+      → part ≡ plays cast stores choices updates (started (stamped J n level)) e
+      → whole ≡ under (Seq (started K)) part
+      → whole ≡ plays cast stores choices updates (started (stamped (term.Seq I J) n level)) e
+  still_second n level I J K whole part is no_first same played around =
+      let all_light : light (started (stamped I n level)) ≡ true = light_still n level I ∙ no_first in
+      let due : is_doer_due e (started (stamped I n level)) ≡ false =
+      none_due e (stamped I n level) in
+      around ∙ rw (← is, all_light, due, ← played, same) refl

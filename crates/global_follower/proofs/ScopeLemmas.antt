@@ -7,14 +7,17 @@ use Rattle.dioc_terms.specs.declared.entries.Chosen.{Chosen}
 use Rattle.dioc_terms.specs.declared.entries.Chosen.TheVariants as chosen
 use Rattle.dioc_terms.specs.declared.entries.Entry.{Entry}
 use Rattle.dioc_terms.specs.declared.entries.Entry.TheVariants as entry
-use Rattle.dioc_terms.specs.Attempts.{Attempt, Stuck, Does, when}
+use Rattle.dioc_terms.specs.Attempts.{Stuck, Does, when}
 use Rattle.dioc_terms.specs.Equality.{chosen_eq, entry_eq}
 use Rattle.dioc_terms.specs.Plain.{PlainRule}
 use Rattle.dioc_terms.specs.Rules.{Book, choose}
 use Rattle.dioc_terms.specs.Stores.{Store}
-use Rattle.dioc_terms.specs.Terms.{Term, stamped}
+use Rattle.dioc_terms.specs.declared.values.Value.{Value}
+use Rattle.dioc_terms.specs.Terms as term
+use Rattle.dioc_terms.specs.Terms.{Term, head_of, is_in, stamped}
 use Rattle.global_follower.specs.Scopes.{choice_of, chosen_body, entered}
-use Rattle.global_steps.specs.Follow.{BookChoice, KeepsBody, TakesRule, Effect, Leaves, book_choice, scope_plays}
+use Rattle.global_steps.specs.Follow.{BookChoice, KeepsBody, TakesRule, Leaves, book_choice, plays, scope_plays}
+use Rattle.global_steps.specs.Running as runs
 use Rattle.global_steps.specs.Running.{Running, Bar, started}
 
 -- the book's choice by the number of the rule
@@ -63,3 +66,26 @@ module _ (cast : List Role) (stores : Role → Store) (choices : ScopeHead → B
   scope_stuck (TakesRule name body) shows =
       ap (λ test. when test (Does Leaves (Bar roles (started (stamped body (suc updates)
       (suc level)))))) (shows (chosen.Rule name (suc updates)))
+
+-- how a scope plays, by what its leader's book and the entry show
+module _ (cast : List Role) (rules : List PlainRule) (stores : Role → Store) (book : Book)
+    (updates : ℕ) (i : Index) (r : Role) (I : Term) (extra : List Role)
+    (props : List (List ℕ × Value)) (level : ℕ) (e : Entry) where
+  pub scope_played : (shown : Chosen) (head : ScopeHead) (rule : Option ℕ) (body : Option Term)
+      → head ≡ head_of cast i r I extra props level
+      → rule ≡ choose rules book head (stores r)
+      → ((c : Chosen) → entry_eq e (entry.Scope i r c) ≡ chosen_eq shown c)
+      → body ≡ chosen_body shown (choice_of rules rule) I updates level
+      → entered (λ q. is_in q (term.Scope i r I extra props level)) body
+      ≡ plays cast stores (λ h. book_choice rules book h (stores h.leader)) updates
+      (runs.Scope i r I extra props level) e
+  scope_played shown head rule body is_head is_rule shows is_body =
+      let roles : Role → Bool = λ q. is_in q (term.Scope i r I extra props level) in
+      let seen : ScopeHead = head_of cast i r I extra props level in
+      ap (entered roles) (is_body
+      ∙ ap (λ (n : Option ℕ). chosen_body shown (choice_of rules n) I updates level)
+      (is_rule ∙ ap (λ (h : ScopeHead). choose rules book h (stores r)) is_head)
+      ∙ ap (λ (c : BookChoice). chosen_body shown c I updates level)
+      (sym (book_choice-number rules book seen (stores r))))
+      ∙ sym (scope_entered cast stores (λ h. book_choice rules book h (stores h.leader)) updates i r
+      I roles level e shown (book_choice rules book seen (stores r)) shows)

@@ -8,7 +8,7 @@ use Rattle.global_steps.specs.Follow.{State}
 
 -- what every step reads of the bundle
 abbrev pub setting_of : Follower → Setting
-setting_of follower = setting (plain follower.bundle.now)
+setting_of follower = setting (plain follower.rules.bundle.now)
 
 abbrev pub state_of : Follower → State
 state_of follower = record {

@@ -1,3 +1,4 @@
+pub mod Conditions
 pub mod KeptBooks
 pub mod KeptEffects
 pub mod KeptPlays
@@ -6,3 +7,4 @@ pub mod KeptStores
 pub mod Playing
 pub mod Scopes
 pub mod Shown
+pub mod StoreMaps

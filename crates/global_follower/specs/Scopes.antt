@@ -14,14 +14,15 @@ abbrev pub is_scope : Term → Bool
 is_scope (Scope i r I extra props level) = true
 is_scope _ = false
 
--- what the book says, where it chooses the rule of this number or none
+-- what the book says, where it chooses this rule or none
+abbrev pub choice_by : Option PlainRule → BookChoice
+choice_by None = KeepsBody
+choice_by (Some rule) = TakesRule rule.name rule.body
+
+-- where it chooses the rule of this number or none
 abbrev pub choice_of : List PlainRule → Option ℕ → BookChoice
 choice_of rules None = KeepsBody
-choice_of rules (Some m) = of_rule (slice_get rules m)
-  where
-    of_rule : Option PlainRule → BookChoice
-    of_rule None = KeepsBody
-    of_rule (Some rule) = TakesRule rule.name rule.body
+choice_of rules (Some m) = choice_by (slice_get rules m)
 
 -- The body that is played where the leader chose what the book says: the scope's own, or the rule's
 -- as the next update, one level higher. The choice that is shown, the book's, the scope's body, the

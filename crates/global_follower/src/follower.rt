@@ -1,9 +1,6 @@
 //! A choreography that follows a trace.
 
-ghost use Rattle.std.specs.Prelude.{◌≡◌, ◌≤◌};
-ghost use Rattle.dioc_terms.specs.Bundles.{IsFormed};
-ghost use Rattle.dioc_terms.specs.Plain.{plain};
-ghost use Rattle.global_follower.specs.KeptBooks.{rules_of};
+ghost use Rattle.std.specs.Prelude.{◌≤◌};
 
 use crate::books::PlainBook;
 use crate::plays::{Scene, play};
@@ -41,7 +38,6 @@ impl From<Memory> for FollowFault {
 /// updates, changes and entries there were. It borrows the bundle, and copies none of its texts.
 #[derive(Drop)]
 pub struct Follower<'a> {
-    bundle: &'a Bundle,
     rules: RuleList<'a>,
     running: Running<'a>,
     stores: Stores,
@@ -49,8 +45,6 @@ pub struct Follower<'a> {
     updates: u64,
     changes: u64,
     entries: u64,
-    ghost formed: { IsFormed (plain bundle.now) },
-    ghost rules_are: { rules_of rules ≡ (plain bundle.now).rules },
     ghost fewer_updates: { updates ≤ entries },
     ghost fewer_changes: { changes ≤ entries },
 }
@@ -72,12 +66,11 @@ impl<'a> Follower<'a> {
         ensures start { IfOk result (λ follower. state_of follower
             ≡ play_start (plain bundle.now)) }
     {
-        let rules = RuleList::new(bundle.rules.as_slice());
+        let rules = RuleList::new(bundle);
         let stores = Stores::opening(alloc, bundle.inputs.as_slice())?;
         let book = PlainBook::opening(alloc, rules, bundle.opening, &bundle.env)?;
         let marks = Marks { epoch: 0, level: 0 };
         Ok(Follower {
-            bundle,
             rules,
             running: Running::Still(marks.part(&bundle.choreo)),
             stores,
@@ -116,7 +109,7 @@ impl<'a> Follower<'a> {
         ensures same { OnErr result (state_of self.new ≡ state_of self.old) }
     {
         self.stores.make_ready(alloc, role)?;
-        let bundle = self.bundle;
+        let bundle = self.rules.bundle;
         let scene = Scene {
             cast: bundle.cast.as_slice(),
             stores: &self.stores,
@@ -146,7 +139,7 @@ impl<'a> Follower<'a> {
             (state_of self.old) entry.now ≡ None }
         ensures same { OnErr result (state_of self.new ≡ state_of self.old) }
     {
-        let bundle = self.bundle;
+        let bundle = self.rules.bundle;
         match bundle.script.as_slice().get(self.changes as usize) {
             None => Err(FollowFault::Stray),
             Some(timed) => {

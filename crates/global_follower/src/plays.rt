@@ -1,7 +1,6 @@
 //! How an entry is played by what is left of a choreography.
 
-ghost use Rattle.std.specs.Prelude.{◌≡◌, ℕ, true, None, Some, IfOk, OnErr, if◌then◌else◌};
-ghost use Rattle.std.specs.Option.{option_map};
+ghost use Rattle.std.specs.Prelude.{◌≡◌, ◌&&◌, not, true, None, Some, IfOk, OnErr};
 ghost use Rattle.dioc_terms.specs.Attempts.{under};
 ghost use Rattle.dioc_terms.specs.Expressions.{expression};
 ghost use Rattle.dioc_terms.specs.Terms.{term, roles_in, is_in};
@@ -9,7 +8,8 @@ ghost use Rattle.global_follower.specs.declared.effects.Effect.TheVariants as ef
 ghost use Rattle.global_follower.specs.KeptBooks.{rules_of};
 ghost use Rattle.global_follower.specs.KeptRunning.{flying, marked, part_term, running};
 ghost use Rattle.global_follower.specs.Playing.{attempt_of, done, is_whole, plays_alone, plays_in, plays_itself};
-ghost use Rattle.global_steps.specs.Running.{started};
+ghost use Rattle.global_steps.specs.Follow.{is_doer_due};
+ghost use Rattle.global_steps.specs.Running.{light, started};
 ghost use Rattle.global_steps.specs.Running as runs;
 
 use crate::books::PlainBook;
@@ -43,6 +43,7 @@ pub(crate) struct Scene<'s> {
 
 /// Plays the entry, where what is left plays it. Otherwise, and after want of memory, what is left
 /// stays as it was.
+#[tactic(auto, using(crate::proofs::PlayLemmas::seq_waits))]
 pub(crate) fn play<'a>(
     alloc: Global,
     left: &mut Running<'a>,
@@ -50,7 +51,7 @@ pub(crate) fn play<'a>(
     scene: &Scene<'_>,
 ) -> Result<Option<Effect>, Memory>
     ensures played { IfOk result (λ effect. done effect (running left.new)
-        ≡ plays_in (rules_of rules) scene.now (running left.old)) }
+        ≡ plays_in (rules_of rules.entry) scene.now (running left.old)) }
     ensures stays { IfOk result (λ effect. effect ≡ None → running left.new ≡ running left.old) }
     ensures same { OnErr result (running left.new ≡ running left.old) }
 {
@@ -59,25 +60,41 @@ pub(crate) fn play<'a>(
         return Ok(replace(left, played));
     }
     match left {
-        Running::Seq(first, second) => {
+        Running::Seq(first, _) => {
+            let first: &mut Running<'a> = first;
             if let Some(effect) = play(alloc, first, rules, scene)? {
                 return Ok(Some(effect));
             }
-            if is_light(first) && !is_doer_due(scene.entry, first) {
-                return play(alloc, second, rules, scene);
+            if !lets_on(first, scene.entry) {
+                return Ok(None);
             }
-            Ok(None)
+            match left {
+                Running::Seq(_, second) => play(alloc, second, rules, scene),
+                _ => unreachable!(),
+            }
         }
-        Running::Par(left, right) => {
-            if let Some(effect) = play(alloc, left, rules, scene)? {
+        Running::Par(one, _) => {
+            if let Some(effect) = play(alloc, one, rules, scene)? {
                 return Ok(Some(effect));
             }
-            play(alloc, right, rules, scene)
+            match left {
+                Running::Par(_, other) => play(alloc, other, rules, scene),
+                _ => unreachable!(),
+            }
         }
         Running::Bar(_, inside) => play(alloc, inside, rules, scene),
         Running::Again(_, inside) => play(alloc, inside, rules, scene),
         _ => unreachable!(),
     }
+}
+
+/// Whether the entry may be played after this part: nothing is left of it but messages in flight,
+/// none of them for the role of the entry.
+fn lets_on(first: &Running<'_>, entry: &Entry) -> bool
+    ensures { result ≡ (light (running first.now) && not (is_doer_due entry.now
+        (running first.now))) }
+{
+    is_light(first) && !is_doer_due(entry, first)
 }
 
 /// Whether it plays an entry itself, and no part of it does: it is a leaf, or a loop whose turn has
@@ -94,7 +111,7 @@ fn plays_itself(left: &Running<'_>) -> bool
 
 /// Puts what is left in the place of what was there.
 fn replace<'a>(left: &mut Running<'a>, played: Option<Played<'a>>) -> Option<Effect>
-    ensures played { done result (running left.new) ≡ attempt_of played }
+    ensures played { done result (running left.new) ≡ attempt_of played.entry }
     ensures stays { result ≡ None → running left.new ≡ running left.old }
 {
     match played {
@@ -107,7 +124,6 @@ fn replace<'a>(left: &mut Running<'a>, played: Option<Played<'a>>) -> Option<Eff
 }
 
 /// How a leaf, or a loop whose turn has ended, plays the entry.
-#[tactic(auto, using(crate::proofs::StillLemmas::ended_plays_nothing))]
 fn play_whole<'a>(
     alloc: Global,
     whole: &Running<'a>,
@@ -116,7 +132,7 @@ fn play_whole<'a>(
 ) -> Result<Option<Played<'a>>, Memory>
     requires { plays_itself whole.now ≡ true }
     ensures { IfOk result (λ played. attempt_of played
-        ≡ plays_in (rules_of rules) scene.now (running whole.now)) }
+        ≡ plays_in (rules_of rules.entry) scene.now (running whole.now)) }
 {
     match whole {
         Running::Skip => Ok(None),
@@ -128,6 +144,7 @@ fn play_whole<'a>(
 }
 
 /// How a part that nobody has begun plays the entry.
+#[tactic(auto, using(crate::proofs::PlayLemmas::waits, crate::proofs::PlayLemmas::still_second))]
 fn play_part<'a>(
     alloc: Global,
     choreo: &'a Choreo,
@@ -136,25 +153,25 @@ fn play_part<'a>(
     scene: &Scene<'_>,
 ) -> Result<Option<Played<'a>>, Memory>
     ensures { IfOk result (λ played. attempt_of played
-        ≡ plays_in (rules_of rules) scene.now (started (marked choreo.now marks))) }
+        ≡ plays_in (rules_of rules.entry) scene.now (started (marked choreo.now marks))) }
 {
     match choreo {
         Choreo::Seq(first, second) => {
             if let Some(played) = play_part(alloc, first, marks, rules, scene)? {
-                return in_first(alloc, played, marks.part(second));
+                return in_first(alloc, played, marks.inside(second));
             }
             if !is_empty(first) {
                 return Ok(None);
             }
             let played = play_part(alloc, second, marks, rules, scene)?;
-            in_second(alloc, marks.part(first), played)
+            in_second(alloc, marks.inside(first), played)
         }
         Choreo::Par(left, right) => {
             if let Some(played) = play_part(alloc, left, marks, rules, scene)? {
-                return in_left(alloc, played, marks.part(right));
+                return in_left(alloc, played, marks.inside(right));
             }
             let played = play_part(alloc, right, marks, rules, scene)?;
-            in_right(alloc, marks.part(left), played)
+            in_right(alloc, marks.inside(left), played)
         }
         construct => play_construct(alloc, construct, marks, rules, scene),
     }
@@ -170,7 +187,7 @@ fn play_construct<'a>(
 ) -> Result<Option<Played<'a>>, Memory>
     requires { is_whole (term construct.now) ≡ true }
     ensures { IfOk result (λ played. attempt_of played
-        ≡ plays_in (rules_of rules) scene.now (started (marked construct.now marks))) }
+        ≡ plays_in (rules_of rules.entry) scene.now (started (marked construct.now marks))) }
 {
     match construct {
         Choreo::Skip => Ok(None),
@@ -212,8 +229,8 @@ fn play_construct<'a>(
                 index,
                 leader,
                 guard,
-                marks.part(yes),
-                marks.part(no),
+                marks.inside(yes),
+                marks.inside(no),
                 scene,
             )
         }
@@ -227,7 +244,7 @@ fn play_construct<'a>(
                 index: marks.of(*index),
                 leader,
                 guard,
-                body: marks.part(body),
+                body: marks.inside(body),
             };
             play_loop(alloc, turn, scene)
         }
@@ -245,8 +262,8 @@ fn play_sending<'a>(
     scene: &Scene<'_>,
 ) -> Result<Option<Played<'a>>, Memory>
     ensures { IfOk result (λ played. attempt_of played
-        ≡ plays_alone scene.now (runs.Com message.index message.op.now message.from.now
-        (expression expr.now) message.to.now var.now)) }
+        ≡ plays_alone scene.now (runs.Com message.entry.index message.entry.op.now
+        message.entry.from.now (expression expr.now) message.entry.to.now var.now)) }
 {
     let store = scene.stores.of(message.from);
     match put_value(alloc, scene.entry, message, expr, store)? {
@@ -268,7 +285,8 @@ fn play_landing<'a>(
     flight: &Flight<'a>,
     scene: &Scene<'_>,
 ) -> Result<Option<Played<'a>>, Memory>
-    ensures { IfOk result (λ played. attempt_of played ≡ plays_alone scene.now (flying flight.now)) }
+    ensures { IfOk result (λ played. attempt_of played
+        ≡ plays_alone scene.now (flying flight.now)) }
 {
     if !is_take(scene.entry, flight.message, flight.var) {
         return Ok(None);
@@ -333,8 +351,8 @@ fn play_choice<'a>(
     scene: &Scene<'_>,
 ) -> Result<Option<Played<'a>>, Memory>
     ensures { IfOk result (λ played. attempt_of played
-        ≡ plays_alone scene.now (runs.If index leader.now (expression guard.now) (part_term yes)
-        (part_term no))) }
+        ≡ plays_alone scene.now (runs.If index leader.now (expression guard.now)
+        (part_term yes.entry) (part_term no.entry))) }
 {
     let store = scene.stores.of(leader);
     match picked(alloc, scene.entry, index, leader, guard, store)? {
@@ -350,8 +368,8 @@ fn play_loop<'a>(
     scene: &Scene<'_>,
 ) -> Result<Option<Played<'a>>, Memory>
     ensures { IfOk result (λ played. attempt_of played
-        ≡ plays_alone scene.now (runs.While turn.index turn.leader.now (expression turn.guard.now)
-        (part_term turn.body))) }
+        ≡ plays_alone scene.now (runs.While turn.entry.index turn.entry.leader.now
+        (expression turn.entry.guard.now) (part_term turn.entry.body))) }
 {
     let store = scene.stores.of(turn.leader);
     match picked(
@@ -374,7 +392,7 @@ fn play_loop<'a>(
 /// The store stays as it is.
 pub(crate) fn leaves<'a>(left: Running<'a>) -> Played<'a>
     ensures effect { result.effect ≡ effects.Leaves }
-    ensures left { result.left ≡ left }
+    ensures left { running result.left ≡ running left.entry }
 {
     Played {
         effect: Effect::Leaves,
@@ -389,7 +407,8 @@ fn in_first<'a>(
     second: Part<'a>,
 ) -> Result<Option<Played<'a>>, Memory>
     ensures { IfOk result (λ whole. attempt_of whole
-        ≡ under (λ K. runs.Seq K (started (part_term second))) (attempt_of (Some played))) }
+        ≡ under (λ K. runs.Seq K (started (part_term second.entry)))
+        (attempt_of (Some played.entry))) }
 {
     let Played { effect, left } = played;
     let first = new_box(alloc, left)?;
@@ -407,7 +426,7 @@ fn in_second<'a>(
     played: Option<Played<'a>>,
 ) -> Result<Option<Played<'a>>, Memory>
     ensures { IfOk result (λ whole. attempt_of whole
-        ≡ under (runs.Seq (started (part_term first))) (attempt_of played)) }
+        ≡ under (runs.Seq (started (part_term first.entry))) (attempt_of played.entry)) }
 {
     match played {
         None => Ok(None),
@@ -429,7 +448,8 @@ fn in_left<'a>(
     right: Part<'a>,
 ) -> Result<Option<Played<'a>>, Memory>
     ensures { IfOk result (λ whole. attempt_of whole
-        ≡ under (λ K. runs.Par K (started (part_term right))) (attempt_of (Some played))) }
+        ≡ under (λ K. runs.Par K (started (part_term right.entry)))
+        (attempt_of (Some played.entry))) }
 {
     let Played { effect, left } = played;
     let left = new_box(alloc, left)?;
@@ -447,7 +467,7 @@ fn in_right<'a>(
     played: Option<Played<'a>>,
 ) -> Result<Option<Played<'a>>, Memory>
     ensures { IfOk result (λ whole. attempt_of whole
-        ≡ under (runs.Par (started (part_term left))) (attempt_of played)) }
+        ≡ under (runs.Par (started (part_term left.entry))) (attempt_of played.entry)) }
 {
     match played {
         None => Ok(None),

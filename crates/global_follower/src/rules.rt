@@ -1,53 +1,55 @@
 //! The rules of a bundle, by their numbers.
 
-ghost use Rattle.std.specs.Prelude.{◌≡◌, map, All};
+ghost use Rattle.std.specs.Prelude.{◌≡◌, true};
 ghost use Rattle.std.specs.List.{list_all};
-ghost use Rattle.dioc_terms.specs.Bundles.{IsFormedRule};
 ghost use Rattle.dioc_terms.specs.Equality.{member};
-ghost use Rattle.dioc_terms.specs.Plain.{plain_rule};
+ghost use Rattle.dioc_terms.specs.Plain.{plain};
 ghost use Rattle.dioc_terms.specs.Terms.{mentions, term};
+ghost use Rattle.global_follower.specs.Conditions.{joins_nothing};
 
 use dioc_terms::{
-    Choreo, Name, Role, Rule, ScopeHead, Store, Value, conditions_join_nothing, test,
+    Bundle, Choreo, Name, Role, Rule, ScopeHead, Store, Value, conditions_join_nothing, test,
 };
 
 /// A scope of this level or above is replaced no more.
 const LEVEL_LIMIT: u32 = 16;
 
-/// The rules of a formed bundle, by their numbers.
+/// The rules of a bundle, by their numbers. Their conditions join no texts.
 #[derive(Clone, Copy)]
 pub(crate) struct RuleList<'a> {
-    rules: &'a [Rule],
-    ghost formed: { All IsFormedRule (map plain_rule rules.now) },
+    pub bundle: &'a Bundle,
+    ghost join_nothing: { list_all joins_nothing (plain bundle.now).rules ≡ true },
 }
 
 impl<'a> RuleList<'a> {
-    ghost use Rattle.std.specs.Prelude.{◌≡◌, map, option_map, slice_get, All};
+    ghost use Rattle.std.specs.Prelude.{◌≡◌, option_map, slice_get, All};
     ghost use Rattle.dioc_terms.specs.Bundles.{IsFormedRule};
     ghost use Rattle.dioc_terms.specs.KeptStores.{store_of};
-    ghost use Rattle.dioc_terms.specs.Plain.{plain_rule};
+    ghost use Rattle.dioc_terms.specs.Plain.{plain, plain_rule};
     ghost use Rattle.dioc_terms.specs.Rules.{fits, is_named, no_lower};
     ghost use Rattle.global_follower.specs.KeptBooks.{book_in, rules_of};
 
-    /// The list of these rules.
-    pub(crate) fn new(rules: &'a [Rule]) -> RuleList<'a>
-        requires { All IsFormedRule (map plain_rule rules.now) }
-        ensures { rules_of result ≡ map plain_rule rules.now }
+    /// The rules of the bundle, which are formed.
+    #[tactic(auto, using(crate::proofs::RuleLemmas::formed_join_nothing))]
+    pub(crate) fn new(bundle: &'a Bundle) -> RuleList<'a>
+        requires { All IsFormedRule (plain bundle.now).rules }
+        ensures { plain result.bundle.now ≡ plain bundle.now }
     {
-        RuleList { rules }
+        conditions_join_nothing();
+        RuleList { bundle }
     }
 
     /// The rule of that number, `None` exactly where there is none.
     pub(crate) fn get(self, number: u32) -> Option<&'a Rule>
         ensures { option_map (λ rule. plain_rule rule.now) result
-            ≡ slice_get (rules_of self) number }
+            ≡ slice_get (rules_of self.entry) number }
     {
-        self.rules.get(number as usize)
+        self.bundle.rules.as_slice().get(number as usize)
     }
 
     /// Whether the rule of that number has that name.
     pub(crate) fn is_named(self, name: &Name, number: u32) -> bool
-        ensures { result ≡ is_named (rules_of self) name.now number }
+        ensures { result ≡ is_named (rules_of self.entry) name.now number }
     {
         match self.get(number) {
             Some(rule) => rule.name == *name,
@@ -57,7 +59,7 @@ impl<'a> RuleList<'a> {
 
     /// Whether rule m has no lower priority than rule n.
     pub(crate) fn no_lower(self, m: u32, n: u32) -> bool
-        ensures { result ≡ no_lower (rules_of self) m n }
+        ensures { result ≡ no_lower (rules_of self.entry) m n }
     {
         match (self.get(m), self.get(n)) {
             (Some(one), Some(other)) => other.priority <= one.priority,
@@ -66,6 +68,7 @@ impl<'a> RuleList<'a> {
     }
 
     /// Whether the rule of that number fits the scope, with the environment and its leader's store.
+    #[tactic(auto, using(crate::proofs::RuleLemmas::no_join_at))]
     pub(crate) fn fits(
         self,
         env: &[(Name, Value)],
@@ -73,10 +76,9 @@ impl<'a> RuleList<'a> {
         store: &Store,
         number: u32,
     ) -> bool
-        ensures { result ≡ fits (rules_of self) (book_in env.now) head.now (store_of store.now)
-            number }
+        ensures { result ≡ fits (rules_of self.entry) (book_in env.now) head.now
+            (store_of store.now) number }
     {
-        conditions_join_nothing();
         match self.get(number) {
             Some(rule) => {
                 test(&rule.cond, store, head.props.as_slice(), env)

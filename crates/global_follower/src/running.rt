@@ -30,12 +30,21 @@ impl Marks {
 
     /// A part of the text.
     pub(crate) fn part<'a>(self, choreo: &'a Choreo) -> Part<'a>
-        ensures { part_term result ≡ marked choreo.now self }
+        ensures text { part_term result ≡ marked choreo.now self }
+        ensures marks { result.marks ≡ self }
     {
         Part {
             choreo,
             marks: self,
         }
+    }
+
+    /// A part of the text that lies in a box.
+    pub(crate) fn inside<'a>(self, part: &'a Box<Choreo>) -> Part<'a>
+        ensures text { part_term result ≡ marked part.now.value self }
+        ensures marks { result.marks ≡ self }
+    {
+        self.part(part)
     }
 }
 
@@ -122,7 +131,7 @@ pub(crate) fn is_light(left: &Running<'_>) -> bool
 }
 
 /// Whether the part has no construct: nothing of it is ever played.
-#[tactic(auto, using(crate::proofs::StillLemmas::ended_still, crate::proofs::StillLemmas::light_still))]
+#[tactic(auto, using(crate::proofs::Stills::ended_still, crate::proofs::Stills::light_still))]
 pub(crate) fn is_empty_part(part: &Part<'_>) -> bool
     ensures ended { result ≡ ended (started (part_term part.now)) }
     ensures light { result ≡ light (started (part_term part.now)) }
@@ -143,7 +152,7 @@ pub(crate) fn is_empty(choreo: &Choreo) -> bool
 }
 
 /// Whether a message in flight is for the role.
-#[tactic(auto, using(crate::proofs::StillLemmas::nobody_due))]
+#[tactic(auto, using(crate::proofs::Stills::nobody_due))]
 pub(crate) fn is_due(role: &Role, left: &Running<'_>) -> bool
     ensures { result ≡ is_due role.now (running left.now) }
 {

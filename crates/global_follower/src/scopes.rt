@@ -1,12 +1,14 @@
 //! How a scope plays the choice of its leader.
 
-ghost use Rattle.std.specs.Prelude.{◌≡◌, ◌==◌, ◌<◌, ◌++◌, ◌∷◌, [], suc, true, IfOk, IfSome, OnOk, if◌then◌else◌, option_map};
-ghost use Rattle.dioc_terms.specs.Equality.{member};
-ghost use Rattle.dioc_terms.specs.Terms.{at_epoch, is_in, roles_in, term};
+ghost use Rattle.std.specs.Prelude.{◌≡◌, ◌==◌, ◌<◌, ◌++◌, ◌∷◌, [], suc, true, None, Some, IfOk, IfSome, OnOk, if◌then◌else◌, option_map};
+ghost use Rattle.dioc_terms.specs.declared.entries.Chosen.TheVariants.{Keep as keeps, Rule as takes};
+ghost use Rattle.dioc_terms.specs.Equality.{chosen_eq, member};
+ghost use Rattle.dioc_terms.specs.Plain.{plain_rule};
+ghost use Rattle.dioc_terms.specs.Terms.{at_epoch, is_in, roles_in, stamped, term};
 ghost use Rattle.global_follower.specs.KeptBooks.{rules_of};
 ghost use Rattle.global_follower.specs.KeptRunning.{marked, part_term};
 ghost use Rattle.global_follower.specs.Playing.{attempt_of, plays_in};
-ghost use Rattle.global_follower.specs.Scopes.{choice_of, chosen_body, entered, is_scope};
+ghost use Rattle.global_follower.specs.Scopes.{choice_by, choice_of, chosen_body, entered, is_scope};
 ghost use Rattle.global_steps.specs.Running.{started};
 
 use crate::plays::{Played, Scene, leaves};
@@ -14,7 +16,8 @@ use crate::rules::RuleList;
 use crate::running::{Marks, Part, Running};
 use crate::shown::choice;
 use dioc_terms::{
-    Bindings, Choreo, Chosen, Index, Items, Memory, Role, Roles, ScopeHead, new_box, stamped_bodies,
+    Bindings, Choreo, Chosen, Index, Items, Memory, Role, Roles, Rule, ScopeHead, new_box,
+    stamped_bodies,
 };
 use std::alloc::Global;
 
@@ -29,7 +32,7 @@ pub(crate) fn play_scope<'a>(
 ) -> Result<Option<Played<'a>>, Memory>
     requires { is_scope (term scope.now) ≡ true }
     ensures { IfOk result (λ played. attempt_of played
-        ≡ plays_in (rules_of rules) scene.now (started (marked scope.now marks))) }
+        ≡ plays_in (rules_of rules.entry) scene.now (started (marked scope.now marks))) }
 {
     match scope {
         Choreo::Scope {
@@ -43,7 +46,7 @@ pub(crate) fn play_scope<'a>(
             Some(shown) => {
                 let head = head(alloc, scope, marks, *index, leader, props, scene.cast)?;
                 let rule = scene.book.choose(rules, &head, scene.stores.of(leader));
-                let body = chosen_body(rules, rule, shown, marks.part(body), scene.updates);
+                let body = chosen_body(rules, rule, shown, marks.inside(body), scene.updates);
                 enter(alloc, marks.part(scope), body)
             }
         },
@@ -58,7 +61,8 @@ fn enter<'a>(
     body: Option<Part<'a>>,
 ) -> Result<Option<Played<'a>>, Memory>
     ensures { IfOk result (λ played. attempt_of played
-        ≡ entered (λ q. is_in q (part_term scope)) (option_map part_term body)) }
+        ≡ entered (λ q. is_in q (part_term scope.entry))
+        (option_map part_term body.entry)) }
 {
     match body {
         None => Ok(None),
@@ -79,27 +83,58 @@ fn chosen_body<'a>(
     updates: u64,
 ) -> Option<Part<'a>>
     requires { IfSome rule (λ number. body.marks.level < 16) }
-    ensures { option_map part_term result ≡ chosen_body shown.now (choice_of (rules_of rules) rule)
-        (part_term body) updates body.marks.level }
+    ensures { option_map part_term result
+        ≡ chosen_body shown.now (choice_of (rules_of rules.entry) rule) (part_term body.entry)
+        updates body.entry.marks.level }
 {
-    match rule.and_then(|number| rules.get(number)) {
-        None => match shown {
-            Chosen::Keep => Some(body),
-            Chosen::Rule { .. } => None,
-        },
-        Some(rule) => match shown {
-            Chosen::Rule { name, epoch } => {
-                if *name != rule.name || !is_next(*epoch, updates) {
-                    return None;
-                }
-                let marks = Marks {
-                    epoch: *epoch,
-                    level: body.marks.level + 1,
-                };
-                Some(marks.part(&rule.body))
+    match chosen_rule(rules, rule) {
+        None => kept_body(shown, body),
+        Some(rule) => new_body(shown, rule, updates, body.marks.level),
+    }
+}
+
+/// The rule of that number, where one is chosen.
+fn chosen_rule<'a>(rules: RuleList<'a>, number: Option<u32>) -> Option<&'a Rule>
+    ensures { choice_of (rules_of rules.entry) number
+        ≡ choice_by (option_map (λ rule. plain_rule rule.now) result) }
+{
+    match number {
+        None => None,
+        Some(number) => rules.get(number),
+    }
+}
+
+/// The scope's own body, where the leader keeps it.
+fn kept_body<'a>(shown: &Chosen, body: Part<'a>) -> Option<Part<'a>>
+    ensures { option_map part_term result
+        ≡ (if chosen_eq shown.now keeps then Some (part_term body.entry) else None) }
+{
+    match shown {
+        Chosen::Keep => Some(body),
+        Chosen::Rule { .. } => None,
+    }
+}
+
+/// The rule's body as the next update, one level above this one, where the leader takes the rule
+/// so.
+fn new_body<'a>(shown: &Chosen, rule: &'a Rule, updates: u64, level: u32) -> Option<Part<'a>>
+    requires { level < 16 }
+    ensures { option_map part_term result
+        ≡ (if chosen_eq shown.now (takes rule.now.name (suc updates))
+        then Some (stamped (term rule.now.body) (suc updates) (suc level)) else None) }
+{
+    match shown {
+        Chosen::Rule { name, epoch } => {
+            if *name != rule.name || !is_next(*epoch, updates) {
+                return None;
             }
-            Chosen::Keep => None,
-        },
+            let marks = Marks {
+                epoch: *epoch,
+                level: level + 1,
+            };
+            Some(marks.part(&rule.body))
+        }
+        Chosen::Keep => None,
     }
 }
 

@@ -1,7 +1,7 @@
 //! Whether an entry shows what a construct does: the construct's index and role, and the very value
 //! that the construct gives.
 
-ghost use Rattle.std.specs.Prelude.{◌≡◌, false, IfOk, None, Some, if◌then◌else◌};
+ghost use Rattle.std.specs.Prelude.{◌≡◌, ◌<◌, false, IfOk, None, Some, if◌then◌else◌};
 ghost use Rattle.std.specs.Option.{option_copied, option_map_or};
 ghost use Rattle.dioc_terms.specs.declared.entries.Chosen.{Chosen as OneChoice};
 ghost use Rattle.dioc_terms.specs.declared.entries.Entry.TheVariants as entries;
@@ -48,7 +48,8 @@ pub(crate) fn put_value(
     store: &Store,
 ) -> Result<Option<Value>, Memory>
     ensures { IfOk result (λ sent. sent ≡ where_shown entry.now
-        (entries.Put (key_of message) (notes.Val (eval (expression expr.now) (store_of store.now))))
+        (entries.Put (key_of message.entry)
+        (notes.Val (eval (expression expr.now) (store_of store.now))))
         (eval (expression expr.now) (store_of store.now))) }
 {
     match entry {
@@ -65,7 +66,7 @@ pub(crate) fn put_value(
 
 /// Whether the entry takes the message into the variable.
 pub(crate) fn is_take(entry: &Entry, message: Message<'_>, var: &Name) -> bool
-    ensures { result ≡ entry_eq entry.now (entries.Take (key_of message) (Some var.now)) }
+    ensures { result ≡ entry_eq entry.now (entries.Take (key_of message.entry) (Some var.now)) }
 {
     match entry {
         Entry::Take { key, var: shown } => is_key_of(key, message) && is_variable(shown, var),
@@ -195,7 +196,7 @@ fn where_true(test: bool, value: Value) -> Option<Value>
 
 /// Whether it is the key of the message.
 fn is_key_of(key: &Key, message: Message<'_>) -> bool
-    ensures { result ≡ key_eq key.now (key_of message) }
+    ensures { result ≡ key_eq key.now (key_of message.entry) }
 {
     key.from == *message.from
         && key.to == *message.to
@@ -242,7 +243,7 @@ fn is_true(value: &Value) -> bool
 
 /// Whether the entry shows the change.
 pub(crate) fn shows(rules: RuleList<'_>, entry: &Entry, change: &Change) -> bool
-    ensures { result ≡ shows (rules_of rules) entry.now change.now }
+    ensures { result ≡ shows (rules_of rules.entry) entry.now change.now }
 {
     match change {
         Change::Add(number) => match rules.get(*number) {

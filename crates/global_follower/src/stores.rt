@@ -1,9 +1,12 @@
 //! The stores of all roles.
 
 ghost use Rattle.std.specs.Prelude.{◌≡◌, ◌<◌, ◌++◌, [], IfOk, OnOk};
+ghost use Rattle.indexmap.specs.IndexMap.{ContainsKey};
+ghost use Rattle.dioc_terms.specs.Equality.{role_eq};
 ghost use Rattle.dioc_terms.specs.KeptStores.{room, store_of};
 ghost use Rattle.dioc_terms.specs.Stores.{fresh_store};
 ghost use Rattle.global_follower.specs.KeptEffects.{effect_of};
+ghost use Rattle.global_follower.specs.StoreMaps.{places_in, stores_in, IsOpened, IsReadyAt};
 ghost use Rattle.global_steps.specs.Follow.{affected, inputs_of};
 
 use crate::effects::Effect;
@@ -31,12 +34,12 @@ impl Stores {
     /// The stores before the first entry: no variable is set, and each role has the inputs that are
     /// given for it, joined in their order.
     pub(crate) fn opening(alloc: Global, given: &[(Role, Values)]) -> Result<Stores, Memory>
-        ensures { IfOk result (λ stores. stores_of stores ≡ λ q. fresh_store (inputs_of given.now q)) }
+        ensures { IfOk result (λ stores. stores_of stores
+            ≡ λ q. fresh_store (inputs_of given.now q)) }
     {
         let mut stores = IndexMap::new(alloc);
         for pair in given {
-            let store = opening_store(alloc, given, &pair.0)?;
-            stores.insert(pair.0.copy(alloc)?, store)?;
+            open_role(alloc, given, &pair.0, &mut stores)?;
         }
         let empty = Store::new(alloc, Items::new(Vec::new(alloc)));
         Ok(Stores { stores, empty })
@@ -57,14 +60,8 @@ impl Stores {
         ensures same { stores_of self.new ≡ stores_of self.old }
         ensures ready { OnOk result (IsReadyFor role.now self.new) }
     {
-        if !self.stores.contains_key(role) {
-            let empty = Store::new(alloc, Items::new(Vec::new(alloc)));
-            self.stores.insert(role.copy(alloc)?, empty)?;
-        }
-        match self.stores.get_mut(role) {
-            Some(store) => store.reserve(1),
-            None => Ok(()),
-        }
+        make_place(alloc, &mut self.stores, role)?;
+        make_room(&mut self.stores, role)
     }
 
     /// Does to the store of the role what an entry does to it. It takes no memory.
@@ -76,6 +73,49 @@ impl Stores {
         if let Some(store) = self.stores.get_mut(role) {
             affect(store, effect);
         }
+    }
+}
+
+/// Gives the role a place with all inputs that are given for it, where it has none.
+fn open_role(
+    alloc: Global,
+    given: &[(Role, Values)],
+    role: &Role,
+    stores: &mut IndexMap<Role, Store>,
+) -> Result<(), Memory>
+    ensures { OnOk result (IsOpened given.now role.now (places_in stores.old)
+        (places_in stores.new)) }
+{
+    if stores.contains_key(role) {
+        return Ok(());
+    }
+    let store = opening_store(alloc, given, role)?;
+    stores.insert(role.copy(alloc)?, store)?;
+    Ok(())
+}
+
+/// Gives the role a place, where it has none.
+fn make_place(alloc: Global, stores: &mut IndexMap<Role, Store>, role: &Role) -> Result<(), Memory>
+    ensures same { stores_in stores.new ≡ stores_in stores.old }
+    ensures there { OnOk result (ContainsKey role_eq stores.new role.now) }
+{
+    if stores.contains_key(role) {
+        return Ok(());
+    }
+    let empty = Store::new(alloc, Items::new(Vec::new(alloc)));
+    stores.insert(role.copy(alloc)?, empty)?;
+    Ok(())
+}
+
+/// Makes room for one more variable in the store of the role.
+fn make_room(stores: &mut IndexMap<Role, Store>, role: &Role) -> Result<(), Memory>
+    requires { ContainsKey role_eq stores.old role.now }
+    ensures same { stores_in stores.new ≡ stores_in stores.old }
+    ensures ready { OnOk result (IsReadyAt role.now stores.new) }
+{
+    match stores.get_mut(role) {
+        Some(store) => store.reserve(1),
+        None => unreachable!(),
     }
 }
 

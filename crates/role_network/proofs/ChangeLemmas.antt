@@ -1,6 +1,6 @@
 -- The script's next change, and what it makes of what a net keeps.
-use Rattle.std.proofs.Common.{◌≡◌, ◌≢◌, ◌<◌, ◌≤◌, ℕ, zero, suc, List, [], ◌∷◌, ◌++◌, length, map, drop, Bool, true, false, Option, Some, None, slice_get, get_or, refl, sym, ap, ap₂, ◌∙◌, subst, arith, length-append}
-use Rattle.std.specs.Prelude.{option_map, nat_le, nat_lt, if◌then◌else◌}
+use Rattle.std.proofs.Common.{◌≡◌, ◌≢◌, ◌<◌, ◌≤◌, ℕ, zero, suc, List, [], ◌∷◌, ◌++◌, length, map, drop, true, false, Option, Some, None, slice_get, get_or, refl, sym, ap, ap₂, ◌∙◌, subst, arith, length-append}
+use Rattle.std.specs.Prelude.{option_map, nat_le, nat_lt}
 use Rattle.std.proofs.lemmas.Bool.{le-leb, lt-leb, cond-true, cond-false, false_from_ne_true}
 use Rattle.std.proofs.lemmas.Option.{slice_get-map}
 use Rattle.std.proofs.lemmas.Bool.Decides.{Decides-ltb}
@@ -18,10 +18,9 @@ use Rattle.dpoc_process.specs.LocalStates.{LocalState}
 use Rattle.global_steps.specs.Follow.{change_entry}
 use Rattle.marked_laws.proofs.Networks.{after_change, script_outcome, entry_outcome}
 use Rattle.marked_laws.proofs.Shapes.{none_some, some_same, same_head, some_nil}
-use Rattle.marked_laws.specs.Network.{Network, NextNetwork, change_step, network_run, visible_after}
+use Rattle.marked_laws.specs.Network.{Network, NextNetwork, change_step, network_run}
 use Rattle.role_mailbox.specs.declared.mail.Mail.{Mail}
 use Rattle.rule_book.specs.declared.book.Book.{Book as KeptBook}
-use Rattle.rule_book.specs.KeptBooks.{book_of, coming}
 use Rattle.role_network.proofs.NetLemmas.{network_is, visible_now}
 use Rattle.role_network.specs.Changes.{IsChangeOf, change_fault, script_fault}
 use Rattle.role_network.specs.declared.bodies.Coming.{Coming}
@@ -158,13 +157,13 @@ module _ (of : Bundle) (limit : ℕ) (cast : List Role) (locals : List LocalStat
   pub change_made : StepsRun → (script' : List Due) (book' : KeptBook) (H' : List Entry)
       → ChangeMade (plain of).rules script (length (visible H)) book H script' book' H' → IsChangeOf (state H) (state H')
   change_made laws script' book' H' made =
-      let next = is_next (plain of) limit (with_change (plain of) limit cast locals mail book bodies script count H book script H) is made.due script' made.script in
-      let out : NextNetwork = record { entry = made.entry; network = after_change (setting (plain of)) is.network next.timed } in
+      let due = next (plain of) limit cast locals mail book bodies script count H is laws script' book' H' made in
+      let out : NextNetwork = record { entry = made.entry; network = after_change (setting (plain of)) is.network due.timed } in
       record {
         outcome = out;
-        no_fault = fault_is (ap (λ o. script_fault o is.network.visible) next.stands
-            ∙ cond-false (nat_lt is.network.visible next.timed.after) (Some fault.NotYet) None
-            (lt_false is.network.visible next.timed.after (omega (arith, ap (λ (due : Due). due.after) next.same, made.stands, is.visible))));
+        no_fault = fault_is (ap (λ o. script_fault o is.network.visible) due.stands
+            ∙ cond-false (nat_lt is.network.visible due.timed.after) (Some fault.NotYet) None
+            (lt_false is.network.visible due.timed.after (omega (arith, ap (λ (d : Due). d.after) due.same, made.stands, is.visible))));
         steps = subst (λ N. change_step (setting (plain of)) N ≡ Some out) (sym at)
             (changes (plain of) limit cast locals mail book bodies script count H is laws script' book' H' made);
         goes = record {

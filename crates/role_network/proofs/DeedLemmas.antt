@@ -1,5 +1,5 @@
 -- What is shown of an act before it is done, and what its deed then is.
-use Rattle.std.proofs.Common.{◌≡◌, ℕ, List, [], ◌∷◌, ◌++◌, Bool, true, false, Option, Some, None, IsSome, if◌then◌else◌, refl, sym, ap, ◌∙◌, subst}
+use Rattle.std.proofs.Common.{◌≡◌, ℕ, List, [], ◌∷◌, ◌++◌, true, false, Option, Some, None, IsSome, refl, sym, ap, ◌∙◌, subst}
 use Rattle.dioc_terms.specs.declared.entries.Act.{Act}
 use Rattle.dioc_terms.specs.declared.entries.Act.TheVariants as act
 use Rattle.dioc_terms.specs.declared.entries.Entry.{Entry}
@@ -15,7 +15,7 @@ use Rattle.dioc_terms.specs.declared.processes.Payload.{Payload}
 use Rattle.dioc_terms.specs.Processes.{Process, Load, load}
 use Rattle.dpoc_process.specs.declared.runs.Prepared.{Prepared}
 use Rattle.dpoc_process.specs.RoleSteps.{entry_before, sent, IsPrepared, IsStep}
-use Rattle.dpoc_process.specs.LocalStates.{LocalState, local_done, step_at}
+use Rattle.dpoc_process.specs.LocalStates.{LocalState, step_at}
 use Rattle.global_steps.specs.Follow.{updates_after}
 use Rattle.process_steps.specs.Laws.{is_done, StepsShowTheirActs}
 use Rattle.process_steps.specs.Steps.{Deed, Puts, Takes, Sets, Inputs, Picks, Chooses, Given, entry_of}

@@ -1,5 +1,5 @@
 -- The listed moves are those of the network.
-use Rattle.std.proofs.Common.{◌≡◌, ℕ, List, [], ◌∷◌, ◌++◌, map, filter, Bool, true, false, ◌&&◌, not, Option, Some, None, slice_get, drop, length, refl, sym, ap, ap₂, ◌∙◌}
+use Rattle.std.proofs.Common.{◌≡◌, ℕ, List, [], ◌∷◌, ◌++◌, map, filter, Bool, false, ◌&&◌, not, Option, Some, None, slice_get, length, refl, sym, ap, ap₂, ◌∙◌}
 use Rattle.std.specs.Prelude.{flat_map, option_map, if◌then◌else◌, nat_le}
 use Rattle.std.specs.Option.{option_map_or}
 use Rattle.dioc_terms.specs.declared.bundles.Timed.{Timed}
@@ -7,13 +7,10 @@ use Rattle.dioc_terms.specs.declared.entries.Act.{Act}
 use Rattle.dioc_terms.specs.declared.names.Role.{Role}
 use Rattle.dioc_terms.specs.Messages.{visible}
 use Rattle.dioc_terms.specs.Plain.{PlainBundle, setting}
-use Rattle.dpoc_process.specs.LocalStates.{LocalState}
 use Rattle.marked_laws.specs.Network.{Network, network_ended}
-use Rattle.net_core.specs.declared.moves.Move.{Move}
 use Rattle.net_core.specs.declared.moves.Move.TheVariants as move
 use Rattle.net_core.specs.Schedule.{change_due, is_ready, moves, role_moves}
 use Rattle.process_steps.specs.Steps.{offers}
-use Rattle.role_mailbox.specs.declared.mail.Mail.{Mail}
 use Rattle.role_network.proofs.ChangeLemmas.{next_due}
 use Rattle.role_network.proofs.NetLemmas.{network_is, ready_is}
 use Rattle.role_network.specs.Deeds.{is_there}

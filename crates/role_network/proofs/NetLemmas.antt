@@ -1,5 +1,5 @@
 -- What a net keeps, before a step and after it.
-use Rattle.std.proofs.Common.{◌≡◌, ◌≢◌, ◌↔◌, ◌<◌, ◌≤◌, ◌+◌, ℕ, zero, suc, List, [], ◌∷◌, ◌++◌, length, map, Bool, true, false, ◌&&◌, not, Option, Some, None, IsSome, slice_get, refl, sym, ap, ap₂, ◌∙◌, subst, ⊎_elim, arith, append-nil, length-append}
+use Rattle.std.proofs.Common.{◌≡◌, ◌≢◌, ◌↔◌, ◌<◌, ◌≤◌, ℕ, suc, List, [], ◌∷◌, ◌++◌, length, map, Bool, true, false, ◌&&◌, not, Some, None, IsSome, slice_get, refl, sym, ap, ap₂, ◌∙◌, subst, ⊎_elim, arith, append-nil, length-append}
 use Rattle.std.specs.Prelude.{slice_set, is_some, nat_le, unwrap_or, if◌then◌else◌, option_map}
 use Rattle.std.proofs.lemmas.Bool.{lt-leb}
 use Rattle.std.proofs.lemmas.List.Elements.{filter-append}
@@ -15,7 +15,6 @@ use Rattle.dioc_terms.specs.Messages.{act_of, visible, is_aux}
 use Rattle.dioc_terms.specs.declared.bundles.Bundle.{Bundle}
 use Rattle.dioc_terms.specs.Plain.{PlainBundle, plain, setting}
 use Rattle.dioc_terms.specs.Processes.{Process, Load}
-use Rattle.dioc_terms.specs.Rules.{Book}
 use Rattle.dioc_terms.specs.TermLaws.{CastsAreRoles}
 use Rattle.dioc_terms.specs.Terms.{distinct_roles}
 use Rattle.dpoc_process.specs.LocalStates.{LocalState, offered, local_done, step_at}
@@ -23,7 +22,7 @@ use Rattle.global_steps.specs.Follow.{book_choice, updates_after}
 use Rattle.marked_laws.proofs.Networks.{after_deed, deed_outcome}
 use Rattle.marked_laws.specs.Laws.{UniqueKeys}
 use Rattle.marked_laws.specs.MailLaws.{MailIsAMap}
-use Rattle.marked_laws.specs.Network.{Network, NextNetwork, act_step, decision, given_at, network_ended, no_message, network_run, network_start, pending_at, visible_after}
+use Rattle.marked_laws.specs.Network.{Network, NextNetwork, act_step, decision, given_at, network_ended, no_message, network_run, network_start, visible_after}
 use Rattle.net_core.specs.declared.moves.StepFault.{StepFault}
 use Rattle.net_core.specs.declared.moves.StepFault.TheVariants as fault
 use Rattle.net_core.specs.Net.{first_fault, is_offered_by}

@@ -1,5 +1,5 @@
 -- The begin of a scope: its leader is there, and its deed is what the book decides of the scope's head.
-use Rattle.std.proofs.Common.{◌≡◌, ℕ, suc, List, [], ◌∷◌, ◌++◌, map, Bool, true, false, Option, Some, None, IsSome, All, slice_get, ◌<◌, ◌&&◌, refl, sym, ap, ap₂, ◌∙◌, subst}
+use Rattle.std.proofs.Common.{◌≡◌, ℕ, List, [], ◌∷◌, ◌++◌, map, Bool, true, false, Option, Some, None, All, slice_get, ◌<◌, ◌&&◌, refl, sym, ap, ap₂, ◌∙◌, subst}
 use Rattle.std.specs.Option.{is_some, option_and_then}
 use Rattle.std.specs.Prelude.{nat_lt, option_map}
 use Rattle.std.proofs.lemmas.Option.{slice_get-map}
@@ -13,10 +13,9 @@ use Rattle.dioc_terms.specs.declared.entries.Entry.TheVariants as entry
 use Rattle.dioc_terms.specs.declared.names.Index.{Index}
 use Rattle.dioc_terms.specs.declared.names.Role.{Role}
 use Rattle.dioc_terms.specs.declared.processes.ScopeHead.{ScopeHead}
-use Rattle.dioc_terms.specs.Attempts.{Attempt, Stuck, Does, when}
+use Rattle.dioc_terms.specs.Attempts.{Attempt, Does, when}
 use Rattle.dioc_terms.specs.declared.processes.Tag.TheVariants.{Begin}
 use Rattle.dioc_terms.specs.Equality.{act_eq, member}
-use Rattle.limits.specs.Limits.{top_level}
 use Rattle.dioc_terms.specs.RuleLaws.{ChoicesGoOn}
 use Rattle.dioc_terms.specs.TermLaws.{MentionsAreRoles}
 use Rattle.dioc_terms.specs.Terms.{Term, is_in, mentions}
@@ -36,8 +35,8 @@ use Rattle.marked_laws.proofs.Premise.{all_member}
 use Rattle.marked_laws.specs.Laws.{IsSoundRule}
 use Rattle.marked_laws.proofs.Shapes.{none_some, some_same}
 use Rattle.marked_laws.specs.Network.{decision}
-use Rattle.process_steps.specs.Laws.{given_fits, OffersAreSteps}
-use Rattle.process_steps.specs.Steps.{Deed, Chooses, Given, FromBook, Decision, Keeps, Replaces, begin_scope, letters_to, offers, is_offered, step, entry_of}
+use Rattle.process_steps.specs.Laws.{OffersAreSteps}
+use Rattle.process_steps.specs.Steps.{Deed, Chooses, FromBook, Decision, Keeps, Replaces, begin_scope, letters_to, offers, is_offered, step, entry_of}
 use Rattle.role_mailbox.specs.declared.mail.Mail.{Mail}
 use Rattle.role_mailbox.specs.Pending.{payload_at}
 use Rattle.role_network.specs.Deeds.{given_to, is_scope, pending_with, IsDone}
@@ -237,7 +236,7 @@ module _ (rules : List PlainRule) (book : Book) (head : ScopeHead) (s : Store) w
   abbrev rule_fits : Option PlainRule → Bool
   rule_fits None = false
   rule_fits (Some rule) = holds rule.cond s (bound head.props) book.environment
-      && list_all (λ q. member q head.roles) (mentions rule.body) && nat_lt head.level top_level
+      && list_all (λ q. member q head.roles) (mentions rule.body) && nat_lt head.level 16
 
   same_body : {n m : List ℕ} {A B : Term} → TakesRule n A ≡ TakesRule m B → A ≡ B
   same_body h = cc
@@ -249,7 +248,7 @@ module _ (rules : List PlainRule) (book : Book) (head : ScopeHead) (s : Store) w
     rule = rule;
     stands = at;
     same = same_body h;
-    level = (Decides-ltb head.level top_level).0 (and_parts _ (nat_lt head.level top_level) fit).1;
+    level = (Decides-ltb head.level 16).0 (and_parts _ (nat_lt head.level 16) fit).1;
   }
 
   by_choice : ChoicesGoOn → (body : Body) (o : Option ℕ) → choose rules book head s ≡ o → TakesRule body.name body.body ≡ choice_answer o → Answer rules head body

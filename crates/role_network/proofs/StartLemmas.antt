@@ -1,11 +1,10 @@
 -- What a net is started with stands for the network before its first step.
-use Rattle.std.proofs.Common.{◌≡◌, ◌<◌, ◌≤◌, ◌+◌, ◌-◌, ℕ, List, [], ◌∷◌, length, map, true, refl, sym, ap, ap₂, ◌∙◌, subst, arith}
+use Rattle.std.proofs.Common.{◌≡◌, ◌<◌, ◌-◌, ℕ, List, [], ◌∷◌, length, map, true, refl, sym, ap, ◌∙◌, subst, arith}
 use Rattle.std.specs.List.{AllByRecursion}
 use Rattle.std.specs.Map.{lookup}
 use Rattle.dioc_terms.specs.declared.bundles.Change.{Change}
 use Rattle.dioc_terms.specs.declared.bundles.Rule.{Rule}
 use Rattle.dioc_terms.specs.declared.bundles.Timed.{Timed}
-use Rattle.dioc_terms.specs.declared.entries.Entry.{Entry}
 use Rattle.dioc_terms.specs.declared.names.Role.{Role}
 use Rattle.dioc_terms.specs.Bundles.{IsFormed, adds}
 use Rattle.dioc_terms.specs.Equality.{key_eq, member}
@@ -15,7 +14,7 @@ use Rattle.dioc_terms.specs.Rules.{opening_book}
 use Rattle.dioc_terms.specs.TermLaws.{CastsAreRoles}
 use Rattle.dioc_terms.specs.Terms.{is_in}
 use Rattle.marked_laws.specs.Laws.{IsSound}
-use Rattle.marked_laws.specs.Network.{Network, network_run, network_start}
+use Rattle.marked_laws.specs.Network.{network_run, network_start}
 use Rattle.role_mailbox.specs.Pending.{messages}
 use Rattle.rule_book.proofs.OrderLemmas.{numbers_from-below}
 use Rattle.rule_book.specs.KeptBooks.{book_of, coming, IsBookOf}

@@ -1,6 +1,5 @@
 -- In every network of a run each role tells the others of the scopes that it leads, and so it is with the parts that pending messages carry.
-use Rattle.std.proofs.Common.{◌≡◌, ℕ, suc, List, [], ◌∷◌, ◌++◌, Bool, true, false, Option, Some, None, option_and_then, refl, sym, ap, ◌∙◌, subst, ⊎_elim}
-use Rattle.std.specs.Prelude.{if◌then◌else◌}
+use Rattle.std.proofs.Common.{◌≡◌, ℕ, suc, List, [], ◌∷◌, ◌++◌, Option, Some, None, option_and_then, refl, sym, ◌∙◌, subst, ⊎_elim}
 use Rattle.std.proofs.lemmas.Bool.{cases_Bool, cond-true, cond-false}
 use Rattle.dioc_terms.specs.declared.entries.Act.{Act}
 use Rattle.dioc_terms.specs.declared.entries.Act.TheVariants as act
@@ -8,19 +7,18 @@ use Rattle.dioc_terms.specs.declared.entries.Entry.{Entry}
 use Rattle.dioc_terms.specs.declared.names.Role.{Role}
 use Rattle.dioc_terms.specs.declared.processes.Key.{Key}
 use Rattle.dioc_terms.specs.declared.processes.ScopeHead.{ScopeHead}
-use Rattle.dioc_terms.specs.Equality.{role_eq, key_eq}
-use Rattle.dioc_terms.specs.Plain.{PlainBundle, Setting, setting}
-use Rattle.dioc_terms.specs.Processes.{Process, Load}
+use Rattle.dioc_terms.specs.Equality.{key_eq}
+use Rattle.dioc_terms.specs.Plain.{PlainBundle, setting}
+use Rattle.dioc_terms.specs.Processes.{Load}
 use Rattle.dioc_terms.specs.Terms.{stamped}
 use Rattle.dpoc_process.specs.Acting.{Lead, acting_lead}
-use Rattle.dpoc_process.specs.LocalStates.{LocalState}
 use Rattle.global_steps.specs.Follow.{BookChoice, KeepsBody, TakesRule, book_choice, updated}
 use Rattle.marked_laws.proofs.Equality.{key_same}
-use Rattle.marked_laws.proofs.Networks.{RoleStep, ChangeStep, after_change, after_deed, network_cases}
+use Rattle.marked_laws.proofs.Networks.{RoleStep, ChangeStep, network_cases}
 use Rattle.marked_laws.proofs.Roles.{role_cases, updated_here, updated_there}
 use Rattle.marked_laws.proofs.Shapes.{none_some, some_same}
 use Rattle.marked_laws.specs.Network.{Network, decision, given_at, network_run, network_start, network_step, pending_after, pending_at, run_from, without}
-use Rattle.process_steps.specs.Steps.{Deed, Puts, Takes, Sets, Inputs, Picks, Chooses, Given, Alone, Got}
+use Rattle.process_steps.specs.Steps.{Deed, Puts, Takes, Sets, Inputs, Picks, Chooses}
 use Rattle.scope_leader.specs.Leaders.{CarriesTelling, DecidesTelling, GivesTelling, LeadersTell, SendsTelling, TellsAll, TellsOthers}
 use Rattle.role_network.specs.Deeds.{message_given}
 use Rattle.role_network.specs.Standing.{local_in}

@@ -32,7 +32,8 @@ pub record MailAfter (d : Deed) (old new : Mail) : Type 0 where
 -- the role did the act with what came from outside: its local, the mail, the number of updates and
 -- the entries are those after it
 pub record IsDone (a : Act) (given : Given) (old : LocalState) (old_mail : Mail) (count : ℕ)
-    (before : List Entry) (new : LocalState) (new_mail : Mail) (new_count : ℕ) (after : List Entry) : Type 0
+    (before : List Entry) (new : LocalState) (new_mail : Mail) (new_count : ℕ)
+    (after : List Entry) : Type 0
   where
     pub deed : Deed
     pub left : Process
@@ -64,8 +65,9 @@ is_there (act.Take k) mail = is_some (payload_at k mail)
 is_there _ mail = true
 
 -- the role offered the act, its message was there, and it did the act
-pub record ActDone (a : Act) (given : Store → Given) (old : LocalState) (old_mail : Mail) (count : ℕ)
-    (before : List Entry) (new : LocalState) (new_mail : Mail) (new_count : ℕ) (after : List Entry) : Type 0
+pub record ActDone (a : Act) (given : Store → Given) (old : LocalState) (old_mail : Mail)
+    (count : ℕ) (before : List Entry) (new : LocalState) (new_mail : Mail) (new_count : ℕ)
+    (after : List Entry) : Type 0
   where
     pub offers : is_offered a (offered old) ≡ true
     pub there : is_there a old_mail ≡ true
@@ -73,8 +75,8 @@ pub record ActDone (a : Act) (given : Store → Given) (old : LocalState) (old_m
 
 -- the role at a place of the cast did the act
 pub record RoleDid (cast : List Role) (q : Role) (a : Act) (given : Store → Given)
-    (old : List LocalState) (old_mail : Mail) (count : ℕ) (before : List Entry) (new : List LocalState)
-    (new_mail : Mail) (new_count : ℕ) (after : List Entry) : Type 0 where
+    (old : List LocalState) (old_mail : Mail) (count : ℕ) (before : List Entry)
+    (new : List LocalState) (new_mail : Mail) (new_count : ℕ) (after : List Entry) : Type 0 where
   pub place : ℕ
   pub at : slice_get cast place ≡ Some q
   pub local : LocalState
@@ -84,25 +86,29 @@ pub record RoleDid (cast : List Role) (q : Role) (a : Act) (given : Store → Gi
   pub did : ActDone a given local old_mail count before becomes new_mail new_count after
 
 -- a role at a place of the cast, with its local
-pub record IsAt (cast : List Role) (locals : List LocalState) (q : Role) (local : LocalState) : Type 0 where
+pub record IsAt (cast : List Role) (locals : List LocalState) (q : Role)
+    (local : LocalState) : Type 0 where
   pub place : ℕ
   pub at : slice_get cast place ≡ Some q
   pub here : slice_get locals place ≡ Some local
 
 -- the role is at a place, and this is whether it has ended
-pub record DoneAt (cast : List Role) (locals : List LocalState) (q : Role) (done : Bool) : Type 0 where
+pub record DoneAt (cast : List Role) (locals : List LocalState) (q : Role)
+    (done : Bool) : Type 0 where
   pub local : LocalState
   pub is_at : IsAt cast locals q local
   pub is_done : done ≡ ended local.process
 
 -- the role is at a place, and doesn't offer the act
-pub record NotOffered (cast : List Role) (locals : List LocalState) (q : Role) (a : Act) : Type 0 where
+pub record NotOffered (cast : List Role) (locals : List LocalState) (q : Role)
+    (a : Act) : Type 0 where
   pub local : LocalState
   pub is_at : IsAt cast locals q local
   pub lacks : is_offered a (offered local) ≡ false
 
 -- it offers the act, a take whose message isn't pending
-pub record NotThere (cast : List Role) (locals : List LocalState) (mail : Mail) (q : Role) (a : Act) : Type 0
+pub record NotThere (cast : List Role) (locals : List LocalState) (mail : Mail) (q : Role)
+    (a : Act) : Type 0
   where
     pub local : LocalState
     pub is_at : IsAt cast locals q local

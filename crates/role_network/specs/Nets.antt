@@ -1,8 +1,9 @@
 -- What a net shows: its bundle, the entries so far, and how many there may be.
-use Rattle.std.specs.Prelude.{ℕ, List, unwrap_or}
+use Rattle.std.specs.Prelude.{◌≡◌, ◌≤◌, ℕ, List, length, Some, unwrap_or}
 use Rattle.dioc_terms.specs.declared.bundles.Bundle.{Bundle}
 use Rattle.dioc_terms.specs.declared.entries.Entry.{Entry}
 use Rattle.dioc_terms.specs.Plain.{PlainBundle, plain}
+use Rattle.marked_laws.specs.Laws.{IsSound}
 use Rattle.marked_laws.specs.Network.{Network, network_run, network_start}
 
 pub record NetState : Type 0 where
@@ -19,3 +20,9 @@ bundle_of net = plain net.bundle
 
 abbrev pub network_of : NetState → Network
 network_of net = network_at (plain net.bundle) net.history
+
+-- what holds of every net: its bundle may run, and its history is a run of it within the limit
+pub record IsSoundRun (net : NetState) : Type 0 where
+  pub sound : IsSound (bundle_of net)
+  pub runs : network_run (bundle_of net) net.history ≡ Some (network_of net)
+  pub within : length net.history ≤ net.limit

@@ -1,5 +1,5 @@
 -- What the begin of a scope is.
-use Rattle.std.specs.Prelude.{◌≡◌, ℕ, List, Option, Some, None, map, true, All}
+use Rattle.std.specs.Prelude.{◌≡◌, List, Option, Some, None, map, All}
 use Rattle.dioc_terms.specs.declared.entries.Act.{Act}
 use Rattle.dioc_terms.specs.declared.entries.Chosen.{Chosen}
 use Rattle.dioc_terms.specs.declared.entries.Chosen.TheVariants as chosen

@@ -1,11 +1,9 @@
 -- What a step of a net and a change of the script are, and their faults.
-use Rattle.std.specs.Prelude.{◌≡◌, List, [], ◌∷◌, ◌++◌, length, nat_le, nat_lt, not, Bool, Option, Some, None, if◌then◌else◌, slice_get, is_none}
-use Rattle.std.specs.Option.{option_map_or}
-use Rattle.dioc_terms.specs.declared.bundles.Timed.{Timed}
+use Rattle.std.specs.Prelude.{◌≡◌, [], ◌∷◌, ◌++◌, length, nat_le, Option, Some, None}
 use Rattle.dioc_terms.specs.declared.names.Role.{Role}
 use Rattle.dioc_terms.specs.declared.entries.Act.{Act}
-use Rattle.dioc_terms.specs.Plain.{PlainBundle, setting}
-use Rattle.marked_laws.specs.Network.{Network, NextNetwork, act_step, change_step, network_ended}
+use Rattle.dioc_terms.specs.Plain.{setting}
+use Rattle.marked_laws.specs.Network.{NextNetwork, act_step, network_ended}
 use Rattle.net_core.specs.declared.moves.StepFault.{StepFault}
 use Rattle.net_core.specs.Net.{first_fault, is_offered_by}
 use Rattle.net_core.specs.Schedule.{is_ready}

@@ -7,7 +7,7 @@ ghost use Rattle.marked_laws.specs.Network.{network_ended};
 ghost use Rattle.net_core.specs.Schedule.{change_due, moves};
 ghost use Rattle.process_steps.specs.Steps.{ended};
 ghost use Rattle.role_network.specs.Changes.{IsChangeOf, change_fault};
-ghost use Rattle.role_network.specs.Nets.{bundle_of, network_of};
+ghost use Rattle.role_network.specs.Nets.{IsSoundRun, bundle_of, network_of};
 ghost use Rattle.role_network.specs.Steps.{IsStepOf, fault_of};
 
 use crate::bodies::{Coming, RuleBody};
@@ -79,9 +79,10 @@ impl<R: Runs> Model for Net<R> {
 }
 
 impl<R: Runs> Net<R> {
-    /// The entries so far.
+    /// The entries so far. They are a run of the bundle, of at most as many entries as the limit.
     pub fn history(&self) -> &History
-        ensures { result.now.entries ≡ self.now.history }
+        ensures entries { result.now.entries ≡ self.now.history }
+        ensures run { IsSoundRun self.now }
     {
         &self.history
     }
@@ -125,8 +126,8 @@ impl<R: Runs> Net<R> {
     }
 
     /// The moves of the network, in the order in which a schedule numbers them: the script's next
-    /// change where it is due and the network has not ended, and then the acts that the roles offer,
-    /// role by role in the cast's order, without takes whose message isn't pending.
+    /// change where it is due and the network has not ended, and then the acts that the roles
+    /// offer, role by role in the cast's order, without takes whose message isn't pending.
     pub fn moves(&self) -> Result<Vec<Move>, Memory>
         ensures { IfOk result
             (λ found. found.items ≡ moves (setting (bundle_of self.now)) (network_of self.now)) }

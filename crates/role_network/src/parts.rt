@@ -1,5 +1,5 @@
-//! The parts of a step: where a role is, the room that a step needs, and what it does to a role, the
-//! mail and the history.
+//! The parts of a step: where a role is, the room that a step needs, and what it does to a role,
+//! the mail and the history.
 
 ghost use Rattle.std.specs.Prelude.{◌≡◌, ◌<◌, ◌≤◌, ℕ, List, true, false, Option, None, Some, IsSome, IfErr, IfOk, OnErr, OnOk, length, map};
 ghost use Rattle.std.specs.Option.{option_map};
@@ -149,7 +149,8 @@ pub(crate) fn commit<R: Runs>(
     requires shown { IsPrepared (R.local state.old) act.now prepared }
     requires plain { is_scope act.now ≡ false }
     requires there { is_there act.now mail.old ≡ true }
-    requires can { is_done (step_at (R.local state.old) act.now (given_in act.now mail.old)) ≡ true }
+    requires can { is_done (step_at (R.local state.old) act.now (given_in act.now mail.old))
+        ≡ true }
     requires free { (k : OneKey) → act.now ≡ acts.Put k → payload_at k mail.old ≡ None }
     requires mail_room { 0 < room mail.old }
     requires history_room { 0 < history.old.room }
@@ -240,7 +241,8 @@ pub(crate) fn step_role<R: Runs>(
         → CanStep local act.now mail.old }
     requires updates { updates.old < 4294967295 }
     requires known { KnownRules cast.now book.now (map body_seen bodies.now) }
-    requires tells { (local : LocalState) → IsAt cast.now (map R.local roles.old.items) role.now local
+    requires tells { (local : LocalState)
+        → IsAt cast.now (map R.local roles.old.items) role.now local
         → Tells cast.now local act.now }
     ensures did { (rules : List PlainRule) → IsBookOf rules book.now
         → map body_seen bodies.now ≡ map body_of rules

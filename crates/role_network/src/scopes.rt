@@ -53,7 +53,8 @@ pub(crate) fn begin_scope<R: Runs>(
     ensures did { (rules : List PlainRule) (mail : OneMail) → IsBookOf rules book.now
         → map body_seen bodies.now ≡ map body_of rules
         → OnOk result (IsDone act.now
-        (given_to cast.now rules mail (book_of book.now) updates.old (R.local state.old).store act.now)
+        (given_to cast.now rules mail (book_of book.now) updates.old (R.local state.old).store
+        act.now)
         (R.local state.old) mail updates.old history.old.entries
         (R.local state.new) mail updates.new history.new.entries) }
     ensures same_local { OnErr result (R.local state.new ≡ R.local state.old) }

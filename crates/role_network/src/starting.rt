@@ -155,7 +155,8 @@ fn copy_of_change(alloc: Global, change: &Change) -> Result<Change, Memory>
 /// The entry that a change shows.
 fn shown_by(alloc: Global, rules: &[Rule], change: &Change) -> Result<Entry, Memory>
     requires { (m : ℕ) → change.now ≡ Change.Add m → m < length rules.now }
-    ensures { IfOk result (λ entry. change_entry (map plain_rule rules.now) change.now ≡ Some entry) }
+    ensures { IfOk result
+        (λ entry. change_entry (map plain_rule rules.now) change.now ≡ Some entry) }
 {
     match change {
         Change::Add(number) => {

@@ -1,6 +1,6 @@
 -- Of a net that has not ended and has room, each move has no fault, and there is one.
 use Rattle.std.proofs.Common.{◌≡◌, ◌<◌, ℕ, zero, suc, List, [], ◌∷◌, ◌++◌, length, Bool, true, false, ◌&&◌, not, Option, Some, None, slice_get, filter, map, refl, sym, ap, ◌∙◌, subst, arith}
-use Rattle.std.specs.Prelude.{flat_map, if◌then◌else◌, nat_le, nat_lt}
+use Rattle.std.specs.Prelude.{flat_map, if◌then◌else◌, nat_le}
 use Rattle.std.specs.Option.{option_map_or}
 use Rattle.std.proofs.lemmas.Bool.{and_parts, cond-true, cond-false, le-ltb, leb-true, lt-leb, or_left, or_right}
 use Rattle.dioc_terms.specs.declared.bundles.Timed.{Timed}
@@ -10,7 +10,6 @@ use Rattle.dioc_terms.specs.Equality.{act_eq, member, role_eq}
 use Rattle.dioc_terms.specs.Plain.{setting}
 use Rattle.process_steps.specs.Steps.{is_offered, offers}
 use Rattle.marked_laws.specs.Laws.{Progress}
-use Rattle.marked_laws.specs.Network.{network_ended}
 use Rattle.marked_laws.proofs.Equality.{act_itself, role_itself}
 use Rattle.marked_laws.proofs.Premise.{Known}
 use Rattle.marked_laws.proofs.Shapes.{none_some, some_same}

@@ -1,5 +1,5 @@
 -- A schedule without a seed takes a change as soon as it is due: no entry of a role that it takes stands where one is due.
-use Rattle.std.proofs.Common.{◌≡◌, ◌+◌, ◌⊎◌, ℕ, suc, List, [], ◌∷◌, ◌++◌, length, Bool, true, false, ◌&&◌, not, is_some, is_none, Option, Some, None, slice_get, refl, sym, ap, ap₂, ◌∙◌, subst, inl, inr, ⊎_elim, arith, length-append}
+use Rattle.std.proofs.Common.{◌≡◌, ◌+◌, ◌⊎◌, ℕ, suc, List, [], ◌∷◌, ◌++◌, length, Bool, true, false, ◌&&◌, not, is_some, is_none, Option, Some, None, slice_get, refl, sym, ap, ap₂, ◌∙◌, inl, inr, ⊎_elim, arith, length-append}
 use Rattle.std.specs.Prelude.{filter, flat_map, if◌then◌else◌, option_and_then}
 use Rattle.std.proofs.lemmas.Bool.{cond-false, cond-true}
 use Rattle.std.proofs.lemmas.List.Elements.{filter-append}
@@ -8,11 +8,9 @@ use Rattle.dioc_terms.specs.declared.entries.Entry.TheVariants as entry
 use Rattle.dioc_terms.specs.declared.names.Role.{Role}
 use Rattle.dioc_terms.specs.Messages.{doer, is_aux, visible}
 use Rattle.dioc_terms.specs.Plain.{PlainBundle, Setting, setting}
-use Rattle.process_steps.specs.Steps.{entry_of}
 use Rattle.marked_laws.specs.Network.{Network, NextNetwork, change_step, network_ended, network_run, network_start, network_step, run_from, visible_after}
 use Rattle.marked_laws.proofs.Networks.{ChangeStep, RoleStep, network_cases}
 use Rattle.marked_laws.proofs.Shapes.{none_some, same_head, some_nil, some_same}
-use Rattle.net_core.specs.declared.moves.Move.{Move}
 use Rattle.net_core.specs.declared.moves.Move.TheVariants as move
 use Rattle.net_core.specs.Schedule.{IsPrompt, change_due, changes_in, due_after, move_step, moves, role_moves, scheduled}
 use Rattle.net_core.proofs.ScriptLemmas.{change_is_nobodys}
@@ -68,13 +66,14 @@ run_counts b N [] M h =
     let changes : M.changes ≡ N.changes = ap (λ (L : Network). L.changes) (sym (some_same h)) in
     let seen : M.visible ≡ N.visible = ap (λ (L : Network). L.visible) (sym (some_same h)) in
     record { changes = omega (arith, changes); seen = omega (arith, seen) }
-run_counts b N (e ∷ H) M h = by_step (network_step b N e) refl h
+run_counts b N (e ∷ H) M h = by_step (network_step b N e) refl h (λ L k. run_counts b L H M k)
   where
-    by_step : (o : Option Network) → network_step b N e ≡ o → option_and_then (λ L. run_from b L H) o ≡ Some M → Counts N (e ∷ H) M
-    by_step None is k = absurd (none_some k)
-    by_step (Some L) is k =
+    by_step : (o : Option Network) → network_step b N e ≡ o → option_and_then (λ L. run_from b L H) o ≡ Some M
+        → ((L : Network) → run_from b L H ≡ Some M → Counts L H M) → Counts N (e ∷ H) M
+    by_step None is k rest = absurd (none_some k)
+    by_step (Some L) is k rest =
         let one = step_counts b N e L is in
-        let more = run_counts b L H M k in
+        let more = rest L k in
         record {
           changes = omega (arith, one.changes, more.changes, count_more (λ x. is_none (doer x)) e H);
           seen = omega (arith, one.seen, more.seen, count_more (λ x. not (is_aux x)) e H);
@@ -121,8 +120,8 @@ last_or_before [] (y ∷ ys) e x rest h = absurd (nil_longer ys x rest (same_hea
 last_or_before (z ∷ zs) [] e x rest h = inr (zs, ap (λ y. y ∷ zs) (same_head h).0)
 last_or_before (z ∷ zs) (y ∷ ys) e x rest h =
     let parts = same_head h in
-    ⊎_elim (λ same. inl (ap₂ (λ a as. a ∷ as) (sym parts.0) same.0, same.1))
-    (λ earlier. inr (earlier.0, ap₂ (λ a as. a ∷ as) parts.0 earlier.1))
+    ⊎_elim (λ same. inl (ap₂ (λ x xs. x ∷ xs) (sym parts.0) same.0, same.1))
+    (λ earlier. inr (earlier.0, ap₂ (λ x xs. x ∷ xs) parts.0 earlier.1))
     (last_or_before zs ys e x rest parts.1)
 
 prompt_more : (b : PlainBundle) (H : List Entry) (e : Entry) → IsPrompt b H → (is_some (doer e) ≡ true → due_after b H ≡ false) → IsPrompt b (H ++ e ∷ [])

@@ -10,7 +10,6 @@ use Rattle.dioc_terms.specs.Plain.{Setting, plain, setting}
 use Rattle.marked_laws.specs.Network.{Network, NextNetwork, network_ended}
 use Rattle.net_core.specs.Schedule.{IsPrompt, continued, next_seed, sched_from, scheduled}
 use Rattle.role_network.specs.Nets.{IsSoundRun, NetState, bundle_of, network_of}
-use Rattle.role_network.specs.Steps.{GoesOn}
 use Rattle.schedule.proofs.PromptLemmas.{prompt_turn}
 use Rattle.schedule.specs.declared.runs.Finish.{Finish}
 use Rattle.schedule.specs.declared.runs.Finish.TheVariants as finish
@@ -118,13 +117,14 @@ pub turn : (old new : NetState) (seed : Option ℕ) → has_ended old ≡ false 
 turn old new seed goes room step =
     let longer : length new.history ≡ length old.history + 1 = ap length step.goes.history ∙ length-append old.history (step.outcome.entry ∷ []) in
     let count : old.limit - length old.history ≡ suc (new.limit - length new.history) =
-    one_less old.limit (length old.history) (length new.history) room longer ∙ ap (λ n. suc (n - length new.history)) (sym step.goes.limit) in
-    (step.outcome.entry,
+    one_less old.limit (length old.history) (length new.history) room longer ∙ ap (λ n. suc (n - length new.history)) (sym step.goes.limit) in (
+      step.outcome.entry,
       ap (λ n. continued (setting (bundle_of old)) seed n (network_of old)) count
-      ∙ continued-goes (setting (bundle_of old)) seed (new.limit - length new.history) (network_of old) step.outcome goes step.takes
-      ∙ ap (λ N. step.outcome.entry ∷ continued (setting (bundle_of old)) (next_seed seed) (new.limit - length new.history) N) (sym step.goes.network)
-      ∙ ap (λ (b : Bundle). step.outcome.entry ∷ continued (setting (plain b)) (next_seed seed) (new.limit - length new.history) (network_of new)) (sym step.goes.bundle),
-      step.goes.history)
+          ∙ continued-goes (setting (bundle_of old)) seed (new.limit - length new.history) (network_of old) step.outcome goes step.takes
+          ∙ ap (λ N. step.outcome.entry ∷ continued (setting (bundle_of old)) (next_seed seed) (new.limit - length new.history) N) (sym step.goes.network)
+          ∙ ap (λ (b : Bundle). step.outcome.entry ∷ continued (setting (plain b)) (next_seed seed) (new.limit - length new.history) (network_of new)) (sym step.goes.bundle),
+      step.goes.history,
+    )
 
 still_prompt : (old new : NetState) (seed : Option ℕ) → IsSoundRun old → has_ended old ≡ false → Advances old seed new → seed ≡ None
     → IsPrompt (bundle_of old) old.history → IsPrompt (bundle_of new) new.history

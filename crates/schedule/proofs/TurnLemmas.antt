@@ -1,10 +1,9 @@
 -- A turn of a schedule: the move at the schedule's place, made without a fault.
-use Rattle.std.proofs.Common.{◌≡◌, ◌≢◌, ℕ, length, Option, Some, None, slice_get, sym, ap, ◌∙◌, subst}
+use Rattle.std.proofs.Common.{◌≡◌, ℕ, length, Option, Some, slice_get, ap, ◌∙◌, subst}
 use Rattle.std.specs.Prelude.{option_and_then}
 use Rattle.dioc_terms.specs.declared.entries.Act.{Act}
 use Rattle.dioc_terms.specs.declared.names.Role.{Role}
 use Rattle.dioc_terms.specs.Plain.{setting}
-use Rattle.marked_laws.proofs.Shapes.{none_some}
 use Rattle.net_core.specs.declared.moves.Move.{Move}
 use Rattle.net_core.specs.declared.moves.Move.TheVariants as move
 use Rattle.net_core.specs.Schedule.{move_place, move_step, moves}
@@ -20,13 +19,13 @@ pub move_of_step : (old new : NetState) (q : Role) (a : Act) → IsStepOf old q 
 move_of_step old new q a made = record { outcome = made.outcome; steps = made.steps; goes = made.goes }
 
 -- the move at the schedule's place is what the schedule takes
-pub advances : (old new : NetState) (seed : Option ℕ) (m : Move)
-    → slice_get (moves (setting (bundle_of old)) (network_of old)) (move_place seed (length (moves (setting (bundle_of old)) (network_of old)))) ≡ Some m
-    → IsMoveOf old m new → Advances old seed new
-advances old new seed m at made = record {
-  outcome = made.outcome;
-  takes = ap (option_and_then (move_step (setting (bundle_of old)) (network_of old))) at ∙ made.steps;
-  goes = made.goes;
-}
-
-pub ruleset turn_steps = (move_of_change, move_of_step, advances)
+pub advances : (old new : NetState) (seed : Option ℕ) (m : Move) (place : ℕ) → place ≡ move_place seed (length (moves (setting (bundle_of old)) (network_of old)))
+    → slice_get (moves (setting (bundle_of old)) (network_of old)) place ≡ Some m → IsMoveOf old m new → Advances old seed new
+advances old new seed m place is at made =
+    let first : slice_get (moves (setting (bundle_of old)) (network_of old)) (move_place seed (length (moves (setting (bundle_of old)) (network_of old)))) ≡ Some m =
+    subst (λ n. slice_get (moves (setting (bundle_of old)) (network_of old)) n ≡ Some m) is at in
+    record {
+      outcome = made.outcome;
+      takes = ap (option_and_then (move_step (setting (bundle_of old)) (network_of old))) first ∙ made.steps;
+      goes = made.goes;
+    }

@@ -1,5 +1,5 @@
 -- A run makes at most one update an entry.
-use Rattle.std.proofs.Common.{◌≡◌, ◌≤◌, ◌<◌, ◌+◌, ℕ, suc, List, [], ◌∷◌, length, Option, Some, None, refl, sym, ap, ◌∙◌, ⊎_elim, arith}
+use Rattle.std.proofs.Common.{◌≡◌, ◌≤◌, ◌<◌, ◌+◌, ℕ, List, [], ◌∷◌, length, Option, Some, None, refl, sym, ap, ⊎_elim, arith}
 use Rattle.std.specs.Prelude.{option_and_then}
 use Rattle.dioc_terms.specs.declared.entries.Chosen.TheVariants as chosen
 use Rattle.dioc_terms.specs.declared.entries.Entry.{Entry}
@@ -39,11 +39,12 @@ step_updates b N e M h = ⊎_elim by_role by_change (network_cases b N e M h)
 
 run_updates : (b : Setting) (N : Network) (H : List Entry) (M : Network) → run_from b N H ≡ Some M → M.updates ≤ N.updates + length H
 run_updates b N [] M h = let same : M.updates ≡ N.updates = ap (λ (L : Network). L.updates) (sym (some_same h)) in omega (arith, same)
-run_updates b N (e ∷ H) M h = by_step (network_step b N e) refl h
+run_updates b N (e ∷ H) M h = by_step (network_step b N e) refl h (λ L k. run_updates b L H M k)
   where
-    by_step : (o : Option Network) → network_step b N e ≡ o → option_and_then (λ L. run_from b L H) o ≡ Some M → M.updates ≤ N.updates + length (e ∷ H)
-    by_step None is k = absurd (none_some k)
-    by_step (Some L) is k = omega (arith, step_updates b N e L is, run_updates b L H M k)
+    by_step : (o : Option Network) → network_step b N e ≡ o → option_and_then (λ L. run_from b L H) o ≡ Some M
+        → ((L : Network) → run_from b L H ≡ Some M → M.updates ≤ L.updates + length H) → M.updates ≤ N.updates + length (e ∷ H)
+    by_step None is k rest = absurd (none_some k)
+    by_step (Some L) is k rest = omega (arith, step_updates b N e L is, rest L k)
 
 -- where there is room, fewer updates were made than the limit allows entries
 pub few_updates : (net : NetState) → IsSoundRun net → length net.history < net.limit → net.limit ≤ 4294967295 → (network_of net).updates < 4294967295

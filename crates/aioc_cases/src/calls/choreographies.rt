@@ -19,7 +19,8 @@ pub fn answer(alloc: Global, case: &Case, out: &mut Vec<u8>) -> Result<(), Probl
     Ok(())
 }
 
-fn version_of(case: &Case) -> Result<u32, Problem> {
+/// The version that the only option names.
+pub fn version_of(case: &Case) -> Result<u32, Problem> {
     match case.option()? {
         b"1" => Ok(1),
         b"2" => Ok(2),

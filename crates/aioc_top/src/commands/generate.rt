@@ -4,7 +4,6 @@ ghost use Rattle.std.specs.Prelude.{◌≡◌, ◌≤◌, ◌++◌, ◌∷◌, [
 ghost use Rattle.dioc_terms.specs.Messages.{visible};
 ghost use Rattle.dioc_terms.specs.Plain.{plain};
 ghost use Rattle.dioc_terms.specs.Terms.{nodes, term};
-ghost use Rattle.load_gen.specs.Made.{most_size};
 ghost use Rattle.role_network.specs.Nets.{network_of};
 ghost use Rattle.trace_text.specs.Lines.{line_end};
 ghost use Rattle.aioc_top.specs.Replies.{gen_reply, reply_of};
@@ -14,7 +13,7 @@ use crate::replies::Written;
 use dioc_terms::{Bundle, Memory};
 use dpoc_process::RoleState;
 use index_marks::nodes;
-use load_gen::{make, made_is_accepted};
+use load_gen::make;
 use net_core::{accepted_is_sound, runs_are_sound};
 use role_network::Net;
 use schedule::run_seeded;
@@ -29,10 +28,9 @@ const USUAL_STEPS: u64 = 20_000;
 /// choreography plays the run holds of every run, so the line always says it.
 pub fn generate(alloc: Global, number: u64, size: u32) -> Result<Written, Memory>
     requires least { 1 ≤ size }
-    requires most { size ≤ most_size }
+    requires most { size ≤ 400 }
     ensures { IfOk result (λ written. reply_of written ≡ gen_reply number size) }
 {
-    made_is_accepted();
     accepted_is_sound();
     runs_are_sound();
     let bundle = make(alloc, number, size)?;

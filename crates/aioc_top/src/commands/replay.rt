@@ -1,6 +1,6 @@
 //! `replay`: the judgement of a bundle's trace.
 
-ghost use Rattle.std.specs.Prelude.{◌≡◌, ◌<◌, ◌≤◌, [], length, true, false, not, Some, None, IfOk, MatchOption};
+ghost use Rattle.std.specs.Prelude.{◌≡◌, ◌<◌, ◌+◌, length, true, false, None, Some, IfOk};
 ghost use Rattle.dioc_terms.specs.Bundles.{IsFormed};
 ghost use Rattle.dioc_terms.specs.Messages.{visible};
 ghost use Rattle.dioc_terms.specs.Plain.{plain};
@@ -14,6 +14,7 @@ use crate::replies::{End, Written};
 use aux_messages::is_aux;
 use dioc_terms::{Bundle, Entry, Last, Memory};
 use global_follower::{FollowFault, Follower};
+use global_steps::plays_go_on;
 use std::alloc::Global;
 use text_pieces::{write_bytes, write_number};
 
@@ -27,9 +28,12 @@ pub fn replay(alloc: Global, bundle: &Bundle) -> Result<Written, Memory>
 {
     let entries = bundle.trace.entries.as_slice();
     let mut follower = Follower::new(alloc, bundle)?;
-    match first_stray(alloc, &mut follower, entries)? {
+    let stray = first_stray(alloc, &mut follower, entries);
+    let is_over = follower.is_ended();
+    drop(follower);
+    match stray? {
         Some(number) => say_no(alloc, number),
-        None => say_whole(alloc, &bundle.trace.last, follower.is_ended(), entries),
+        None => say_whole(alloc, &bundle.trace.last, is_over, entries),
     }
 }
 
@@ -75,6 +79,7 @@ fn first_stray(
         → play_from (setting_of follower.old) (state_of follower.old) (visible entries.now)
         ≡ Some (state_of follower.new)) }
 {
+    plays_go_on();
     let mut number: u64 = 0;
     for entry in entries {
         number += 1;
@@ -135,8 +140,5 @@ fn say_no(alloc: Global, number: u64) -> Result<Written, Memory>
     write_bytes(b"no ", &mut text)?;
     write_number(number, &mut text)?;
     write_bytes(b"\n", &mut text)?;
-    Ok(Written {
-        end: End::No,
-        text,
-    })
+    Ok(Written { end: End::No, text })
 }

@@ -34,7 +34,13 @@ pub fn step(alloc: Global, options: &Options, bundle: &Bundle) -> Result<Written
     let finish = run_seeded(&mut net, options.seed)?;
     let mut text = Vec::new(alloc);
     let last = last_of(finish, net.history().len());
-    write_text(net.history().as_slice(), options.aux, &last, options.json, &mut text)?;
+    write_text(
+        net.history().as_slice(),
+        options.aux,
+        &last,
+        options.json,
+        &mut text,
+    )?;
     Ok(Written {
         end: end_of(finish),
         text,

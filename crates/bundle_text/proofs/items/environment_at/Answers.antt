@@ -1,8 +1,7 @@
 use Rattle.std.proofs.Common.{sym, subst, arith}
 use Rattle.bundle_text.specs.Grammar.{IsBound}
 use Rattle.bundle_text.specs.Readers.{ItemAt}
-use Rattle.bundle_text.proofs.Repeated.{SoFar, none_yet, one_further, all_taken, none_further}
-use Rattle.bundle_text.proofs.Unique.{bounds_each, bound_never}
+use Rattle.bundle_text.proofs.Repeated.{SoFar, none_yet, one_further, all_taken, ends_among}
 use Rattle.bundle_text.proofs.items.environment_at.Goals as goal
 
 pub loop-alloc-init : goal.loop-alloc-init
@@ -23,7 +22,7 @@ loop-alloc-smaller c =
 
 pub returns-in-None-clause-stopped : goal.returns-in-None-clause-stopped
 returns-in-None-clause-stopped c = λ other.
-    none_further IsBound c.args.text.now c.args.at c.args.env.now.items bounds_each bound_never c.loop-alloc.env.items c.loop-alloc.next c.loop-alloc.invariant
+    ends_among IsBound c.args.text.now c.args.at c.args.env.now.items c.loop-alloc.env.items c.loop-alloc.next c.loop-alloc.invariant
     (subst (ItemAt IsBound c.args.text.now c.loop-alloc.next) c.in-None.is c.in_ok-bound.ensures) (λ is. let found = c.has.ensures.value.1 is in let missed = c.loop-alloc-test.true in cc)
 
 pub returns-clause-found : goal.returns-clause-found

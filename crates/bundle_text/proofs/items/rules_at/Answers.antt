@@ -4,8 +4,7 @@ use Rattle.dioc_terms.specs.Plain.{plain_rule}
 use Rattle.rule_syntax.specs.Grammar.{IsRule}
 use Rattle.bundle_text.specs.Grammar.{inside_limit}
 use Rattle.rule_syntax.specs.Readers.{RuleAt}
-use Rattle.bundle_text.proofs.Repeated.{SoFar, none_yet, one_further, all_taken, none_further}
-use Rattle.bundle_text.proofs.Unique.{rules_each, rule_never}
+use Rattle.bundle_text.proofs.Repeated.{SoFar, none_yet, one_further, all_taken, ends_among}
 use Rattle.bundle_text.proofs.items.rules_at.Goals as goal
 
 pub loop-alloc-init : goal.loop-alloc-init
@@ -26,7 +25,7 @@ loop-alloc-smaller c =
 
 pub returns-in-None-clause-stopped : goal.returns-in-None-clause-stopped
 returns-in-None-clause-stopped c = λ other.
-    none_further (IsRule c.args.version inside_limit) c.args.text.now c.args.at (map plain_rule c.args.rules.now.items) rules_each rule_never (map plain_rule c.loop-alloc.rules.items) c.loop-alloc.next c.loop-alloc.invariant
+    ends_among (IsRule c.args.version inside_limit) c.args.text.now c.args.at (map plain_rule c.args.rules.now.items) (map plain_rule c.loop-alloc.rules.items) c.loop-alloc.next c.loop-alloc.invariant
     (subst (RuleAt c.args.version inside_limit c.args.text.now c.loop-alloc.next) c.in-None.is c.in_ok-rule.ensures) (λ is. let found = c.has.ensures.value.1 is in let missed = c.loop-alloc-test.true in cc)
 
 pub returns-clause-found : goal.returns-clause-found

@@ -3,8 +3,7 @@ use Rattle.std.proofs.lemmas.List.{map-append}
 use Rattle.bundle_text.specs.Grammar.{IsTimed}
 use Rattle.bundle_text.specs.Readers.{plain_timed}
 use Rattle.bundle_text.specs.Readers.{TimedAt}
-use Rattle.bundle_text.proofs.Repeated.{SoFar, none_yet, one_further, all_taken, none_further}
-use Rattle.bundle_text.proofs.Unique.{timed_each, timed_never}
+use Rattle.bundle_text.proofs.Repeated.{SoFar, none_yet, one_further, all_taken, ends_among}
 use Rattle.bundle_text.proofs.items.script_at.Goals as goal
 
 pub loop-alloc-init : goal.loop-alloc-init
@@ -25,7 +24,7 @@ loop-alloc-smaller c =
 
 pub returns-in-None-clause-stopped : goal.returns-in-None-clause-stopped
 returns-in-None-clause-stopped c = λ other.
-    none_further (IsTimed c.args.version) c.args.text.now c.args.at (map plain_timed c.args.script.now.items) timed_each timed_never (map plain_timed c.loop-alloc.script.items) c.loop-alloc.next c.loop-alloc.invariant
+    ends_among (IsTimed c.args.version) c.args.text.now c.args.at (map plain_timed c.args.script.now.items) (map plain_timed c.loop-alloc.script.items) c.loop-alloc.next c.loop-alloc.invariant
     (subst (TimedAt c.args.version c.args.text.now c.loop-alloc.next) c.in-None.is c.in_ok-timed.ensures) (λ is. let found = c.has.ensures.value.1 is in let missed = c.loop-alloc-test.true in cc)
 
 pub returns-clause-found : goal.returns-clause-found

@@ -1,7 +1,8 @@
-use Rattle.std.proofs.Common.{◌≢◌, drop, sym, subst, arith, IfErr}
+use Rattle.std.proofs.Common.{◌≢◌, sym, subst, arith, IfErr}
 use Rattle.bundle_text.specs.declared.stops.Stop.TheVariants as stops
-use Rattle.bundle_text.specs.Readers.{found_in, NoSections}
-use Rattle.bundle_text.proofs.SectionSteps.{no_section_yet, section_further, sections_taken, sections_stopped}
+use Rattle.bundle_text.specs.Readers.{found_in}
+use Rattle.bundle_text.specs.Stops.{place_in, EndsAmongSections}
+use Rattle.bundle_text.proofs.SectionSteps.{no_section_yet, section_further, sections_taken, sections_ended}
 use Rattle.bundle_text.proofs.sections.sections_at.Goals as goal
 
 pub loop-next-init : goal.loop-next-init
@@ -18,5 +19,5 @@ returns-clause-found c = sections_taken c.args.version c.args.text.now c.args.at
 
 pub returns-in-Err-clause-stopped : goal.returns-in-Err-clause-stopped
 returns-in-Err-clause-stopped c =
-    subst (λ result. IfErr result (λ stop. stop ≢ stops.Memory → NoSections c.args.version (drop c.args.at c.args.text.now))) (sym c.lost.ensures) (λ told.
-    sections_stopped c.args.version c.args.text.now c.args.at (found_in c.loop-next.parts) c.loop-next.next c.loop-next.invariant (omega arith) (c.in-Err.ensures.stopped told))
+    subst (λ result. IfErr result (λ stop. stop ≢ stops.Memory → EndsAmongSections c.args.version c.args.text.now c.args.at (place_in stop))) (sym c.lost.ensures) (λ told.
+    sections_ended c.args.version c.args.text.now c.args.at (found_in c.loop-next.parts) c.loop-next.next _ c.loop-next.invariant (omega arith) (c.in-Err.ensures.stopped told))

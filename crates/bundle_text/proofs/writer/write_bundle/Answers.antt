@@ -1,7 +1,7 @@
-use Rattle.std.proofs.Common.{◌≡◌, ◌++◌, subst, OnOk}
+use Rattle.text_pieces.proofs.KeptFronts.{whole_text}
 use Rattle.bundle_text.proofs.Spells.{text_is}
 use Rattle.bundle_text.proofs.writer.write_bundle.Goals as goal
 
-pub returns-else-is_err-clause-ok : goal.returns-else-is_err-clause-ok
-returns-else-is_err-clause-ok c =
-    subst (λ text. OnOk c.write_pieces-result.result (c.write_pieces-result.new.out.items ≡ c.args.out.now.items ++ text)) (text_is c.args.bundle.now) c.write_pieces-result.ensures.ok
+pub returns-clause-ok : goal.returns-clause-ok
+returns-clause-ok c =
+    whole_text _ c.cut_back.result c.args.out.now.items c.write_pieces-written.new.out.items c.cut_back.new.out.items _ _ c.cut_back.ensures.answer (text_is c.args.bundle.now) c.write_pieces-written.ensures.ok c.cut_back.ensures.ok

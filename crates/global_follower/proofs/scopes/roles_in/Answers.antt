@@ -1,4 +1,4 @@
-use Rattle.std.proofs.Common.{◌<◌, ◌≡◌, ◌∙◌, ◌++◌, ◌∷◌, [], cond, filter, length, take, sym, ap, ap₂, arith}
+use Rattle.std.proofs.Common.{◌<◌, ◌∙◌, ◌++◌, ◌∷◌, [], cond, filter, length, take, sym, ap, ap₂, arith}
 use Rattle.std.proofs.lemmas.List.Elements.{filter_more}
 use Rattle.dioc_terms.specs.declared.names.Role.{Role}
 use Rattle.dioc_terms.specs.Terms.{term, is_in}

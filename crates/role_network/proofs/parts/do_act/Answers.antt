@@ -1,7 +1,6 @@
 -- The begin of a scope is the step of the role that was made ready.
-use Rattle.std.proofs.Common.{◌≡◌, true, sym, ap, ◌∙◌, subst}
-use Rattle.dpoc_process.specs.LocalStates.{LocalState, offered}
-use Rattle.process_steps.specs.Steps.{is_offered}
+use Rattle.std.proofs.Common.{sym, subst}
+use Rattle.dpoc_process.specs.LocalStates.{LocalState}
 use Rattle.rule_book.specs.KeptBooks.{book_of}
 use Rattle.role_network.specs.Deeds.{given_to, IsDone}
 use Rattle.role_network.specs.Scopes.{Tells}

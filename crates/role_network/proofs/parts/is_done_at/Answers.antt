@@ -1,13 +1,13 @@
 -- The role stands at its place.
-use Rattle.std.proofs.Common.{◌≡◌, ◌<◌, ℕ, None, Some, slice_get, length, true, false, sym, ap, ◌∙◌, arith}
+use Rattle.std.proofs.Common.{◌≡◌, ◌<◌, Some, slice_get, length, sym, ◌∙◌, arith}
 use Rattle.std.proofs.lemmas.Bool.{false≢true}
 use Rattle.std.proofs.lemmas.Option.{slice_get_within}
 use Rattle.role_network.proofs.PlaceLemmas.{place_at, place_none}
 use Rattle.role_network.proofs.RoleLemmas.{here_is}
 use Rattle.role_network.proofs.parts.is_done_at.Goals as goal
 
-pub prove-unreachable-requires : goal.prove-unreachable-requires
-prove-unreachable-requires g c =
+pub unreachable-requires : goal.unreachable-requires
+unreachable-requires g c =
     absurd (false≢true (sym (place_none c.args.role.now c.args.cast.now (sym c.place_of.ensures ∙ c.in_default.is)) ∙ c.requires.member))
 
 pub returns : goal.returns

@@ -1,5 +1,5 @@
 -- The role is at its place, and the others stay.
-use Rattle.std.proofs.Common.{◌≡◌, ◌<◌, ℕ, None, Some, slice_get, length, sym, ap, ◌∙◌, inl, arith}
+use Rattle.std.proofs.Common.{◌≡◌, ◌<◌, Some, slice_get, length, sym, ap, ◌∙◌, inl, arith}
 use Rattle.std.proofs.lemmas.List.{map-set}
 use Rattle.std.proofs.lemmas.Option.{slice_get_within}
 use Rattle.std.specs.List.{position}
@@ -9,7 +9,6 @@ use Rattle.rule_book.specs.KeptBooks.{book_of}
 use Rattle.role_network.proofs.PlaceLemmas.{place_at, place_none}
 use Rattle.role_network.proofs.RoleLemmas.{here_is, locals_same, refused_role}
 use Rattle.role_network.proofs.SameMail.{can_same, done_same}
-use Rattle.role_network.specs.Deeds.{IsAt}
 use Rattle.role_network.proofs.parts.step_role.Goals as goal
 
 pub returns-in_default-clause-refused : goal.returns-in_default-clause-refused

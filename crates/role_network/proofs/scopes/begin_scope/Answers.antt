@@ -1,5 +1,5 @@
 -- The leader is there, and what it did is what the book decides of the scope's head.
-use Rattle.std.proofs.Common.{◌≡◌, ℕ, suc, List, Option, IsSome, Some, None, refl, sym, ap, ◌∙◌, subst}
+use Rattle.std.proofs.Common.{◌≡◌, suc, Option, IsSome, refl, sym, ap, ◌∙◌, subst}
 use Rattle.std.specs.Prelude.{option_map}
 use Rattle.std.specs.Option.{option_copied}
 use Rattle.dioc_terms.specs.declared.processes.ScopeHead.{ScopeHead}
@@ -7,11 +7,11 @@ use Rattle.dioc_terms.specs.KeptStores.{store_of}
 use Rattle.dioc_terms.specs.Stores.{Store}
 use Rattle.dioc_terms.specs.Terms.{term}
 use Rattle.dpoc_process.specs.Acting.{head_of}
-use Rattle.global_steps.specs.Follow.{BookChoice, TakesRule, book_choice}
+use Rattle.global_steps.specs.Follow.{book_choice}
 use Rattle.marked_laws.proofs.Shapes.{some_same}
 use Rattle.marked_laws.specs.Network.{decision}
 use Rattle.process_steps.specs.Steps.{Decision, Keeps, Replaces}
-use Rattle.role_network.proofs.ScopeLemmas.{Answer, answer_of, began, body_in_cast, can_begin, lead_there}
+use Rattle.role_network.proofs.ScopeLemmas.{answer_of, began, body_in_cast, can_begin, lead_there}
 use Rattle.role_network.specs.KeptParts.{body_seen}
 use Rattle.role_network.specs.Scopes.{choice_by}
 use Rattle.rule_book.specs.KeptBooks.{book_of}

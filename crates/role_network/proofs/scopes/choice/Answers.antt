@@ -1,6 +1,6 @@
 -- The body is that of the rule which the book chooses.
-use Rattle.std.proofs.Common.{◌≡◌, sym, ap, ◌∙◌}
-use Rattle.std.specs.Prelude.{map, option_map, slice_get}
+use Rattle.std.proofs.Common.{sym, ap, ◌∙◌}
+use Rattle.std.specs.Prelude.{option_map, slice_get}
 use Rattle.std.proofs.lemmas.Option.{slice_get-map}
 use Rattle.dioc_terms.specs.KeptStores.{store_of}
 use Rattle.role_network.proofs.ScopeLemmas.{choice_is, choice_none}

@@ -1,5 +1,4 @@
 -- The leader went on as the book says.
-use Rattle.dpoc_process.specs.Handed.{IsKept}
 use Rattle.process_steps.specs.Steps.{FromBook}
 use Rattle.role_network.proofs.ScopeLemmas.{kept_brings}
 use Rattle.role_network.proofs.scopes.keep_scope.Goals as goal

@@ -1,5 +1,5 @@
 -- The leader went on as the book says, with the parts of the plan.
-use Rattle.std.proofs.Common.{◌≡◌, ◌+◌, suc, sym, ap, ap₂, ◌∙◌, add-one}
+use Rattle.std.proofs.Common.{◌≡◌, ◌+◌, suc, ap₂, ◌∙◌, add-one}
 use Rattle.dioc_terms.specs.Processes.{process, letters}
 use Rattle.dioc_terms.specs.Terms.{term}
 use Rattle.process_steps.specs.Steps.{FromBook}

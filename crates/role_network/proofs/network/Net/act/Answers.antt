@@ -1,6 +1,6 @@
 -- The step of the role is the step of the net.
 use Rattle.net_core.specs.declared.moves.StepFault.TheVariants as fault
-use Rattle.std.proofs.Common.{◌≡◌, ◌≢◌, ◌<◌, Some, ℕ, List, false, length, refl, sym, ap, ◌∙◌, subst}
+use Rattle.std.proofs.Common.{◌≡◌, ◌≢◌, ◌<◌, Some, false, length, sym, ◌∙◌, subst}
 use Rattle.std.specs.Prelude.{map, OnOk, IfErr}
 use Rattle.std.proofs.lemmas.List.{length-map}
 use Rattle.dioc_terms.specs.Plain.{plain}

@@ -1,5 +1,5 @@
 -- The first of the changes is the script's next change.
-use Rattle.std.proofs.Common.{◌≡◌, ◌&&◌, not, ℕ, List, Bool, length, sym, ap, ◌∙◌}
+use Rattle.std.proofs.Common.{◌≡◌, ◌&&◌, not, length, sym, ap, ◌∙◌}
 use Rattle.std.specs.Prelude.{map}
 use Rattle.dioc_terms.specs.Messages.{visible}
 use Rattle.dioc_terms.specs.Plain.{plain}

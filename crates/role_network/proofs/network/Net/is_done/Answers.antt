@@ -1,8 +1,7 @@
 -- The role's process is that of the network.
-use Rattle.std.proofs.Common.{◌≡◌, ℕ, List, Bool, length, true, sym, ap, ◌∙◌, subst}
+use Rattle.std.proofs.Common.{length, sym, ap, ◌∙◌, subst}
 use Rattle.std.specs.Prelude.{map}
 use Rattle.std.proofs.lemmas.List.{length-map}
-use Rattle.dioc_terms.specs.declared.names.Role.{Role}
 use Rattle.dioc_terms.specs.Equality.{member}
 use Rattle.dioc_terms.specs.Plain.{plain}
 use Rattle.process_steps.specs.Steps.{ended}
@@ -17,7 +16,7 @@ pub is_done_at-requires-clause-lengths : goal.is_done_at-requires-clause-lengths
 is_done_at-requires-clause-lengths g c =
     let i = c.self.inside in
     let parts : Parts = record { cast = i.cast; locals = map g.R.Runs.local i.roles.items; mail = i.mail; book = i.book; bodies = map body_seen i.bodies; coming = map due_seen i.coming.items; updates = i.updates; history = i.history.entries } in
-    ap length c.as_slice-2.ensures ∙ sym (length-map i.roles.items g.R.Runs.local) ∙ locals_long (plain i.of.value) i.limit parts c.self.invariant ∙ ap length (sym c.as_slice.ensures)
+    ap length c.as_slice-2.ensures.value ∙ sym (length-map i.roles.items g.R.Runs.local) ∙ locals_long (plain i.of.value) i.limit parts c.self.invariant ∙ ap length (sym c.as_slice.ensures)
 
 pub is_done_at-requires-clause-member : goal.is_done_at-requires-clause-member
 is_done_at-requires-clause-member g c =
@@ -30,7 +29,7 @@ returns g c =
     let i = c.self.inside in
     let parts : Parts = record { cast = i.cast; locals = map g.R.Runs.local i.roles.items; mail = i.mail; book = i.book; bodies = map body_seen i.bodies; coming = map due_seen i.coming.items; updates = i.updates; history = i.history.entries } in
     let done : DoneAt i.cast (map g.R.Runs.local i.roles.items) c.args.role.now c.is_done_at.result =
-    subst (λ roles. DoneAt i.cast (map g.R.Runs.local roles) c.args.role.now c.is_done_at.result) c.as_slice-2.ensures
+    subst (λ roles. DoneAt i.cast (map g.R.Runs.local roles) c.args.role.now c.is_done_at.result) c.as_slice-2.ensures.value
     (subst (λ cast. DoneAt cast (map g.R.Runs.local c.as_slice-2.result.now) c.args.role.now c.is_done_at.result) c.as_slice.ensures c.is_done_at.ensures) in
     done_is (plain i.of.value) i.limit parts c.self.invariant c.args.role.now c.is_done_at.result done
     ∙ ap (λ (net : NetState). ended ((network_of net).processes c.args.role.now)) c.self.view_is

@@ -1,6 +1,8 @@
 -- Each role has ended and no message is pending, exactly where the network has ended.
-use Rattle.std.proofs.Common.{◌≡◌, ℕ, List, true, false, refl, sym, ap, ◌∙◌, arith}
-use Rattle.std.specs.Prelude.{map}
+use Rattle.std.proofs.Common.{true, false, refl, ap, ◌∙◌}
+use Rattle.std.specs.Prelude.{eqb, map}
+use Rattle.std.proofs.lemmas.Bool.{false_from_ne_true}
+use Rattle.std.proofs.lemmas.Bool.Decides.{Decides-eqb}
 use Rattle.std.specs.List.{list_all}
 use Rattle.dioc_terms.specs.Plain.{plain}
 use Rattle.process_steps.specs.Steps.{ended}
@@ -15,7 +17,7 @@ pub returns-then-len-eq0 : goal.returns-then-len-eq0
 returns-then-len-eq0 g c =
     let i = c.self.inside in
     let parts : Parts = record { cast = i.cast; locals = map g.R.Runs.local i.roles.items; mail = i.mail; book = i.book; bodies = map body_seen i.bodies; coming = map due_seen i.coming.items; updates = i.updates; history = i.history.entries } in
-    c.all_done-done.ensures ∙ ap (list_all (λ state. ended (g.R.Runs.local state).process)) c.as_slice.ensures
+    c.all_done-done.ensures ∙ ap (list_all (λ state. ended (g.R.Runs.local state).process)) c.as_slice.ensures.value
     ∙ ended_is g.R.Runs.local (plain i.of.value) i.limit parts c.self.invariant i.roles.items true refl ((λ e. c.len.ensures.none.0 c.if-len-eq0.true), (λ h. refl))
     ∙ ap (λ (net : NetState). network_ended (bundle_of net).cast (network_of net)) c.self.view_is
 
@@ -23,5 +25,6 @@ pub returns-else-len-eq0 : goal.returns-else-len-eq0
 returns-else-len-eq0 g c =
     let i = c.self.inside in
     let parts : Parts = record { cast = i.cast; locals = map g.R.Runs.local i.roles.items; mail = i.mail; book = i.book; bodies = map body_seen i.bodies; coming = map due_seen i.coming.items; updates = i.updates; history = i.history.entries } in
-    ended_is g.R.Runs.local (plain i.of.value) i.limit parts c.self.invariant i.roles.items false refl ((λ e. cc), (λ h. absurd (c.if-len-eq0.false (c.len.ensures.none.1 h))))
+    false_from_ne_true (eqb c.len.result 0) (λ t. c.if-len-eq0.false ((Decides-eqb c.len.result 0).0 t))
+    ∙ ended_is g.R.Runs.local (plain i.of.value) i.limit parts c.self.invariant i.roles.items false refl ((λ e. cc), (λ h. absurd (c.if-len-eq0.false (c.len.ensures.none.1 h))))
     ∙ ap (λ (net : NetState). network_ended (bundle_of net).cast (network_of net)) c.self.view_is

@@ -1,5 +1,5 @@
 -- The moves that are listed are those of the network.
-use Rattle.std.proofs.Common.{◌≡◌, ◌&&◌, not, sym, ap, ◌∙◌}
+use Rattle.std.proofs.Common.{◌&&◌, not, sym, ap, ◌∙◌}
 use Rattle.std.specs.Prelude.{map}
 use Rattle.dioc_terms.specs.Plain.{plain, setting}
 use Rattle.marked_laws.specs.Network.{network_ended}

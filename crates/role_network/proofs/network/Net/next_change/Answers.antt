@@ -1,5 +1,5 @@
 -- The change is that of the net.
-use Rattle.std.proofs.Common.{◌≡◌, ◌≢◌, ◌<◌, Some, ℕ, List, length, refl, sym, ap, ◌∙◌, subst}
+use Rattle.std.proofs.Common.{◌≡◌, ◌≢◌, ◌<◌, Some, length, sym, ap, subst}
 use Rattle.std.specs.Prelude.{map, OnOk, IfErr}
 use Rattle.dioc_terms.specs.Plain.{plain}
 use Rattle.trace_book.specs.Histories.{Written}

@@ -1,5 +1,5 @@
 -- What the net is started with is the network before its first step.
-use Rattle.std.proofs.Common.{◌≡◌, ◌<◌, length, map, refl, sym, ap, ap₂, ◌∙◌, subst}
+use Rattle.std.proofs.Common.{◌<◌, map, refl, sym, ap, ap₂, ◌∙◌, subst}
 use Rattle.std.specs.List.{AllByRecursion}
 use Rattle.std.proofs.lemmas.List.{length-map}
 use Rattle.dioc_terms.specs.declared.bundles.Bundle.{Bundle}
@@ -10,19 +10,19 @@ use Rattle.role_network.specs.KeptParts.{body_seen, due_seen}
 use Rattle.role_network.specs.Standing.{Parts, Stands, body_of, due_of}
 use Rattle.role_network.proofs.network.Net.start.Goals as goal
 
-pub keep_script-coming-requires : goal.keep_script-coming-requires
-keep_script-coming-requires g c =
+pub keep_script-requires : goal.keep_script-requires
+keep_script-requires g c =
     let b = plain c.args.bundle.now in
     rw (c.as_slice-2.ensures, c.as_slice-3.ensures)
     (subst (λ n. AllByRecursion (λ m. m < n) (adds b.script)) (length-map c.args.bundle.now.rules plain_rule) (adds_rules b c.requires.formed))
 
-pub role_states-roles-requires : goal.role_states-roles-requires
-role_states-roles-requires g c = roles_of_cast c.casts_are_roles.ensures (plain c.args.bundle.now) c.requires.formed
+pub role_states-requires : goal.role_states-requires
+role_states-requires g c = roles_of_cast c.casts_are_roles.ensures (plain c.args.bundle.now) c.requires.formed
 
 pub invariant_of-result : goal.invariant_of-result
 invariant_of-result g c =
     let b = plain c.args.bundle.now in
-    let parts : Parts = record { cast = c.in_ok-cast.cast; locals = map g.R.Begins.Runs.local c.in_ok-roles.roles.items; mail = c.new-mail.result; book = c.in_ok-book.book; bodies = map body_seen c.new-bodies.result; coming = map due_seen c.in_ok-coming.coming.items; updates = 0; history = c.new-history.result.entries } in
+    let parts : Parts = record { cast = c.in_ok-cast.cast; locals = map g.R.Runs.local c.in_ok-roles.roles.items; mail = c.new-mail.result; book = c.in_ok-book.book; bodies = map body_seen c.new-bodies.result; coming = map due_seen c.in_ok-coming.coming.items; updates = 0; history = c.new-history.result.entries } in
     subst (λ (of : Bundle). Stands (plain of) c.args.limit parts) (sym c.of-of.ensures)
     (stands_started b c.args.limit parts c.requires c.in_ok-cast.ensures c.in_ok-roles.ensures c.new-mail.ensures
     c.in_ok-book.ensures.opening c.in_ok-book.ensures.of c.in_ok-book.ensures.coming

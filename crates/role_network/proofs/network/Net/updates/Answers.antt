@@ -1,5 +1,5 @@
 -- The number of updates is the network's.
-use Rattle.std.proofs.Common.{◌≡◌, sym, ap, ◌∙◌}
+use Rattle.std.proofs.Common.{sym, ap, ◌∙◌}
 use Rattle.dioc_terms.specs.Plain.{plain}
 use Rattle.marked_laws.specs.Network.{Network}
 use Rattle.role_network.proofs.NetLemmas.{network_is}

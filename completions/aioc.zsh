@@ -1,0 +1,35 @@
+#compdef aioc
+# Completions of aioc for zsh: its commands, and the options that each of them takes, each once.
+# To use them in a shell, behind compinit: source completions/aioc.zsh
+
+_aioc() {
+    local -a commands
+    commands=(
+        'step:print the trace of one run'
+        'check:say whether a bundle is accepted, and how large it is'
+        'project:print the process of each role'
+        'replay:judge the trace in a bundle'
+        'upgrade:write a bundle in version 2'
+    )
+    if ((CURRENT == 2)); then
+        _describe command commands
+        return
+    fi
+    shift words
+    ((CURRENT -= 1))
+    case $words[1] in
+    step)
+        _arguments \
+            '--seed=[take steps by the sequence of this number]:number: ' \
+            '--steps=[stop after so many entries]:number: ' \
+            '--aux[print auxiliary entries too]' \
+            '--json[print each entry as a JSON object]'
+        ;;
+    esac
+}
+
+if [[ $funcstack[1] == _aioc ]]; then
+    _aioc "$@"
+else
+    compdef _aioc aioc
+fi

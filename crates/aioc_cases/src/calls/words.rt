@@ -1,0 +1,29 @@
+//! `read_words WORD..:`: the command that the words spell.
+
+use crate::cases::Case;
+use crate::problems::Problem;
+use command_words::{Command, read_words};
+use std::alloc::Global;
+use text_pieces::write_bytes;
+
+/// Appends the command as it is declared, or `none`.
+pub fn answer(alloc: Global, case: &Case, out: &mut Vec<u8>) -> Result<(), Problem> {
+    match read_words(alloc, case.options.as_slice())? {
+        Some(command) => write_command(alloc, &command, out),
+        None => {
+            write_bytes(b"none", out)?;
+            Ok(())
+        }
+    }
+}
+
+fn write_command(alloc: Global, command: &Command, out: &mut Vec<u8>) -> Result<(), Problem> {
+    if let Command::Monitor(role) = command {
+        write_bytes(b"Monitor ", out)?;
+        write_bytes(role.0.bytes(), out)?;
+    } else {
+        let shown = format!(in alloc; "{command:?}")?;
+        write_bytes(shown.as_bytes(), out)?;
+    }
+    Ok(())
+}

@@ -1,0 +1,9 @@
+pub mod Accepting
+pub mod BlockWholes
+pub mod Casts
+pub mod Chains
+pub mod Examples
+pub mod Naming
+pub mod Rows
+pub mod Sizes
+pub mod Wholes

@@ -1,0 +1,5 @@
+pub mod Blocks
+pub mod Draws
+pub mod Laws
+pub mod Made
+pub mod Pieces
