@@ -144,7 +144,7 @@ fn play_whole<'a>(
 }
 
 /// How a part that nobody has begun plays the entry.
-#[tactic(auto, using(crate::proofs::PlayLemmas::waits, crate::proofs::PlayLemmas::still_second))]
+#[tactic(auto, using(crate::proofs::PlayLemmas::still_waits, crate::proofs::PlayLemmas::still_second))]
 fn play_part<'a>(
     alloc: Global,
     choreo: &'a Choreo,
@@ -285,8 +285,7 @@ fn play_landing<'a>(
     flight: &Flight<'a>,
     scene: &Scene<'_>,
 ) -> Result<Option<Played<'a>>, Memory>
-    ensures { IfOk result (λ played. attempt_of played
-        ≡ plays_alone scene.now (flying flight.now)) }
+    ensures { IfOk result (λ played. attempt_of played ≡ plays_alone scene.now (flying flight.now)) }
 {
     if !is_take(scene.entry, flight.message, flight.var) {
         return Ok(None);
