@@ -55,7 +55,7 @@ at_least least most text n h =
     let number = digits_value 10 text in
     let is = kept (are_digits text && (nat_le least number && nat_le number most)) number n h in
     let bounded : nat_le least number ≡ true = first_true (nat_le least number) (nat_le number most) (second_true (are_digits text) (nat_le least number && nat_le number most) is.0) in
-    subst (λ m. least ≤ m) is.1 (omega (arith, bounded))
+    subst (λ m. least ≤ m) is.1 (leb-true least number bounded)
 
 given_or_usual : (usual least most : ℕ) (text : Option Text) (n : ℕ) → usual ≤ most → number_or usual least most text ≡ Some n → n ≤ most
 given_or_usual usual least most None n few h = subst (λ m. m ≤ most) (some_same h) few

@@ -1,5 +1,5 @@
 -- A command and the bytes of a text have verdicts of one kind alone.
-use Rattle.std.proofs.Common.{◌≡◌, ◌<◌, ℕ, List, length, true, true≢false, refl, sym, ap, ◌∙◌, subst, arith}
+use Rattle.std.proofs.Common.{◌≡◌, ◌<◌, ℕ, List, length, true, true≢false, refl, sym, ap, ◌∙◌, subst, arith, Option, Some, None}
 use Rattle.limits.specs.Limits.{most_bytes}
 use Rattle.dioc_terms.specs.Plain.{PlainBundle}
 use Rattle.bundle_text.specs.Grammar.{Spells}

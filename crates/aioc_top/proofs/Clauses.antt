@@ -21,8 +21,8 @@ use Rattle.command_words.specs.declared.commands.Options.{Options}
 use Rattle.command_words.specs.declared.commands.Command.{Command}
 use Rattle.command_words.specs.declared.commands.Command.TheVariants as command
 use Rattle.aioc_top.specs.Calls.{Call, Judges, Happens, IsRead, Reads, ReadsBy, ReadsNothing, ReadsTo, Says, Writes}
-use Rattle.aioc_top.specs.Replies.{Reply, Replies, is_finished, refusal_of, run_reply, step_history, line_of_text, check_line, project_text as project_lines, replay_reply, upgrade_text as upgraded, unread_reply, gen_line, gen_reply, gen_history, updates_of}
-use Rattle.aioc_top.specs.Serve.{CheckText, ComesExactly, Complete, GenPrinted, GenText, GivesUp, HeadlineHolds, AfterEnd, EndsAt, IsComplete, IsUpgraded, JudgementPrinted, PartPrinted, ProjectText, ReadsAll, ReplayText, RunPrinted, SaysWhy, Silent, StepText, TextPrinted, UpgradeText, UsageComes, has_printed}
+use Rattle.aioc_top.specs.Replies.{Reply, Replies, is_finished, refusal_of, step_history, line_of_text, check_line, project_text as project_lines, upgrade_text as upgraded, unread_reply, gen_line, gen_reply, gen_history, updates_of}
+use Rattle.aioc_top.specs.Serve.{CheckText, ComesExactly, Complete, GenPrinted, GivesUp, AfterEnd, EndsAt, IsComplete, IsUpgraded, ProjectText, ReadsAll, ReplayText, RunPrinted, SaysWhy, Silent, TextPrinted, UpgradeText, UsageComes, has_printed}
 use Rattle.aioc_top.specs.Verdicts.{Verdict, TooLong, Unspelled, Refused, Replied, MayReply, Cause, Comes, ComesBy, ComesOfText, Refuses, status_of, status_of_end}
 use Rattle.aioc_top.specs.Words.{is_built, IsShort}
 use Rattle.command_words.specs.Commands.{usual_steps}
@@ -30,7 +30,6 @@ use Rattle.command_words.specs.declared.commands.Verb.TheVariants.{Gen}
 use Rattle.load_gen.specs.Laws.{MadeAreAccepted}
 use Rattle.load_gen.specs.Made.{made}
 use Rattle.rule_checks.specs.declared.refusals.Refusal.{Refusal}
-use Rattle.aioc_top.specs.declared.replies.End.{End}
 use Rattle.aioc_top.specs.declared.replies.End.TheVariants as end
 use Rattle.aioc_top.specs.declared.status.Status.{Status}
 use Rattle.aioc_top.specs.declared.status.Status.TheVariants as status
@@ -125,9 +124,9 @@ module _ (call : Call) (verdict : Verdict) (judges : Judges call verdict) where
   judged_nothing found reply asked is = nothing_read (unread_reply found) verdict judges.bytes call.source call.source_after reply is (reads_by found asked)
 
 reads_nothing : (call : Call) (s : Status) → Happens call s → ReadsNothing call.asked call.source call.source_after
-reads_nothing call status.Usage h found reply asked is = h.1
+reads_nothing call status.Usage h = λ found reply asked is. h.1
 reads_nothing call status.Memory h = h.2
-reads_nothing call status.ReadFault h found reply asked is = absurd (none_some (sym h.0.2 ∙ ap unread_reply (some_same (sym h.0.1 ∙ asked)) ∙ is))
+reads_nothing call status.ReadFault h = λ found reply asked is. absurd (none_some (sym h.0.2 ∙ ap unread_reply (some_same (sym h.0.1 ∙ asked)) ∙ is))
 reads_nothing call status.WriteFault h = judged_nothing call (Replied h.0) h.1
 reads_nothing call status.Done h = judged_nothing call h.0 h.1
 reads_nothing call status.Limit h = judged_nothing call h.0 h.1
@@ -143,7 +142,7 @@ ends_at call status.Limit h = after_end call h.0 h.1 status.Limit h.2 (λ e. cc)
 ends_at call status.No h = after_end call h.0 h.1 status.No h.2 (λ e. cc)
 ends_at call status.Syntax h = after_end call h.0 h.1 status.Syntax h.2 (λ e. cc)
 ends_at call status.Refused h = after_end call h.0 h.1 status.Refused h.2 (λ e. cc)
-ends_at call status.WriteFault h found asked none =
+ends_at call status.WriteFault h = λ found asked none.
     (text_read (unread_reply found) (Replied h.0) h.1.bytes call.source call.source_after none (reads_by call (Replied h.0) h.1 found asked)).1
 ends_at call status.ReadFault h = tt
 ends_at call status.TooLong h = tt
@@ -373,9 +372,9 @@ module _ (formed : SpelledIsFormed) (every : EveryRun) (sound : RunsAreSound) (o
       → (run : RunPrinted options s call.source call.out call.out_after) × (run.history ≡ step_history options run.bundle)
   step_text call s h is prints =
       let its = reply_told call s prints (told call s (printing s prints) h) in
-      let command : its.1.command ≡ command.Step options = some_same (sym its.1.asked ∙ is) in
+      let same : its.1.command ≡ command.Step options = some_same (sym its.1.asked ∙ is) in
       let read : Reads (command.Step options) (Replied its.0) its.1.bytes call.source call.source_after = reads_by call (Replied its.0) its.1 (command.Step options) is in
-      run_printed its.1.bytes call.source call.out call.out_after s its.0 read.0 (subst (λ c. Comes c its.1.bytes (Replied its.0)) command its.1.comes) its.2 its.3
+      run_printed its.1.bytes call.source call.out call.out_after s its.0 read.0 (subst (λ c. Comes c its.1.bytes (Replied its.0)) same its.1.comes) its.2 its.3
 
 -- ---- the text of a command that says something of a bundle
 

@@ -1,5 +1,5 @@
 -- What comes of a command and the bytes that were read, from what its parts answered.
-use Rattle.std.proofs.Common.{◌≡◌, ◌<◌, ◌≤◌, ℕ, suc, List, length, Option, Some, None, IfSome, Result, Ok, Err, IfErr, refl, sym, ap, ◌∙◌, subst, arith}
+use Rattle.std.proofs.Common.{◌≡◌, ◌<◌, ◌≤◌, ℕ, suc, List, length, Option, Some, None, IfSome, Result, Ok, Err, IfOk, IfErr, refl, sym, ap, ◌∙◌, subst, arith}
 use Rattle.std.specs.Prelude.{replicate}
 use Rattle.std.proofs.lemmas.List.{length-replicate}
 use Rattle.std.specs.Io.KnownBytes.{IsAtEnd}
@@ -11,7 +11,7 @@ use Rattle.command_words.specs.declared.commands.Command.{Command}
 use Rattle.marked_laws.proofs.Shapes.{none_some, some_same}
 use Rattle.aioc_top.specs.Calls.{IsRead, ReadsBy, ReadsNothing, ReadsTo}
 use Rattle.aioc_top.specs.Faults.{IsJudgedSo, IsRefusedSo, IsSyntaxFault, ReadSo, Stops}
-use Rattle.aioc_top.specs.Replies.{Reply, Replies, reply_of, unread_reply}
+use Rattle.aioc_top.specs.Replies.{reply_of, unread_reply}
 use Rattle.aioc_top.specs.Verdicts.{Verdict, TooLong, Unspelled, Refused, Replied, IsReplied, ComesBy, ComesOfText}
 use Rattle.aioc_top.specs.declared.faults.Fault.{Fault}
 use Rattle.aioc_top.specs.declared.faults.Fault.TheVariants as fault
@@ -21,6 +21,10 @@ use Rattle.aioc_top.proofs.Clauses.{mapped}
 pub mapped_fault : {A E : Type 0} {P Q : E → Type 0} → ((e : E) → P e → Q e) → (r : Result A E) → IfErr r P → IfErr r Q
 mapped_fault f (Ok x) h = h
 mapped_fault f (Err e) h = f e h
+
+pub mapped_reply : {A E : Type 0} {P Q : A → Type 0} → ((x : A) → P x → Q x) → (r : Result A E) → IfOk r P → IfOk r Q
+mapped_reply f (Ok x) h = f x h
+mapped_reply f (Err e) h = h
 
 pub syntax_is : (asked : Command) (bytes : List ℕ) (byte : ℕ) (f : Fault) → length bytes ≤ most_bytes → SpellsNone bytes → IsSyntaxFault byte f → IsJudgedSo asked bytes f
 syntax_is asked bytes byte (fault.Syntax line) small none h = (byte, (small, none), h)

@@ -1,20 +1,23 @@
 -- The text of a run that has finished is that of the schedule's run.
-use Rattle.std.proofs.Common.{◌≡◌, ◌↔◌, ℕ, List, [], length, Bool, true, false, Some, refl, sym, ap, ◌∙◌, arith}
+use Rattle.std.proofs.Common.{◌≡◌, ◌↔◌, ℕ, List, [], length, Bool, true, false, Some, refl, sym, ap, ◌∙◌, arith, None}
 use Rattle.std.specs.Prelude.{unwrap_or, if◌then◌else◌}
 use Rattle.std.specs.Option.{option_map_or}
 use Rattle.dioc_terms.specs.declared.entries.Entry.{Entry}
 use Rattle.dioc_terms.specs.Plain.{PlainBundle}
 use Rattle.trace_text.specs.Runs.{run_text}
-use Rattle.marked_laws.specs.Network.{network_run, network_start, network_ended}
+use Rattle.marked_laws.specs.Network.{network_run, network_start, network_ended, Network}
 use Rattle.net_core.specs.Laws.{RunsAreSound, Arrives}
 use Rattle.role_network.specs.Nets.{network_at}
 use Rattle.rule_checks.specs.Refusals.{IsAccepted}
 use Rattle.schedule.specs.declared.runs.Finish.{Finish}
 use Rattle.schedule.specs.declared.runs.Finish.TheVariants as finish
+use Rattle.command_words.specs.Commands.{usual_steps}
 use Rattle.command_words.specs.declared.commands.Options.{Options}
+use Rattle.command_words.specs.declared.commands.Verb.TheVariants.{Gen}
+use Rattle.load_gen.specs.Made.{made}
 use Rattle.aioc_top.specs.declared.replies.End.TheVariants as end
 use Rattle.aioc_top.specs.declared.replies.Written.{Written}
-use Rattle.aioc_top.specs.Replies.{reply_of, run_reply, last_of, is_finished, step_history}
+use Rattle.aioc_top.specs.Replies.{gen_history, gen_line, gen_reply, line_of_text, updates_of, reply_of, run_reply, last_of, is_finished, step_history}
 use Rattle.aioc_top.specs.Endings.{end_of, last_for}
 
 abbrev is_end : Finish → Bool
@@ -59,4 +62,34 @@ module _ (options : Options) (b : PlainBundle) (is : IsAccepted b) (sound : Runs
       let text_is : written.text.items ≡ run_text options.aux options.json (step_history options b) (last_of (is_finished b (step_history options b)) (length (step_history options b))) =
       wrote ∙ (λ j. run_text options.aux options.json (same j) (last_for how (length (same j))))
       ∙ ap (run_text options.aux options.json (step_history options b)) (last_by how (length (step_history options b)) ∙ ap (λ t. last_of t (length (step_history options b))) over) in
+      λ j. record { end = end_is j; text = text_is j }
+
+-- ---- the line of a made bundle
+
+module _ (number size : ℕ) (is : IsAccepted (made number size)) (sound : RunsAreSound) where
+  -- as many entries as where no other number is asked for
+  abbrev usual : Options
+  usual = record { seed = None; steps = usual_steps Gen; workers = 4; aux = false; json = false }
+
+  updates_by : (H : List Entry) → H ≡ gen_history number size → (network_at (made number size) H).updates ≡ updates_of (made number size) (gen_history number size)
+  updates_by H same =
+      let runs = (arrives usual (made number size) is sound).runs in
+      (λ j. (network_at (made number size) (same j)).updates)
+      ∙ ap (λ o. (unwrap_or o (network_start (made number size))).updates) runs
+      ∙ sym (ap (λ o. option_map_or (λ (N : Network). N.updates) o 0) runs)
+
+  pub gen_replied : (H : List Entry) (how : Finish) (written : Written) {A : Type 0} → H ≡ gen_history number size
+      → (how ≡ finish.Ended) ↔ (network_ended (made number size).cast (network_at (made number size) H) ≡ true)
+      → (how ≡ finish.Limit) ↔ (A × (network_ended (made number size).cast (network_at (made number size) H) ≡ false))
+      → written.end ≡ end_of how
+      → written.text.items ≡ line_of_text (gen_line number size (made number size) H (network_at (made number size) H).updates)
+      → reply_of written ≡ gen_reply number size
+  gen_replied H how written same ended limit ends wrote =
+      let b = made number size in
+      let over : is_end how ≡ is_finished b (gen_history number size) =
+      sym (ended_by how (network_ended b.cast (network_at b H)) ended limit) ∙ sym (finished_by usual b is sound H same) ∙ ap (is_finished b) same in
+      let end_is : written.end ≡ (if is_finished b (gen_history number size) then end.Done else end.Limit) =
+      ends ∙ end_by how ∙ ap (λ t. if t then end.Done else end.Limit) over in
+      let text_is : written.text.items ≡ line_of_text (gen_line number size b (gen_history number size) (updates_of b (gen_history number size))) =
+      wrote ∙ (λ j. line_of_text (gen_line number size b (same j) (updates_by H same j))) in
       λ j. record { end = end_is j; text = text_is j }

@@ -1,5 +1,5 @@
 -- The status and the line of each fault, and which verdict a fault of a text tells.
-use Rattle.std.specs.Prelude.{◌≡◌, ◌≢◌, ℕ, List, Some}
+use Rattle.std.specs.Prelude.{◌≡◌, ◌≢◌, ℕ, List, Some, None}
 use Rattle.aioc_io.specs.Faults.{Rose}
 use Rattle.aioc_io.specs.Source.{SourceState}
 use Rattle.dioc_terms.specs.Plain.{PlainBundle}
@@ -8,8 +8,8 @@ use Rattle.rule_checks.specs.declared.refusals.Refusal.TheVariants as refused
 use Rattle.command_words.specs.declared.commands.Command.{Command}
 use Rattle.aioc_top.specs.Calls.{Reads, ReadsNothing}
 use Rattle.aioc_top.specs.Messages.{memory_line, read_fault_line, refusal_line, syntax_line, too_long_line, usage_line, write_fault_line}
-use Rattle.aioc_top.specs.Replies.{Reply, refusal_of, unread_reply}
-use Rattle.aioc_top.specs.Verdicts.{Verdict, TooLong, Unspelled, Refused, Replied, Comes, ComesOfText}
+use Rattle.aioc_top.specs.Replies.{refusal_of, unread_reply}
+use Rattle.aioc_top.specs.Verdicts.{Verdict, TooLong, Unspelled, Refused, Comes, ComesOfText}
 use Rattle.aioc_top.specs.declared.faults.Fault.{Fault}
 use Rattle.aioc_top.specs.declared.faults.Fault.TheVariants as fault
 use Rattle.aioc_top.specs.declared.status.Status.{Status}

@@ -24,7 +24,7 @@ use Rattle.command_words.specs.declared.commands.Command.TheVariants as command
 use Rattle.aioc_top.specs.Calls.{IsRead, ReadsNothing, SaysLine}
 use Rattle.aioc_top.specs.Messages.{usage_line, read_fault_line, write_fault_line, too_long_line, memory_line, syntax_line, refusal_line}
 use Rattle.aioc_top.specs.Replies.{Reply, Replies, refusal_of, run_reply, step_history, line_of_text, check_line, project_text, replay_reply, upgrade_text, unread_reply, gen_line, gen_history}
-use Rattle.aioc_top.specs.Verdicts.{Replied, Comes, Cause, MayReply, Refuses, status_of_end}
+use Rattle.aioc_top.specs.Verdicts.{Replied, Comes, Cause, Refuses, status_of_end}
 use Rattle.aioc_top.specs.declared.status.Status.{Status}
 use Rattle.aioc_top.specs.declared.status.Status.TheVariants as status
 

@@ -1,5 +1,5 @@
 -- What comes of a command and the bytes that were read.
-use Rattle.std.specs.Prelude.{◌≡◌, ◌<◌, ◌≤◌, ℕ, List, length, Some, None}
+use Rattle.std.specs.Prelude.{◌≡◌, ◌<◌, ◌≤◌, ℕ, List, length, Some, None, Option}
 use Rattle.limits.specs.Limits.{most_bytes}
 use Rattle.dioc_terms.specs.Plain.{PlainBundle}
 use Rattle.bundle_text.specs.Grammar.{Spells, SpellsNone}

@@ -1,12 +1,12 @@
 //! `gen`: a made bundle, its run, and a line that counts them.
 
-ghost use Rattle.std.specs.Prelude.{◌≡◌, ◌≤◌, ◌++◌, ◌∷◌, [], codes, decimal, length, IfOk, OnOk};
-ghost use Rattle.dioc_terms.specs.Messages.{visible};
+ghost use Rattle.std.specs.Prelude.{◌≡◌, ◌≤◌, ◌++◌, decimal, IfOk, OnOk};
 ghost use Rattle.dioc_terms.specs.Plain.{plain};
 ghost use Rattle.dioc_terms.specs.Terms.{nodes, term};
+ghost use Rattle.load_gen.specs.Made.{made};
 ghost use Rattle.role_network.specs.Nets.{network_of};
-ghost use Rattle.trace_text.specs.Lines.{line_end};
-ghost use Rattle.aioc_top.specs.Replies.{gen_reply, reply_of};
+ghost use Rattle.rule_checks.specs.Refusals.{IsAccepted};
+ghost use Rattle.aioc_top.specs.Replies.{gen_line, gen_reply, line_of_text, reply_of};
 
 use crate::commands::step::end_of;
 use crate::replies::Written;
@@ -31,58 +31,58 @@ pub fn generate(alloc: Global, number: u64, size: u32) -> Result<Written, Memory
     requires most { size ≤ 400 }
     ensures { IfOk result (λ written. reply_of written ≡ gen_reply number size) }
 {
+    let bundle = make(alloc, number, size)?;
+    let written = run_made(alloc, number, size, &bundle);
+    drop(bundle);
+    written
+}
+
+// Runs the bundle that was made of these numbers.
+fn run_made(alloc: Global, number: u64, size: u32, bundle: &Bundle) -> Result<Written, Memory>
+    requires made { plain bundle.now ≡ made number size }
+    requires accepted { IsAccepted (plain bundle.now) }
+    ensures { IfOk result (λ written. reply_of written ≡ gen_reply number size) }
+{
     accepted_is_sound();
     runs_are_sound();
-    let bundle = make(alloc, number, size)?;
-    let mut net: Net<RoleState> = Net::start(alloc, &bundle, USUAL_STEPS)?;
+    let mut net: Net<RoleState> = Net::start(alloc, bundle, USUAL_STEPS)?;
     let finish = run_seeded(&mut net, None)?;
-    let mut text = Vec::new(alloc);
-    write_head(number, size, &mut text)?;
-    write_bundle_counts(&bundle, &mut text)?;
-    write_run_counts(&net, &mut text)?;
+    let text = make_line(alloc, number, size, bundle, &net)?;
     Ok(Written {
         end: end_of(finish),
         text,
     })
 }
 
-// Appends the words that asked for the bundle.
-fn write_head(number: u64, size: u32, out: &mut Vec<u8>) -> Result<(), Memory>
-    ensures { OnOk result (out.new.items
-        ≡ out.old.items ++ (codes "gen " ++ decimal number ++ codes " " ++ decimal size)) }
-{
-    write_bytes(b"gen ", out)?;
-    write_number(number, out)?;
-    write_bytes(b" ", out)?;
-    write_number(size as u64, out)
-}
-
-// Appends how many roles and nodes the bundle has.
-fn write_bundle_counts(bundle: &Bundle, out: &mut Vec<u8>) -> Result<(), Memory>
+// The line of a made bundle and its run.
+fn make_line(
+    alloc: Global,
+    number: u64,
+    size: u32,
+    bundle: &Bundle,
+    net: &Net<RoleState>,
+) -> Result<Vec<u8>, Memory>
     requires few { nodes (term bundle.now.choreo) ≤ 4294967295 }
-    ensures { OnOk result (out.new.items ≡ out.old.items
-        ++ (codes ": roles " ++ decimal (length bundle.now.cast) ++ codes ", nodes "
-        ++ decimal (nodes (term bundle.now.choreo)))) }
+    ensures { IfOk result (λ line. line.items ≡ line_of_text (gen_line number size
+        (plain bundle.now) net.now.history (network_of net.now).updates)) }
 {
-    write_bytes(b": roles ", out)?;
-    write_number(bundle.cast.len() as u64, out)?;
-    write_bytes(b", nodes ", out)?;
-    write_number(nodes(&bundle.choreo) as u64, out)
+    let history = net.history();
+    let mut line = Vec::new(alloc);
+    write_count(b"gen ", number, &mut line)?;
+    write_count(b" ", size as u64, &mut line)?;
+    write_count(b": roles ", bundle.cast.len() as u64, &mut line)?;
+    write_count(b", nodes ", nodes(&bundle.choreo) as u64, &mut line)?;
+    write_count(b", entries ", history.len(), &mut line)?;
+    write_count(b", visible ", history.visible_len(), &mut line)?;
+    write_count(b", updates ", net.updates() as u64, &mut line)?;
+    write_bytes(b", played yes\n", &mut line)?;
+    Ok(line)
 }
 
-// Appends how many entries the run has, how many of them are visible, and its updates; the line
-// ends there.
-fn write_run_counts(net: &Net<RoleState>, out: &mut Vec<u8>) -> Result<(), Memory>
-    ensures { OnOk result (out.new.items ≡ out.old.items
-        ++ (codes ", entries " ++ decimal (length net.now.history) ++ codes ", visible "
-        ++ decimal (length (visible net.now.history)) ++ codes ", updates "
-        ++ decimal (network_of net.now).updates ++ codes ", played yes" ++ line_end ∷ [])) }
+// Appends a number behind what it counts.
+fn write_count(what: &[u8], count: u64, out: &mut Vec<u8>) -> Result<(), Memory>
+    ensures { OnOk result (out.new.items ≡ out.old.items ++ (what.now ++ decimal count)) }
 {
-    write_bytes(b", entries ", out)?;
-    write_number(net.history().len(), out)?;
-    write_bytes(b", visible ", out)?;
-    write_number(net.history().visible_len(), out)?;
-    write_bytes(b", updates ", out)?;
-    write_number(net.updates() as u64, out)?;
-    write_bytes(b", played yes\n", out)
+    write_bytes(what, out)?;
+    write_number(count, out)
 }

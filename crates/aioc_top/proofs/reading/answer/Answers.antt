@@ -1,10 +1,16 @@
--- More bytes than a text may have.
-use Rattle.std.proofs.Common.{Err, ap}
-use Rattle.aioc_top.proofs.Clauses.{mapped}
-use Rattle.aioc_top.proofs.FaultLemmas.{too_long}
+-- A command that reads nothing leaves the source as it was.
+use Rattle.std.proofs.Common.{[], refl, sym, ap, subst}
+use Rattle.aioc_top.specs.Calls.{Reads}
+use Rattle.aioc_top.specs.Replies.{reply_of}
+use Rattle.aioc_top.specs.Verdicts.{Comes, Replied}
 use Rattle.aioc_top.proofs.reading.answer.Goals as goal
 
-pub returns-in-Err-TooLong-clause-fault : goal.returns-in-Err-TooLong-clause-fault
-returns-in-Err-TooLong-clause-fault g c =
-    too_long c.args.command.now (g.S.Source.state c.args.source.now) (g.S.Source.state c.read_all.new.source)
-    (mapped (λ told h. h.0) (g.S.Source.state c.args.source.now).left (c.in-Err-TooLong.ensures.too_long (ap Err c.in-Err-TooLong.field-0-is)))
+pub returns-in-Ok-clause-reply : goal.returns-in-Ok-clause-reply
+returns-in-Ok-clause-reply g c =
+    let source = g.S.Source.state c.args.source.now in
+    let verdict = Replied (reply_of c.in-Ok.written) in
+    record {
+      bytes = [];
+      read = subst (λ asked. Reads asked verdict [] source source) (sym c.in-Gen.is) refl;
+      comes = subst (λ asked. Comes asked [] verdict) (sym c.in-Gen.is) (ap Replied c.in-Ok.ensures);
+    }
