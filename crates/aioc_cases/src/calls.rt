@@ -69,7 +69,6 @@ fn answer_choreography(alloc: Global, case: &Case, out: &mut Vec<u8>) -> Result<
 // Answers a call that is about messages or the lines of a trace, and says whether it is one.
 fn answer_message(alloc: Global, case: &Case, out: &mut Vec<u8>) -> Result<bool, Problem> {
     match case.call.as_slice() {
-        b"is_aux" => auxiliary::answer_is_aux(alloc, case, out)?,
         b"leader_plan" => auxiliary::answer_plan(alloc, case, out)?,
         b"read_trace" => traces::answer_trace(alloc, case, out)?,
         b"trace_line" => traces::answer_line(alloc, case, false, out)?,

@@ -1,25 +1,14 @@
-//! `is_aux: TAG`, whether a put and a take of this tag are auxiliary; `leader_plan LEADER OTHER..:
-//! TAG`, the messages by which a leader tells the other roles.
+//! `leader_plan LEADER OTHER..: TAG`: the messages by which a leader tells the other roles.
 
 use crate::cases::Case;
 use crate::problems::Problem;
-use aux_messages::{is_aux, leader_plan};
+use aux_messages::leader_plan;
 use dioc_terms::{Entry, Index, Key, Name, Note, Role, Tag};
 use std::alloc::Global;
-use text_pieces::{write_bytes, write_truth};
+use text_pieces::write_bytes;
 use trace_text::write_line;
 
 const INDEX: Index = Index { epoch: 1, place: 6 };
-
-/// Appends whether the put is auxiliary, and whether the take is.
-pub fn answer_is_aux(alloc: Global, case: &Case, out: &mut Vec<u8>) -> Result<(), Problem> {
-    let key = key_of(alloc, case)?;
-    let put = put(key.copy(alloc)?);
-    write_truth(is_aux(&put), out)?;
-    write_bytes(b" ", out)?;
-    write_truth(is_aux(&Entry::Take { key, var: None }), out)?;
-    Ok(())
-}
 
 /// Appends the lines of the messages.
 pub fn answer_plan(alloc: Global, case: &Case, out: &mut Vec<u8>) -> Result<(), Problem> {
@@ -40,15 +29,6 @@ fn put(key: Key) -> Entry {
         key,
         note: Note::Done,
     }
-}
-
-fn key_of(alloc: Global, case: &Case) -> Result<Key, Problem> {
-    Ok(Key {
-        from: role_of(alloc, b"s")?,
-        to: role_of(alloc, b"b")?,
-        index: INDEX,
-        tag: tag_of(alloc, &case.text)?,
-    })
 }
 
 fn tag_of(alloc: Global, text: &[u8]) -> Result<Tag, Problem> {
