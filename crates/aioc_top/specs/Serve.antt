@@ -91,8 +91,8 @@ ProjectText asked result source out out_after =
     asked ≡ Some command.Project → has_printed result ≡ true
     → TextPrinted project_text result source out out_after
 
--- The judgement of the trace of an accepted bundle was printed, and the status tells it: `Done` where
--- it is `yes`, `No` where it is `no`. The bytes that were read spell this bundle.
+-- The judgement of the trace of an accepted bundle was printed, and the status tells it: `Done`
+-- where it is `yes`, `No` where it is `no`. The bytes that were read spell this bundle.
 pub record JudgementPrinted (result : Status) (source : SourceState) (out out_after : SinkState) :
     Type 0 where
   pub bytes : List ℕ
@@ -126,8 +126,8 @@ UpgradeText asked result source out out_after =
     asked ≡ Some command.Upgrade → has_printed result ≡ true
     → (text : TextPrinted upgrade_text result source out out_after) × IsUpgraded text.bundle
 
--- The line of the bundle that is made of these numbers was printed, and the status tells how its run
--- ended. The bundle is accepted, and the headline holds of the very run that is counted there.
+-- The line of the bundle that is made of these numbers was printed, and the status tells how its
+-- run ended. The bundle is accepted, and the headline holds of the very run that is counted there.
 pub record GenPrinted (number size : ℕ) (result : Status) (out out_after : SinkState) : Type 0 where
   pub accepted : IsAccepted (made number size)
   pub network : Network
@@ -166,8 +166,8 @@ pub record UsageComes (result : Status) (asked : Option Command) : Type 0 where
   pub only : result ≡ status.Usage → asked ≡ None
   pub always : asked ≡ None → (result ≡ status.Usage) ⊎ (result ≡ status.Memory)
 
--- Where no device failed, a bundle that is spelled and not refused gets an answer of its command, or
--- want of memory; and a command that reads nothing gets its reply, or want of memory.
+-- Where no device failed, a bundle that is spelled and not refused gets an answer of its command,
+-- or want of memory; and a command that reads nothing gets its reply, or want of memory.
 pub record IsComplete (result : Status) (found : Command) (source : SourceState) : Type 0 where
   pub text : unread_reply found ≡ None → IfSome source.left
       (λ bytes. (b : PlainBundle) → Spells bytes b → refusal_of found b ≡ None

@@ -63,9 +63,9 @@ module _ (rules : List PlainRule) (m : ℕ) (name : List ℕ) where
       by true k later h = absurd (omega arith)
       by false k later h = ap (λ l. n ∷ l) (later (omega arith))
 
-  pub replaced_at : (order : List ℕ) (i : ℕ) → position (is_named rules name) order ≡ Some i
+  pub put_at : (order : List ℕ) (i : ℕ) → position (is_named rules name) order ≡ Some i
       → set order i m ≡ add_rule rules m name order
-  replaced_at order i at =
+  put_at order i at =
       by (nat_lt (position_or_len (is_named rules name) order) (length order)) refl at
     where
       by : (t : Bool)

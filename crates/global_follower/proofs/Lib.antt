@@ -3,5 +3,5 @@ pub mod FollowLemmas
 pub mod PlayLemmas
 pub mod RuleLemmas
 pub mod ScopeLemmas
-pub mod StillLemmas
+pub mod Stills
 pub mod StoreLemmas

@@ -11,7 +11,7 @@ use Rattle.dioc_terms.specs.Terms.{Term, empty, stamped}
 use Rattle.std.proofs.lemmas.Bool.{and_left}
 use Rattle.global_steps.specs.Follow.{BookChoice, Effect, is_doer_due, plays}
 use Rattle.global_steps.specs.Running.{Running, Seq, started, light}
-use Rattle.global_follower.proofs.StillLemmas.{light_still, nobody_due}
+use Rattle.global_follower.proofs.Stills.{light_still, nobody_due}
 
 -- no message is in flight in a part that nobody has begun
 pub none_due : (e : Entry) (I : Term) → is_doer_due e (started I) ≡ false
@@ -30,11 +30,11 @@ module _ (cast : List Role) (stores : Role → Store) (choices : ScopeHead → B
   seq_waits G H is waits = rw (← is, waits) refl
 
   -- the same of a sequence that nobody has begun
-  pub still_waits : (n level : ℕ) (I J : Term)
+  pub waits : (n level : ℕ) (I J : Term)
       → Stuck ≡ plays cast stores choices updates (started (stamped I n level)) e
       → empty I ≡ false
       → Stuck ≡ plays cast stores choices updates (started (stamped (term.Seq I J) n level)) e
-  still_waits n level I J is full =
+  waits n level I J is full =
       seq_waits (started (stamped I n level)) (started (stamped J n level)) is
       (and_left _ _ (light_still n level I ∙ full))
 

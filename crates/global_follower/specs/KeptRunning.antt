@@ -17,7 +17,8 @@ abbrev pub part_term : Part → Term
 part_term part = marked part.choreo.now part.marks
 
 abbrev pub flying : Flight → Running
-flying f = Fly f.message.index f.message.op.now f.message.from.now f.message.to.now f.var.now f.value
+flying f =
+    Fly f.message.index f.message.op.now f.message.from.now f.message.to.now f.var.now f.value
 
 abbrev pub running : KeptRunning → Running
 running kept.Skip = Skip

@@ -2,7 +2,7 @@
 use Rattle.std.specs.Prelude.{List, [], Bool, true, false, Option, Some, None}
 use Rattle.dioc_terms.specs.Attempts.{Attempt, Stuck, Does}
 use Rattle.dioc_terms.specs.Plain.{PlainRule}
-use Rattle.dioc_terms.specs.Terms.{Term, Seq, Par}
+use Rattle.dioc_terms.specs.Terms.{Term, Seq, Par, If, While, Scope}
 use Rattle.global_follower.specs.declared.effects.Effect.{Effect as KeptEffect}
 use Rattle.global_follower.specs.declared.plays.Played.{Played}
 use Rattle.global_follower.specs.declared.plays.Scene.{Scene}
@@ -43,6 +43,13 @@ plays_itself _ = true
 -- the same of what asks no book
 abbrev pub plays_alone : Scene → Running → Attempt Effect Running
 plays_alone scene G = plays_in [] scene G
+
+-- a choice, a loop or a scope
+abbrev pub is_branching : Term → Bool
+is_branching (If i r g I J) = true
+is_branching (While i r g I) = true
+is_branching (Scope i r I extra props level) = true
+is_branching _ = false
 
 -- neither a sequence nor a parallel
 abbrev pub is_whole : Term → Bool

@@ -26,7 +26,8 @@ impl PlainBook {
         opening: u32,
         env: &Bindings,
     ) -> Result<PlainBook, Memory>
-        ensures { IfOk result (λ book. book_of book ≡ opening_book (rules_of rules.entry) opening env.now) }
+        ensures { IfOk result (λ book. book_of book
+            ≡ opening_book (rules_of rules.entry) opening env.now) }
     {
         let mut order = Vec::new(alloc);
         for number in 0..opening {
@@ -95,7 +96,8 @@ fn better(rules: RuleList<'_>, best: Option<u32>, number: u32) -> u32
 /// Adds the rule of that number by its name: it replaces the rule of that name, else goes last. A
 /// number past the rules adds nothing.
 fn add(rules: RuleList<'_>, order: &mut Vec<u32>, number: u32) -> Result<(), Memory>
-    ensures added { OnOk result (order.new.items ≡ added (rules_of rules.entry) number order.old.items) }
+    ensures added { OnOk result (order.new.items
+        ≡ added (rules_of rules.entry) number order.old.items) }
     ensures same { OnErr result (order.new.items ≡ order.old.items) }
 {
     match rules.get(number) {
@@ -105,7 +107,7 @@ fn add(rules: RuleList<'_>, order: &mut Vec<u32>, number: u32) -> Result<(), Mem
 }
 
 /// Adds the rule of that number, whose name is this.
-#[tactic(auto, using(crate::proofs::BookLemmas::replaced_at, crate::proofs::BookLemmas::added_last))]
+#[tactic(auto, using(crate::proofs::BookLemmas::put_at, crate::proofs::BookLemmas::added_last))]
 fn add_named(
     rules: RuleList<'_>,
     name: &Name,

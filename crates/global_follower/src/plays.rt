@@ -7,7 +7,7 @@ ghost use Rattle.dioc_terms.specs.Terms.{term, roles_in, is_in};
 ghost use Rattle.global_follower.specs.declared.effects.Effect.TheVariants as effects;
 ghost use Rattle.global_follower.specs.KeptBooks.{rules_of};
 ghost use Rattle.global_follower.specs.KeptRunning.{flying, marked, part_term, running};
-ghost use Rattle.global_follower.specs.Playing.{attempt_of, done, is_whole, plays_alone, plays_in, plays_itself};
+ghost use Rattle.global_follower.specs.Playing.{attempt_of, done, is_branching, is_whole, plays_alone, plays_in, plays_itself};
 ghost use Rattle.global_steps.specs.Follow.{is_doer_due};
 ghost use Rattle.global_steps.specs.Running.{light, started};
 ghost use Rattle.global_steps.specs.Running as runs;
@@ -144,7 +144,7 @@ fn play_whole<'a>(
 }
 
 /// How a part that nobody has begun plays the entry.
-#[tactic(auto, using(crate::proofs::PlayLemmas::still_waits, crate::proofs::PlayLemmas::still_second))]
+#[tactic(auto, using(crate::proofs::PlayLemmas::waits, crate::proofs::PlayLemmas::still_second))]
 fn play_part<'a>(
     alloc: Global,
     choreo: &'a Choreo,
@@ -216,6 +216,23 @@ fn play_construct<'a>(
         Choreo::Input { index, var, role } => {
             play_input(alloc, marks.of(*index), var, role, scene)
         }
+        branching => play_branching(alloc, branching, marks, rules, scene),
+    }
+}
+
+/// How a choice, a loop or a scope plays the entry.
+fn play_branching<'a>(
+    alloc: Global,
+    construct: &'a Choreo,
+    marks: Marks,
+    rules: RuleList<'a>,
+    scene: &Scene<'_>,
+) -> Result<Option<Played<'a>>, Memory>
+    requires { is_branching (term construct.now) ≡ true }
+    ensures { IfOk result (λ played. attempt_of played
+        ≡ plays_in (rules_of rules.entry) scene.now (started (marked construct.now marks))) }
+{
+    match construct {
         Choreo::If {
             index,
             leader,
@@ -285,7 +302,8 @@ fn play_landing<'a>(
     flight: &Flight<'a>,
     scene: &Scene<'_>,
 ) -> Result<Option<Played<'a>>, Memory>
-    ensures { IfOk result (λ played. attempt_of played ≡ plays_alone scene.now (flying flight.now)) }
+    ensures { IfOk result (λ played. attempt_of played
+        ≡ plays_alone scene.now (flying flight.now)) }
 {
     if !is_take(scene.entry, flight.message, flight.var) {
         return Ok(None);

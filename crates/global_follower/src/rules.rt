@@ -76,8 +76,8 @@ impl<'a> RuleList<'a> {
         store: &Store,
         number: u32,
     ) -> bool
-        ensures { result ≡ fits (rules_of self.entry) (book_in env.now) head.now (store_of store.now)
-            number }
+        ensures { result ≡ fits (rules_of self.entry) (book_in env.now) head.now
+            (store_of store.now) number }
     {
         match self.get(number) {
             Some(rule) => {

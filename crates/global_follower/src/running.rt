@@ -131,7 +131,7 @@ pub(crate) fn is_light(left: &Running<'_>) -> bool
 }
 
 /// Whether the part has no construct: nothing of it is ever played.
-#[tactic(auto, using(crate::proofs::StillLemmas::ended_still, crate::proofs::StillLemmas::light_still))]
+#[tactic(auto, using(crate::proofs::Stills::ended_still, crate::proofs::Stills::light_still))]
 pub(crate) fn is_empty_part(part: &Part<'_>) -> bool
     ensures ended { result ≡ ended (started (part_term part.now)) }
     ensures light { result ≡ light (started (part_term part.now)) }
@@ -152,7 +152,7 @@ pub(crate) fn is_empty(choreo: &Choreo) -> bool
 }
 
 /// Whether a message in flight is for the role.
-#[tactic(auto, using(crate::proofs::StillLemmas::nobody_due))]
+#[tactic(auto, using(crate::proofs::Stills::nobody_due))]
 pub(crate) fn is_due(role: &Role, left: &Running<'_>) -> bool
     ensures { result ≡ is_due role.now (running left.now) }
 {

@@ -83,8 +83,9 @@ fn chosen_body<'a>(
     updates: u64,
 ) -> Option<Part<'a>>
     requires { IfSome rule (λ number. body.marks.level < 16) }
-    ensures { option_map part_term result ≡ chosen_body shown.now (choice_of (rules_of rules.entry) rule)
-        (part_term body.entry) updates body.entry.marks.level }
+    ensures { option_map part_term result
+        ≡ chosen_body shown.now (choice_of (rules_of rules.entry) rule) (part_term body.entry)
+        updates body.entry.marks.level }
 {
     match chosen_rule(rules, rule) {
         None => kept_body(shown, body),

@@ -48,7 +48,8 @@ pub(crate) fn put_value(
     store: &Store,
 ) -> Result<Option<Value>, Memory>
     ensures { IfOk result (λ sent. sent ≡ where_shown entry.now
-        (entries.Put (key_of message.entry) (notes.Val (eval (expression expr.now) (store_of store.now))))
+        (entries.Put (key_of message.entry)
+        (notes.Val (eval (expression expr.now) (store_of store.now))))
         (eval (expression expr.now) (store_of store.now))) }
 {
     match entry {

@@ -34,7 +34,8 @@ impl Stores {
     /// The stores before the first entry: no variable is set, and each role has the inputs that are
     /// given for it, joined in their order.
     pub(crate) fn opening(alloc: Global, given: &[(Role, Values)]) -> Result<Stores, Memory>
-        ensures { IfOk result (λ stores. stores_of stores ≡ λ q. fresh_store (inputs_of given.now q)) }
+        ensures { IfOk result (λ stores. stores_of stores
+            ≡ λ q. fresh_store (inputs_of given.now q)) }
     {
         let mut stores = IndexMap::new(alloc);
         for pair in given {

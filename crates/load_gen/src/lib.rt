@@ -12,5 +12,3 @@ mod texts;
 pub use bundles::make;
 pub use laws::made_are_accepted;
 
-#[cfg(test)]
-mod tests;

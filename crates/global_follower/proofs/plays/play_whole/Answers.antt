@@ -7,7 +7,7 @@ use Rattle.global_follower.specs.KeptStores.{stores_of}
 use Rattle.global_follower.specs.Playing.{attempt_of, plays_alone}
 use Rattle.global_steps.specs.Follow.{book_choice}
 use Rattle.global_steps.specs.Running as runs
-use Rattle.global_follower.proofs.StillLemmas.{over_again}
+use Rattle.global_follower.proofs.Stills.{over_again}
 use Rattle.global_follower.proofs.plays.play_whole.Goals as goal
 
 pub returns-in-Again : goal.returns-in-Again
