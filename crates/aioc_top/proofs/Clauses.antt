@@ -20,9 +20,9 @@ use Rattle.rule_checks.specs.Refusals.{IsAccepted}
 use Rattle.command_words.specs.declared.commands.Options.{Options}
 use Rattle.command_words.specs.declared.commands.Command.{Command}
 use Rattle.command_words.specs.declared.commands.Command.TheVariants as command
-use Rattle.aioc_top.specs.Calls.{Call, Judges, Happens, IsRead, Reads, ReadsBy, ReadsNothing, ReadsTo, Says, Writes}
+use Rattle.aioc_top.specs.Calls.{Call, Judges, Happens, IsRead, CommandReads, ReadsBy, ReadsNothing, ReadsTo, Says, Writes}
 use Rattle.aioc_top.specs.Replies.{Reply, Replies, is_finished, refusal_of, step_history, line_of_text, check_line, project_text as project_lines, upgrade_text as upgraded, unread_reply, gen_line, gen_reply, gen_history, updates_of}
-use Rattle.aioc_top.specs.Serve.{CheckText, ComesExactly, Complete, GenPrinted, GivesUp, AfterEnd, EndsAt, IsComplete, IsUpgraded, ProjectText, ReadsAll, ReplayText, RunPrinted, SaysWhy, Silent, TextPrinted, UpgradeText, UsageComes, has_printed}
+use Rattle.aioc_top.specs.Serve.{CheckText, ComesExactly, Complete, GenPrinted, GivesUp, AfterEnd, ReadsToEnd, IsComplete, IsUpgraded, ProjectText, ReadsAll, ReplayText, RunPrinted, SaysWhy, Silent, TextPrinted, UpgradeText, UsageComes, has_printed}
 use Rattle.aioc_top.specs.Verdicts.{Verdict, TooLong, Unspelled, Refused, Replied, MayReply, Cause, Comes, ComesBy, ComesOfText, Refuses, status_of, status_of_end}
 use Rattle.aioc_top.specs.Words.{is_built, IsShort}
 use Rattle.command_words.specs.Commands.{usual_steps}
@@ -113,8 +113,8 @@ nothing_read : (o : Option Reply) (verdict : Verdict) (bytes : List ℕ) (source
 nothing_read o verdict bytes source source_after reply is h = subst (λ p. ReadsBy p verdict bytes source source_after) is h
 
 module _ (call : Call) (verdict : Verdict) (judges : Judges call verdict) where
-  reads_by : (found : Command) → call.asked ≡ Some found → Reads found verdict judges.bytes call.source call.source_after
-  reads_by found asked = subst (λ c. Reads c verdict judges.bytes call.source call.source_after) (some_same (sym judges.asked ∙ asked)) judges.read
+  reads_by : (found : Command) → call.asked ≡ Some found → CommandReads found verdict judges.bytes call.source call.source_after
+  reads_by found asked = subst (λ c. CommandReads c verdict judges.bytes call.source call.source_after) (some_same (sym judges.asked ∙ asked)) judges.read
 
   after_end : (s : Status) → s ≡ status_of verdict → (s ≡ status.TooLong → ⊥) → AfterEnd call.asked call.source_after
   after_end s is other found asked none =
@@ -135,7 +135,7 @@ reads_nothing call status.TooLong h = judged_nothing call h.0 h.1
 reads_nothing call status.Syntax h = judged_nothing call h.0 h.1
 reads_nothing call status.Refused h = judged_nothing call h.0 h.1
 
-ends_at : (call : Call) (s : Status) → Happens call s → EndsAt s call.asked call.source call.source_after
+ends_at : (call : Call) (s : Status) → Happens call s → ReadsToEnd s call.asked call.source call.source_after
 ends_at call status.Usage h = h.1
 ends_at call status.Done h = after_end call h.0 h.1 status.Done h.2 (λ e. cc)
 ends_at call status.Limit h = after_end call h.0 h.1 status.Limit h.2 (λ e. cc)
@@ -373,7 +373,7 @@ module _ (formed : SpelledIsFormed) (every : EveryRun) (sound : RunsAreSound) (o
   step_text call s h is prints =
       let its = reply_told call s prints (told call s (printing s prints) h) in
       let same : its.1.command ≡ command.Step options = some_same (sym its.1.asked ∙ is) in
-      let read : Reads (command.Step options) (Replied its.0) its.1.bytes call.source call.source_after = reads_by call (Replied its.0) its.1 (command.Step options) is in
+      let read : CommandReads (command.Step options) (Replied its.0) its.1.bytes call.source call.source_after = reads_by call (Replied its.0) its.1 (command.Step options) is in
       run_printed its.1.bytes call.source call.out call.out_after s its.0 read.0 (subst (λ c. Comes c its.1.bytes (Replied its.0)) same its.1.comes) its.2 its.3
 
 -- ---- the text of a command that says something of a bundle
@@ -412,7 +412,7 @@ replay_text formed call s h is prints =
     let its = reply_told call s prints (told call s (printing s prints) h) in
     let same : its.1.command ≡ command.Replay = some_same (sym its.1.asked ∙ is) in
     let comes : MayReply command.Replay its.1.bytes its.0 = subst (λ c. Comes c its.1.bytes (Replied its.0)) same its.1.comes in
-    let read : Reads command.Replay (Replied its.0) its.1.bytes call.source call.source_after = reads_by call (Replied its.0) its.1 command.Replay is in
+    let read : CommandReads command.Replay (Replied its.0) its.1.bytes call.source call.source_after = reads_by call (Replied its.0) its.1 command.Replay is in
     let b = comes.bundle in
     record {
       bytes = its.1.bytes;

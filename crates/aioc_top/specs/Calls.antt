@@ -42,8 +42,8 @@ abbrev pub ReadsBy : Option Reply → Verdict → List ℕ → SourceState → S
 ReadsBy (Some reply) verdict bytes source source_after = source_after ≡ source
 ReadsBy None verdict bytes source source_after = IsRead source bytes × ReadsTo verdict source_after
 
-abbrev pub Reads : Command → Verdict → List ℕ → SourceState → SourceState → Type 0
-Reads asked verdict bytes source source_after =
+abbrev pub CommandReads : Command → Verdict → List ℕ → SourceState → SourceState → Type 0
+CommandReads asked verdict bytes source source_after =
     ReadsBy (unread_reply asked) verdict bytes source source_after
 
 -- a command that has its reply without reading reads nothing
@@ -68,7 +68,7 @@ pub record Judges (call : Call) (verdict : Verdict) : Type 0 where
   pub command : Command
   pub asked : call.asked ≡ Some command
   pub bytes : List ℕ
-  pub read : Reads command verdict bytes call.source call.source_after
+  pub read : CommandReads command verdict bytes call.source call.source_after
   pub comes : Comes command bytes verdict
 
 -- a command is asked for that reads a bundle

@@ -6,7 +6,7 @@ use Rattle.dioc_terms.specs.Plain.{PlainBundle}
 use Rattle.rule_checks.specs.declared.refusals.Refusal.{Refusal}
 use Rattle.rule_checks.specs.declared.refusals.Refusal.TheVariants as refused
 use Rattle.command_words.specs.declared.commands.Command.{Command}
-use Rattle.aioc_top.specs.Calls.{Reads, ReadsNothing}
+use Rattle.aioc_top.specs.Calls.{CommandReads, ReadsNothing}
 use Rattle.aioc_top.specs.Messages.{memory_line, read_fault_line, refusal_line, syntax_line, too_long_line, usage_line, write_fault_line}
 use Rattle.aioc_top.specs.Replies.{refusal_of, unread_reply}
 use Rattle.aioc_top.specs.Verdicts.{Verdict, TooLong, Unspelled, Refused, Comes, ComesOfText}
@@ -65,7 +65,7 @@ IsJudgedSo asked bytes _ = ⊥
 pub record ReadSo (asked : Command) (source source_after : SourceState) (verdict : Verdict) : Type 0
   where
     pub bytes : List ℕ
-    pub read : Reads asked verdict bytes source source_after
+    pub read : CommandReads asked verdict bytes source source_after
     pub comes : Comes asked bytes verdict
 
 -- why a command has no reply to what a source has

@@ -73,8 +73,8 @@ pub record IsThreadRun (b : PlainBundle) (limit : ℕ) (H : List Entry) : Type 0
 abbrev pub line_of_text : List ℕ → List ℕ
 line_of_text bytes = bytes ++ line_end ∷ []
 
-abbrev pub done : List ℕ → Reply
-done bytes = record { end = end.Done; text = line_of_text bytes }
+abbrev pub done_reply : List ℕ → Reply
+done_reply bytes = record { end = end.Done; text = line_of_text bytes }
 
 abbrev pub check_line : PlainBundle → List ℕ
 check_line b =
@@ -84,7 +84,7 @@ check_line b =
     ++ codes ", changes " ++ decimal (length b.script)
 
 abbrev pub yes : ℕ → Reply
-yes n = done (codes "yes " ++ decimal n)
+yes n = done_reply (codes "yes " ++ decimal n)
 
 abbrev pub no : ℕ → Reply
 no n = record { end = end.No; text = line_of_text (codes "no " ++ decimal n) }
@@ -169,7 +169,7 @@ abbrev pub Replies : Command → PlainBundle → Reply → Type 0
 Replies (command.Step options) b reply = reply ≡ run_reply options b (step_history options b)
 Replies (command.Run options) b reply =
     (H : List Entry) × IsThreadRun b options.steps H × (reply ≡ run_reply options b H)
-Replies command.Check b reply = reply ≡ done (check_line b)
+Replies command.Check b reply = reply ≡ done_reply (check_line b)
 Replies command.Project b reply = reply ≡ record { end = end.Done; text = project_text b }
 Replies command.Replay b reply = reply ≡ replay_reply b
 Replies command.Upgrade b reply = reply ≡ record { end = end.Done; text = upgrade_text b }

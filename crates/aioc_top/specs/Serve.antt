@@ -187,21 +187,21 @@ abbrev pub AfterEnd : Option Command → SourceState → Type 0
 AfterEnd asked source_after = (found : Command) → asked ≡ Some found → unread_reply found ≡ None
     → IsAtEnd source_after.left
 
-abbrev pub EndsAt : Status → Option Command → SourceState → SourceState → Type 0
-EndsAt status.Usage asked source source_after = source_after ≡ source
-EndsAt status.Done asked source source_after = AfterEnd asked source_after
-EndsAt status.Limit asked source source_after = AfterEnd asked source_after
-EndsAt status.No asked source source_after = AfterEnd asked source_after
-EndsAt status.Syntax asked source source_after = AfterEnd asked source_after
-EndsAt status.Refused asked source source_after = AfterEnd asked source_after
-EndsAt status.WriteFault asked source source_after = AfterEnd asked source_after
-EndsAt _ asked source source_after = Unit {0}
+abbrev pub ReadsToEnd : Status → Option Command → SourceState → SourceState → Type 0
+ReadsToEnd status.Usage asked source source_after = source_after ≡ source
+ReadsToEnd status.Done asked source source_after = AfterEnd asked source_after
+ReadsToEnd status.Limit asked source source_after = AfterEnd asked source_after
+ReadsToEnd status.No asked source source_after = AfterEnd asked source_after
+ReadsToEnd status.Syntax asked source source_after = AfterEnd asked source_after
+ReadsToEnd status.Refused asked source source_after = AfterEnd asked source_after
+ReadsToEnd status.WriteFault asked source source_after = AfterEnd asked source_after
+ReadsToEnd _ asked source source_after = Unit {0}
 
 -- Words that ask for no command, or for one that has its reply without reading, read nothing; a
 -- text is read to its end.
 pub record ReadsAll (result : Status) (asked : Option Command) (source source_after : SourceState) :
     Type 0 where
-  pub to_end : EndsAt result asked source source_after
+  pub to_end : ReadsToEnd result asked source source_after
   pub nothing : ReadsNothing asked source source_after
 
 -- a part of a text that the command may write for the bytes

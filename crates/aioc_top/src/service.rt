@@ -12,7 +12,7 @@ ghost use Rattle.aioc_top.specs.Faults.{line_of, status_of};
 ghost use Rattle.aioc_top.specs.Replies.{reply_of};
 ghost use Rattle.aioc_top.specs.Serve.{CheckText, ComesExactly, Complete, GenText, HeadlineHolds, ProjectText, ReadsAll, ReplayText, SaysWhy, Silent, StepText, UpgradeText, UsageComes};
 ghost use Rattle.aioc_top.specs.Words.{asked, IsServed};
-ghost use Rattle.command_words.specs.Commands.{spelled};
+ghost use Rattle.command_words.specs.Commands.{word_texts};
 
 use crate::faults::Fault;
 use crate::reading::answer;
@@ -43,56 +43,56 @@ pub fn serve_alone<S: Source, O: Sink, E: Sink>(
     err: &mut E,
 ) -> Status
     // What is printed: with `step` the text of the run that the schedule takes, and no other.
-    ensures step_text { StepText (asked (spelled words.now)) result (S.state source.old)
+    ensures step_text { StepText (asked (word_texts words.now)) result (S.state source.old)
         (O.state out.old) (O.state out.new) }
 
     // With `check` the line that says how large the bundle is, with `project` a line for each role,
     // with `replay` the judgement of the trace, with `upgrade` the bundle in its second version,
     // with `gen` the line of the bundle that is made of its numbers.
-    ensures check_text { CheckText (asked (spelled words.now)) result (S.state source.old)
+    ensures check_text { CheckText (asked (word_texts words.now)) result (S.state source.old)
         (O.state out.old) (O.state out.new) }
-    ensures project_text { ProjectText (asked (spelled words.now)) result (S.state source.old)
+    ensures project_text { ProjectText (asked (word_texts words.now)) result (S.state source.old)
         (O.state out.old) (O.state out.new) }
-    ensures replay_text { ReplayText (asked (spelled words.now)) result (S.state source.old)
+    ensures replay_text { ReplayText (asked (word_texts words.now)) result (S.state source.old)
         (O.state out.old) (O.state out.new) }
-    ensures gen_text { GenText (asked (spelled words.now)) result (O.state out.old)
+    ensures gen_text { GenText (asked (word_texts words.now)) result (O.state out.old)
         (O.state out.new) }
-    ensures upgrade_text { UpgradeText (asked (spelled words.now)) result (S.state source.old)
+    ensures upgrade_text { UpgradeText (asked (word_texts words.now)) result (S.state source.old)
         (O.state out.old) (O.state out.new) }
 
     // The headline of the history behind the text of `step`: the choreography itself plays it, with
     // the same changes at the same places; no two pending messages can be confused; nothing gets
     // stuck. And so it is of every run of an accepted bundle.
-    ensures headline { HeadlineHolds (asked (spelled words.now)) result (S.state source.old)
+    ensures headline { HeadlineHolds (asked (word_texts words.now)) result (S.state source.old)
         (O.state out.old) (O.state out.new) }
     ensures every_run { EveryRun }
 
     // When each status comes.
-    ensures usage { UsageComes result (asked (spelled words.now)) }
-    ensures done { ComesExactly Status.Done result (asked (spelled words.now))
+    ensures usage { UsageComes result (asked (word_texts words.now)) }
+    ensures done { ComesExactly Status.Done result (asked (word_texts words.now))
         (S.state source.old) }
-    ensures limit { ComesExactly Status.Limit result (asked (spelled words.now))
+    ensures limit { ComesExactly Status.Limit result (asked (word_texts words.now))
         (S.state source.old) }
-    ensures no { ComesExactly Status.No result (asked (spelled words.now)) (S.state source.old) }
-    ensures too_long { ComesExactly Status.TooLong result (asked (spelled words.now))
+    ensures no { ComesExactly Status.No result (asked (word_texts words.now)) (S.state source.old) }
+    ensures too_long { ComesExactly Status.TooLong result (asked (word_texts words.now))
         (S.state source.old) }
-    ensures syntax { ComesExactly Status.Syntax result (asked (spelled words.now))
+    ensures syntax { ComesExactly Status.Syntax result (asked (word_texts words.now))
         (S.state source.old) }
-    ensures refused { ComesExactly Status.Refused result (asked (spelled words.now))
+    ensures refused { ComesExactly Status.Refused result (asked (word_texts words.now))
         (S.state source.old) }
     ensures read_fault { result ≡ Status.ReadFault
         → Rose (S.state source.old).faults (S.state source.new).faults }
     ensures write_fault { result ≡ Status.WriteFault
         → Rose (O.state out.old).faults (O.state out.new).faults }
-    ensures complete { Complete result (asked (spelled words.now)) (S.state source.old)
+    ensures complete { Complete result (asked (word_texts words.now)) (S.state source.old)
         (S.state source.new) (O.state out.old) (O.state out.new) }
 
     // What is done with the source and the sinks.
-    ensures reads_all { ReadsAll result (asked (spelled words.now)) (S.state source.old)
+    ensures reads_all { ReadsAll result (asked (word_texts words.now)) (S.state source.old)
         (S.state source.new) }
-    ensures silent { Silent result (asked (spelled words.now)) (S.state source.old)
+    ensures silent { Silent result (asked (word_texts words.now)) (S.state source.old)
         (O.state out.old) (O.state out.new) }
-    ensures says { SaysWhy result (asked (spelled words.now)) (S.state source.old)
+    ensures says { SaysWhy result (asked (word_texts words.now)) (S.state source.old)
         (E.state err.old) (E.state err.new) }
 {
     know_laws();
@@ -129,7 +129,7 @@ fn do_words<S: Source, O: Sink, E: Sink>(
     err: &mut E,
 ) -> Status
     ensures { Happens (record {
-      asked = asked (spelled words.now);
+      asked = asked (word_texts words.now);
       source = S.state source.old;
       source_after = S.state source.new;
       out = O.state out.old;

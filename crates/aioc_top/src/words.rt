@@ -1,7 +1,7 @@
 //! The words of the command line, and which commands are built.
 
 ghost use Rattle.std.specs.Prelude.{◌≡◌, Some, None, if◌then◌else◌, IfOk};
-ghost use Rattle.command_words.specs.Commands.{spelled};
+ghost use Rattle.command_words.specs.Commands.{word_texts};
 ghost use Rattle.aioc_top.specs.Words.{asked, is_built};
 
 use command_words::{Command, read_words};
@@ -11,7 +11,7 @@ use std::alloc::Global;
 /// The command that the words after the program's name ask for; none where they spell no command,
 /// or one that isn't built.
 pub fn ask(alloc: Global, words: &[Vec<u8>]) -> Result<Option<Command>, Memory>
-    ensures { IfOk result (λ found. found ≡ asked (spelled words.now)) }
+    ensures { IfOk result (λ found. found ≡ asked (word_texts words.now)) }
 {
     match read_words(alloc, words)? {
         Some(command) => Ok(built(command)),

@@ -8,9 +8,9 @@ use Rattle.clap.specs.Lexer.{usize_max}
 use Rattle.clap.specs.Walk.{Row, Rule, Text, default_rows, first_of, has_row, more_values, with_default}
 use Rattle.clap.specs.declared.builder.value_parser.Reading.TheVariants as reading
 use Rattle.clap.specs.declared.parser.matches.ValueSource.TheVariants.{DefaultValue}
-use Rattle.command_words.specs.Words.{KnownOptions, Given, text_of}
+use Rattle.command_words.specs.Words.{KnownOptions, GivenTexts, text_of}
 use Rattle.command_words.specs.Commands.{known_options, positional_names}
-use Rattle.command_words.specs.Splits.{is_flag, shown}
+use Rattle.command_words.specs.Splits.{is_flag, shown_text}
 use Rattle.command_words.specs.declared.commands.Verb.{Verb}
 use Rattle.command_words.proofs.Rules.{at_row-missing, has_row-given, option_rule, row_for, rows_for}
 use Rattle.command_words.proofs.Built.{options_in, table, words_from}
@@ -128,7 +128,7 @@ options_show (one ∷ known) words kept rows name = by_option (options_show know
         ∙ sym (ap (λ b. cond (has_row name rows) (first_of name rows) (cond b (Some (codes "false")) None)) (valued (bytes_eq one.0 name)))
     by_option later false = by_row later (has_row one.0 rows) refl
 
-first_of-given : (given : Given) (name : Text) → first_of name (rows_for given) ≡ text_of given name
+first_of-given : (given : GivenTexts) (name : Text) → first_of name (rows_for given) ≡ text_of given name
 first_of-given [] name = refl
 first_of-given (pair ∷ rest) name = go (bytes_eq pair.0 name) (first_of-given rest name)
   where
@@ -138,8 +138,8 @@ first_of-given (pair ∷ rest) name = go (bytes_eq pair.0 name) (first_of-given 
     go true later = refl
     go false later = later
 
-pub first_shown : (verb : Verb) (given : Given) (name : Text)
-    → first_of name (fold with_default (rows_for given) (table verb)) ≡ shown (known_options verb) given name
+pub first_shown : (verb : Verb) (given : GivenTexts) (name : Text)
+    → first_of name (fold with_default (rows_for given) (table verb)) ≡ shown_text (known_options verb) given name
 first_shown verb given name =
     options_show (known_options verb) (words_from 1 (positional_names verb)) (words_rows 1 (positional_names verb)) (rows_for given) name
     ∙ ap₂ (λ b text. cond b text (cond (is_flag (known_options verb) name) (Some (codes "false")) None)) (has_row-given given name) (first_of-given given name)

@@ -5,7 +5,7 @@ use Rattle.std.specs.List.{find, list_all, list_any, before_first, after_first, 
 use Rattle.std.specs.Str.{bytes_eq}
 use Rattle.std.proofs.lemmas.Slice.Eq.{bytes_eq-Decides}
 use Rattle.std.proofs.lemmas.Bool.Decides.{Decides-eqb}
-use Rattle.command_words.specs.Words.{Text, KnownOptions, Item, named, word, Form, form, plain, short, long, is_plain, is_plain_form, is_equals, name_in, value_in, ends, whole, opens, wrong, long_sight, sight_of, look, before, items, takes_value}
+use Rattle.command_words.specs.Words.{Text, KnownOptions, Item, named, word, HyphenForm, form, plain, short, long, is_plain, is_plain_form, is_equals, name_in, value_behind_equals, ends, whole, opens, wrong, long_sight, sight_of, look, put_first, items, takes_value}
 use Rattle.command_words.specs.Grammar.{Spells, IsGrammar, nothing, flag, one_word, two_words, positional, ended}
 use Rattle.command_words.specs.Commands.{known_options}
 use Rattle.command_words.specs.declared.commands.Verb.{Verb}
@@ -84,7 +84,7 @@ data Written (known : KnownOptions) (text : Text) : Type 0 where
   other : look known text ≡ wrong → Written known text
 
 written_long : (known : KnownOptions) (text rest : Text) → text ≡ codes "--" ++ rest
-    → look known text ≡ long_sight (name_in rest) (takes_value known (name_in rest)) (value_in rest) → Written known text
+    → look known text ≡ long_sight (name_in rest) (takes_value known (name_in rest)) (value_behind_equals rest) → Written known text
 written_long known text rest is sees = by_equals (list_any is_equals rest) refl
   where
     by_value : (takes : Option Bool) → takes_value known (name_in rest) ≡ takes → (b : Bool) → list_any is_equals rest ≡ b
@@ -130,7 +130,7 @@ written known (one ∷ rest) = by_first (one == 45) refl rest
 
 module _ (known : KnownOptions) where
   items_whole : (text : Text) (item : Item) (words : List Text) → look known text ≡ whole item
-      → items known (text ∷ words) ≡ before item (items known words)
+      → items known (text ∷ words) ≡ put_first item (items known words)
   items_whole text item [] sees = rw sees refl
   items_whole text item (value ∷ rest) sees = rw sees refl
 
@@ -145,7 +145,7 @@ module _ (known : KnownOptions) where
   -- an item before the others
   whole_spelled : (item : Item) (text : Text) (words : List Text) (found : List Item) (others : Option (List Item))
       → ((rest : List Item) → others ≡ Some rest → Spells known (text ∷ words) (item ∷ rest))
-      → before item others ≡ Some found → Spells known (text ∷ words) found
+      → put_first item others ≡ Some found → Spells known (text ∷ words) found
   whole_spelled item text words found None spells e = cc
   whole_spelled item text words found (Some rest) spells e =
       let same : item ∷ rest ≡ found = cc in
@@ -154,7 +154,7 @@ module _ (known : KnownOptions) where
   value_spelled : (name text value : Text) (words : List Text) (found : List Item) (b : Bool) (others : Option (List Item))
       → text ≡ codes "--" ++ name → takes_value known name ≡ Some true → is_plain value ≡ b
       → ((rest : List Item) → others ≡ Some rest → Spells known words rest)
-      → cond b (before (named name value) others) None ≡ Some found → Spells known (text ∷ value ∷ words) found
+      → cond b (put_first (named name value) others) None ≡ Some found → Spells known (text ∷ value ∷ words) found
   value_spelled name text value words found false others is has plain_value spells e = cc
   value_spelled name text value words found true None is has plain_value spells e = cc
   value_spelled name text value words found true (Some rest) is has plain_value spells e =
@@ -198,7 +198,7 @@ module _ (known : KnownOptions) where
   spelled_as_read (text ∷ value ∷ rest) found e =
       word_spelled text (value ∷ rest) found (written known text) e (spelled_as_read (value ∷ rest))
       (λ name sees is has.
-      let valued : cond (is_plain value) (before (named name value) (items known rest)) None ≡ Some found = rw sees at e in
+      let valued : cond (is_plain value) (put_first (named name value) (items known rest)) None ≡ Some found = rw sees at e in
       value_spelled name text value rest found (is_plain value) (items known rest) is has refl (spelled_as_read rest) valued)
 
 -- ---- and back
@@ -256,29 +256,29 @@ module _ (known : KnownOptions) (all : are_named known ≡ true) where
       not_true true e = sym e
       not_true false e = refl
 
-  sees_plain : (text : Text) (f : Form) → is_plain_form f ≡ true → sight_of known text f ≡ whole (word text)
+  sees_plain : (text : Text) (f : HyphenForm) → is_plain_form f ≡ true → sight_of known text f ≡ whole (word text)
   sees_plain text plain e = refl
   sees_plain text short e = cc
   sees_plain text (long rest) e = cc
 
   items_opens : (name text value : Text) (words : List Text) → look known text ≡ opens name
-      → items known (text ∷ value ∷ words) ≡ cond (is_plain value) (before (named name value) (items known words)) None
+      → items known (text ∷ value ∷ words) ≡ cond (is_plain value) (put_first (named name value) (items known words)) None
   items_opens name text value words sees = rw sees refl
 
   pub reads_spelled : {words : List Text} {found : List Item} → Spells known words found → items known words ≡ Some found
   reads_spelled nothing = refl
   reads_spelled (flag {name} {words} has others) =
       items_whole known (codes "--" ++ name) (named name (codes "true")) words (sees_name name false (named_option known name false all has) has)
-      ∙ ap (before (named name (codes "true"))) (reads_spelled others)
+      ∙ ap (put_first (named name (codes "true"))) (reads_spelled others)
   reads_spelled (one_word {name} {value} {words} has others) =
       items_whole known (codes "--" ++ (name ++ (codes "=" ++ value))) (named name value) words
-      (sees_value name value (named_option known name true all has) has) ∙ ap (before (named name value)) (reads_spelled others)
+      (sees_value name value (named_option known name true all has) has) ∙ ap (put_first (named name value)) (reads_spelled others)
   reads_spelled (two_words {name} {value} {words} has plain_value others) =
       items_opens name (codes "--" ++ name) value words (sees_name name true (named_option known name true all has) has)
-      ∙ ap (λ b. cond b (before (named name value) (items known words)) None) plain_value
-      ∙ ap (before (named name value)) (reads_spelled others)
+      ∙ ap (λ b. cond b (put_first (named name value) (items known words)) None) plain_value
+      ∙ ap (put_first (named name value)) (reads_spelled others)
   reads_spelled (positional {text} {words} plain_text others) =
-      items_whole known text (word text) words (sees_plain text (form text) plain_text) ∙ ap (before (word text)) (reads_spelled others)
+      items_whole known text (word text) words (sees_plain text (form text) plain_text) ∙ ap (put_first (word text)) (reads_spelled others)
   reads_spelled (ended {words}) = items_ends known (codes "--") words refl
 
 pub options_are_named : (verb : Verb) → are_named (known_options verb) ≡ true

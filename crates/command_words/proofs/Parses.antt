@@ -5,7 +5,7 @@ use Rattle.clap.specs.Walk.{Held, Names, Row, Rule, Text, Walk, finished, nothin
 use Rattle.clap.specs.Simple.{App, Shape, built, entered, matches_of, names_of}
 use Rattle.clap.specs.Kinds.{Kinds, or_else}
 use Rattle.clap.specs.Faults.{built_fault, check_fault, defaults_fault, entered_fault, fault_of, level_fault, settle_fault, turn_fault, walk_fault}
-use Rattle.command_words.specs.Words.{KnownOptions, Given, given_by}
+use Rattle.command_words.specs.Words.{KnownOptions, GivenTexts, given_by}
 use Rattle.command_words.proofs.Rules.{or_else-nil, passes, rows_for}
 use Rattle.command_words.proofs.Walking.{run, shape}
 use Rattle.command_words.proofs.Sights.{Reads}
@@ -89,13 +89,13 @@ module _ (known : KnownOptions) (names : List Text) (app : App) (c : List Rule) 
       ∙ ap (λ (a : App). Rattle.clap.specs.Walk.rows_after a.top.rules (names_of a) words) whole_app
 
   -- with no fault the words give something, and the matches are made from it
-  pub taken : fault_of app words ≡ [] → (given : Given) × (given_by known names words ≡ Some given)
+  pub taken : fault_of app words ≡ [] → (given : GivenTexts) × (given_by known names words ≡ Some given)
       × (matches_of app words ≡ fold with_default (rows_for given) c)
   taken none = go (given_by known names words)
       (sym (ap (λ kinds. cond (passes kinds) (Some (settled c (end_of c (walk_from nothing_held) words)).rows) None) none) ∙ given_is)
     where
-      go : (found : Option Given) → Some (settled c (end_of c (walk_from nothing_held) words)).rows ≡ option_map rows_for found
-          → (given : Given) × (found ≡ Some given) × (matches_of app words ≡ fold with_default (rows_for given) c)
+      go : (found : Option GivenTexts) → Some (settled c (end_of c (walk_from nothing_held) words)).rows ≡ option_map rows_for found
+          → (given : GivenTexts) × (found ≡ Some given) × (matches_of app words ≡ fold with_default (rows_for given) c)
       go None e = cc
       go (Some given) e =
           let same : (settled c (end_of c (walk_from nothing_held) words)).rows ≡ rows_for given = cc in
@@ -106,6 +106,6 @@ module _ (known : KnownOptions) (names : List Text) (app : App) (c : List Rule) 
   refused fails = go (given_by known names words)
       (sym (ap (λ b. cond b (Some (settled c (end_of c (walk_from nothing_held) words)).rows) None) fails) ∙ given_is)
     where
-      go : (found : Option Given) → None ≡ option_map rows_for found → found ≡ None
+      go : (found : Option GivenTexts) → None ≡ option_map rows_for found → found ≡ None
       go None e = refl
       go (Some given) e = cc

@@ -15,9 +15,9 @@ use Rattle.dioc_terms.specs.Names.{is_digit, is_name, is_reserved, reserved_word
 use Rattle.aioc_tokens.specs.Words.{word_of, word_spelling, reserved_words as tokens_words}
 use Rattle.clap.specs.Matches.{first_value, found_of}
 use Rattle.clap.specs.declared.parser.matches.ArgMatches.{ArgMatches}
-use Rattle.command_words.specs.Words.{Text, KnownOptions, Given, is_given, text_of}
-use Rattle.command_words.specs.Commands.{Texts, are_digits, known_options, command_by, command_with, is_set, monitor_by, number_within, options_of, spelled}
-use Rattle.command_words.specs.Splits.{Splits, is_flag, shown}
+use Rattle.command_words.specs.Words.{Text, KnownOptions, GivenTexts, is_given, text_of}
+use Rattle.command_words.specs.Commands.{Texts, are_digits, known_options, command_by, command_with, is_set, monitor_by, number_within, options_of, word_texts}
+use Rattle.command_words.specs.Splits.{Splits, is_flag, shown_text}
 use Rattle.command_words.specs.declared.commands.Command.TheVariants as command
 use Rattle.command_words.specs.declared.commands.Verb.{Verb}
 use Rattle.command_words.specs.declared.commands.Verb.TheVariants.{Run, Step, Check, Project, Replay, Gen, Upgrade, Mend, Drive, Resume, Monitor, Sessions}
@@ -97,7 +97,7 @@ is_not_refused role refused = go (is_name role) refl
 -- ---- the texts
 
 not_all : (words : List (Vec ℕ Global)) (i : ℕ) (d : Vec ℕ Global) → i < length words → is_utf8 (slice_index_or words i d).items ≡ false
-    → list_all is_utf8 (spelled words) ≡ false
+    → list_all is_utf8 (word_texts words) ≡ false
 not_all [] i d inside bad = absurd (omega arith)
 not_all (word ∷ words) zero d inside bad = rw bad refl
 not_all (word ∷ words) (suc i) d inside bad = rw (not_all words i d (omega arith) bad, and-false) refl
@@ -110,7 +110,7 @@ is_no_text bytes no_text = go (is_utf8 bytes) refl
     go false e = e
 
 pub word_fails : (words : List (Vec ℕ Global)) (i : ℕ) (word : Vec ℕ Global) (bytes : Text) → i < length words
-    → word ≡ slice_index_or words i word → bytes ≡ word.items → (IsUtf8 bytes → ⊥) → list_all is_utf8 (spelled words) ≡ false
+    → word ≡ slice_index_or words i word → bytes ≡ word.items → (IsUtf8 bytes → ⊥) → list_all is_utf8 (word_texts words) ≡ false
 word_fails words i word bytes inside is same no_text =
     not_all words i word inside (ap (λ (w : Vec ℕ Global). is_utf8 w.items) (sym is) ∙ ap is_utf8 (sym same) ∙ is_no_text bytes no_text)
 
@@ -122,23 +122,23 @@ all_push (first ∷ words) word all is =
     rw (parts.0, all_push words word parts.1 is) refl
 
 module _ (words : List (Vec ℕ Global)) (i : ℕ) (word : Vec ℕ Global) (inside : i < length words) (is : word ≡ slice_index_or words i word) where
-  one_word : spelled (take (i + 1) words) ≡ spelled (take i words) ++ word.items ∷ []
+  one_word : word_texts (take (i + 1) words) ≡ word_texts (take i words) ++ word.items ∷ []
   one_word = map_more (λ (w : Vec ℕ Global). w.items) words i word inside
-      ∙ sym (ap (λ (w : Vec ℕ Global). spelled (take i words) ++ w.items ∷ []) is)
+      ∙ sym (ap (λ (w : Vec ℕ Global). word_texts (take i words) ++ w.items ∷ []) is)
 
   pub texts_more : (before after : List (Bor Text)) (text : Bor Text) → after ≡ before ++ text ∷ [] → text.now ≡ word.items
-      → map (λ t. t.now) before ≡ spelled (take i words) → map (λ t. t.now) after ≡ spelled (take (i + 1) words)
+      → map (λ t. t.now) before ≡ word_texts (take i words) → map (λ t. t.now) after ≡ word_texts (take (i + 1) words)
   texts_more before after text added same so_far =
       ap (map (λ (t : Bor Text). t.now)) added ∙ map-append (λ (t : Bor Text). t.now) before (text ∷ [])
-      ∙ ap (λ (ts : List Text). ts ++ text.now ∷ []) so_far ∙ ap (λ (t : Text). spelled (take i words) ++ t ∷ []) same ∙ sym one_word
+      ∙ ap (λ (ts : List Text). ts ++ text.now ∷ []) so_far ∙ ap (λ (t : Text). word_texts (take i words) ++ t ∷ []) same ∙ sym one_word
 
-  pub utf8_more : IsUtf8 word.items → list_all is_utf8 (spelled (take i words)) ≡ true
-      → list_all is_utf8 (spelled (take (i + 1) words)) ≡ true
-  utf8_more utf8 so_far = ap (list_all is_utf8) one_word ∙ all_push (spelled (take i words)) word.items so_far (is_utf8-from_IsUtf8 word.items utf8)
+  pub utf8_more : IsUtf8 word.items → list_all is_utf8 (word_texts (take i words)) ≡ true
+      → list_all is_utf8 (word_texts (take (i + 1) words)) ≡ true
+  utf8_more utf8 so_far = ap (list_all is_utf8) one_word ∙ all_push (word_texts (take i words)) word.items so_far (is_utf8-from_IsUtf8 word.items utf8)
 
 -- ---- the command
 
-text_of-missing : (given : Given) (name : Text) → is_given given name ≡ false → text_of given name ≡ None
+text_of-missing : (given : GivenTexts) (name : Text) → is_given given name ≡ false → text_of given name ≡ None
 text_of-missing [] name none = refl
 text_of-missing (pair ∷ given) name none = go (bytes_eq pair.0 name) none (text_of-missing given name)
   where
@@ -148,7 +148,7 @@ text_of-missing (pair ∷ given) name none = go (bytes_eq pair.0 name) none (tex
     go false e later = later e
 
 -- what is shown of a name that is no flag, and of a flag
-text_shown : (known : KnownOptions) (given : Given) (name : Text) → is_flag known name ≡ false → shown known given name ≡ text_of given name
+text_shown : (known : KnownOptions) (given : GivenTexts) (name : Text) → is_flag known name ≡ false → shown_text known given name ≡ text_of given name
 text_shown known given name no_flag = go (is_given given name) refl
   where
     go : (b : Bool) → is_given given name ≡ b
@@ -156,7 +156,7 @@ text_shown known given name no_flag = go (is_given given name) refl
     go true is = refl
     go false is = rw no_flag (sym (text_of-missing given name is))
 
-flag_shown : (known : KnownOptions) (given : Given) (name : Text) → is_set (shown known given name) ≡ is_set (text_of given name)
+flag_shown : (known : KnownOptions) (given : GivenTexts) (name : Text) → is_set (shown_text known given name) ≡ is_set (text_of given name)
 flag_shown known given name = go (is_given given name) refl (is_flag known name)
   where
     go : (b : Bool) → is_given given name ≡ b → (f : Bool)
@@ -165,8 +165,8 @@ flag_shown known given name = go (is_given given name) refl (is_flag known name)
     go false is true = sym (ap is_set (text_of-missing given name is))
     go false is false = sym (ap is_set (text_of-missing given name is))
 
-module _ (given : Given) (texts : Texts) where
-  module _ (verb : Verb) (shows : (name : Text) → texts name ≡ shown (known_options verb) given name) where
+module _ (given : GivenTexts) (texts : Texts) where
+  module _ (verb : Verb) (shows : (name : Text) → texts name ≡ shown_text (known_options verb) given name) where
     text_same : (name : Text) → is_flag (known_options verb) name ≡ false → texts name ≡ text_of given name
     text_same name no_flag = shows name ∙ text_shown (known_options verb) given name no_flag
 
@@ -184,7 +184,7 @@ module _ (given : Given) (texts : Texts) where
           flag_same (codes "json"),
         ) refl
 
-  command_same : (verb : Verb) → ((name : Text) → texts name ≡ shown (known_options verb) given name)
+  command_same : (verb : Verb) → ((name : Text) → texts name ≡ shown_text (known_options verb) given name)
       → command_with verb texts ≡ command_with verb (text_of given)
   command_same Run shows = ap (option_map command.Run) (options_same Run shows refl refl refl)
   command_same Step shows = ap (option_map command.Step) (options_same Step shows refl refl refl)

@@ -11,7 +11,7 @@ use Rattle.clap.specs.declared.builder.value_parser.ValueParser.TheVariants as p
 use Rattle.clap.specs.declared.builder.value_parser.Reading.TheVariants as reading
 use Rattle.clap.specs.declared.error.kind.ErrorKind.{ErrorKind}
 use Rattle.clap.specs.declared.parser.matches.ValueSource.TheVariants.{CommandLine}
-use Rattle.command_words.specs.Words.{Given, is_given, added}
+use Rattle.command_words.specs.Words.{GivenTexts, is_given, with_given}
 
 -- no fault
 abbrev pub passes : Kinds → Bool
@@ -61,10 +61,10 @@ row_for (name, text) = record {
   reading = reading.AsWritten;
 }
 
-abbrev pub rows_for : Given → List Row
+abbrev pub rows_for : GivenTexts → List Row
 rows_for given = map row_for given
 
-pub has_row-given : (given : Given) (name : Text) → has_row name (rows_for given) ≡ is_given given name
+pub has_row-given : (given : GivenTexts) (name : Text) → has_row name (rows_for given) ≡ is_given given name
 has_row-given [] name = refl
 has_row-given (pair ∷ rest) name = ap (λ b. Rattle.std.specs.Prelude.◌||◌ (bytes_eq pair.0 name) b) (has_row-given rest name)
 
@@ -89,11 +89,11 @@ append-empty : {X : Type 0} (xs : List X) → xs ++ [] ≡ xs
 append-empty [] = refl
 append-empty (x ∷ xs) = ap (λ rest. x ∷ rest) (append-empty xs)
 
-map-append : (xs ys : Given) → rows_for (xs ++ ys) ≡ rows_for xs ++ rows_for ys
+map-append : (xs ys : GivenTexts) → rows_for (xs ++ ys) ≡ rows_for xs ++ rows_for ys
 map-append [] ys = refl
 map-append (x ∷ xs) ys = ap (λ rest. row_for x ∷ rest) (map-append xs ys)
 
-pub row_added-given : (given : Given) (name text : Text) → is_given given name ≡ false
+pub row_added-given : (given : GivenTexts) (name text : Text) → is_given given name ≡ false
     → row_added name text (rows_for given) ≡ rows_for (given ++ (name, text) ∷ [])
 row_added-given given name text new =
     let none : has_row name (rows_for given) ≡ false = has_row-given given name ∙ new in
@@ -123,10 +123,10 @@ pub word_uses : (name text : Text) (place : ℕ) → Uses (word_rule name place)
 word_uses name text place = record { fault = λ rows. once _ (has_row name rows); rows = λ rows. refl }
 
 -- a walk that goes on after a use goes on from what is given then
-pub use_given : (rule : Rule) (values : List Text) (name text : Text) (given : Given) (next : List Row → Option (List Row))
+pub use_given : (rule : Rule) (values : List Text) (name text : Text) (given : GivenTexts) (next : List Row → Option (List Row))
     → Uses rule values name text
     → cond (passes (use_fault false rule values (rows_for given))) (next (used rule values (rows_for given))) None
-    ≡ option_and_then (λ more. next (rows_for more)) (added name text given)
+    ≡ option_and_then (λ more. next (rows_for more)) (with_given name text given)
 use_given rule values name text given next uses =
     ap (λ b. cond b (next (used rule values (rows_for given))) None) (uses.fault (rows_for given) ∙ ap not (has_row-given given name))
     ∙ ap (λ rows. cond (not (is_given given name)) (next rows) None) (uses.rows (rows_for given))

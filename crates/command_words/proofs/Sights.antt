@@ -4,7 +4,7 @@ use Rattle.std.specs.Prelude.{option_map, slice_get}
 use Rattle.std.specs.Str.{IsUtf8, bytes_eq, chars}
 use Rattle.clap.specs.Lexer.{long_of, short_of}
 use Rattle.clap.specs.Walk.{Rule, arg_by_id, arg_by_long, arg_by_short}
-use Rattle.command_words.specs.Words.{Text, KnownOptions, named, word, is_plain, look, name_in, value_in, ends, whole, opens, wrong, takes_value, long_sight}
+use Rattle.command_words.specs.Words.{Text, KnownOptions, named, word, is_plain, look, name_in, value_behind_equals, ends, whole, opens, wrong, takes_value, long_sight}
 use Rattle.command_words.proofs.Rules.{option_rule}
 use Rattle.command_words.proofs.Walking.{dashes}
 use Rattle.command_words.proofs.Characters.{has_char}
@@ -61,7 +61,7 @@ module _ (known : KnownOptions) (c : List Rule) (reads : Reads known c) where
           → Seen known c (first ∷ second ∷ others)
       seen_third second [] one two = end (rw (one, two) refl) (rw (one, two) refl) (rw (one, two) refl)
       seen_third second (third ∷ others) one two =
-          seen_long (first ∷ second ∷ third ∷ others) (name_in (third ∷ others)) (value_in (third ∷ others))
+          seen_long (first ∷ second ∷ third ∷ others) (name_in (third ∷ others)) (value_behind_equals (third ∷ others))
           (takes_value known (name_in (third ∷ others))) refl
           (rw (one, two) refl) (rw (one, two) refl) (rw (one, two) refl) (rw (one, two) refl)
 

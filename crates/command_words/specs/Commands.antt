@@ -96,12 +96,12 @@ number_or usual least most text =
 
 -- ---- commands
 
-abbrev pub is_true : Text → Bool
-is_true text = bytes_eq text (codes "true")
+abbrev pub says_true : Text → Bool
+says_true text = bytes_eq text (codes "true")
 
 -- a flag is set where it is given, with the text `true`
 abbrev pub is_set : Option Text → Bool
-is_set text = option_map_or is_true text false
+is_set text = option_map_or says_true text false
 
 -- the text of each name, where it has one
 abbrev pub Texts : Type 0
@@ -163,5 +163,5 @@ abbrev pub command_of : List Text → Option Command
 command_of words = if list_all is_utf8 words then named_first words else None
 
 -- the bytes of the words
-abbrev pub spelled : List (Vec ℕ Global) → List Text
-spelled words = map (λ word. word.items) words
+abbrev pub word_texts : List (Vec ℕ Global) → List Text
+word_texts words = map (λ word. word.items) words

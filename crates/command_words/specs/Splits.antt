@@ -5,7 +5,7 @@ use Rattle.std.specs.Str.{bytes_eq}
 use Rattle.clap.specs.Words.{Rule, new_rule, first_value, found_of}
 use Rattle.clap.specs.declared.builder.action.ArgAction.TheVariants.{Set, SetTrue}
 use Rattle.clap.specs.declared.parser.matches.ArgMatches.{ArgMatches}
-use Rattle.command_words.specs.Words.{Text, KnownOptions, Given, is_given, text_of, given_by}
+use Rattle.command_words.specs.Words.{Text, KnownOptions, GivenTexts, is_given, text_of, given_by}
 use Rattle.command_words.specs.Commands.{known_options, positional_names}
 use Rattle.command_words.specs.declared.commands.Verb.{Verb}
 use Rattle.command_words.specs.declared.tables.KnownOption.{KnownOption}
@@ -24,20 +24,21 @@ abbrev pub is_flag : KnownOptions → Text → Bool
 is_flag known name = list_any (λ option. bytes_eq option.0 name && not option.1) known
 
 -- the text of a name, where a flag that isn't given shows `false`
-abbrev pub shown : KnownOptions → Given → Text → Option Text
-shown known given name =
+abbrev pub shown_text : KnownOptions → GivenTexts → Text → Option Text
+shown_text known given name =
     if is_given given name then text_of given name
     else (if is_flag known name then Some (codes "false") else None)
 
 -- the matches show what is given
-abbrev pub Shows : Verb → Given → ArgMatches → Type 0
-Shows verb given matches =
-    (name : Text) → first_value (found_of matches) name ≡ shown (known_options verb) given name
+abbrev pub MatchesShow : Verb → GivenTexts → ArgMatches → Type 0
+MatchesShow verb given matches =
+    (name : Text) → first_value (found_of matches) name ≡ shown_text (known_options verb) given name
 
-abbrev pub given_in : Verb → List Text → Option Given
-given_in verb words = given_by (known_options verb) (positional_names verb) words
+abbrev pub given_for : Verb → List Text → Option GivenTexts
+given_for verb words = given_by (known_options verb) (positional_names verb) words
 
 -- there are matches exactly where the words give something, and they show it
 abbrev pub Splits : Verb → List Text → Option ArgMatches → Type 0
-Splits verb words matches = MatchOption matches (given_in verb words ≡ None)
-    (λ found. (given : Given) × (given_in verb words ≡ Some given) × Shows verb given found)
+Splits verb words matches = MatchOption matches (given_for verb words ≡ None)
+    (λ found. (given : GivenTexts) × (given_for verb words ≡ Some given)
+    × MatchesShow verb given found)

@@ -24,20 +24,20 @@ pub data Item : Type 0 where
 
 -- a word by its hyphens: plain with none first, or as a hyphen alone; short with one; long with
 -- two, and what follows them
-pub data Form : Type 0 where
-  plain : Form
-  short : Form
-  long : Text → Form
+pub data HyphenForm : Type 0 where
+  plain : HyphenForm
+  short : HyphenForm
+  long : Text → HyphenForm
 
-abbrev pub after_hyphen : Text → Form
+abbrev pub after_hyphen : Text → HyphenForm
 after_hyphen [] = plain
 after_hyphen (byte ∷ rest) = if byte == 45 then long rest else short
 
-abbrev pub form : Text → Form
+abbrev pub form : Text → HyphenForm
 form [] = plain
 form (byte ∷ rest) = if byte == 45 then after_hyphen rest else plain
 
-abbrev pub is_plain_form : Form → Bool
+abbrev pub is_plain_form : HyphenForm → Bool
 is_plain_form plain = true
 is_plain_form _ = false
 
@@ -52,8 +52,9 @@ abbrev pub name_in : Text → Text
 name_in text = before_first is_equals text
 
 -- what stands behind the first `=`, where there is one
-abbrev pub value_in : Text → Option Text
-value_in text = if list_any is_equals text then Some (after_first is_equals text) else None
+abbrev pub value_behind_equals : Text → Option Text
+value_behind_equals text =
+    if list_any is_equals text then Some (after_first is_equals text) else None
 
 -- what a word is, where options may stand: the end of the options, an item, the name of an option
 -- whose value is the next word, or none of these
@@ -70,27 +71,27 @@ long_sight name (Some true) None = opens name
 long_sight name (Some false) None = whole (named name (codes "true"))
 long_sight name _ _ = wrong
 
-abbrev pub sight_of : KnownOptions → Text → Form → Sight
+abbrev pub sight_of : KnownOptions → Text → HyphenForm → Sight
 sight_of known text plain = whole (word text)
 sight_of known text short = wrong
 sight_of known text (long []) = ends
 sight_of known text (long (byte ∷ rest)) =
     let name = name_in (byte ∷ rest) in
-    long_sight name (takes_value known name) (value_in (byte ∷ rest))
+    long_sight name (takes_value known name) (value_behind_equals (byte ∷ rest))
 
 abbrev pub look : KnownOptions → Text → Sight
 look known text = sight_of known text (form text)
 
 -- ---- all words
 
-abbrev pub before : Item → Option (List Item) → Option (List Item)
-before item = option_map (λ items. item ∷ items)
+abbrev pub put_first : Item → Option (List Item) → Option (List Item)
+put_first item = option_map (λ items. item ∷ items)
 
 -- by what a word is: all words behind `--` are positional
 abbrev pub first : Sight → List Text → Option (List Item) → (Text → Option (List Item))
     → Option (List Item)
 first ends rest items valued = Some (map word rest)
-first (whole item) rest items valued = before item items
+first (whole item) rest items valued = put_first item items
 first (opens name) rest items valued = valued name
 first wrong rest items valued = None
 
@@ -100,33 +101,33 @@ items known [] = Some []
 items known (text ∷ []) = first (look known text) [] (Some []) (λ name. None)
 items known (text ∷ value ∷ rest) =
     first (look known text) (value ∷ rest) (items known (value ∷ rest))
-    (λ name. if is_plain value then before (named name value) (items known rest) else None)
+    (λ name. if is_plain value then put_first (named name value) (items known rest) else None)
 
 -- ---- what is given
 
 -- names, each with its text
-abbrev pub Given : Type 0
-Given = List (Text × Text)
+abbrev pub GivenTexts : Type 0
+GivenTexts = List (Text × Text)
 
-abbrev pub is_given : Given → Text → Bool
+abbrev pub is_given : GivenTexts → Text → Bool
 is_given given name = list_any (λ pair. bytes_eq pair.0 name) given
 
-abbrev pub text_of : Given → Text → Option Text
+abbrev pub text_of : GivenTexts → Text → Option Text
 text_of given name = option_map (λ pair. pair.1) (find (λ pair. bytes_eq pair.0 name) given)
 
 -- each name is given once at most
-abbrev pub added : Text → Text → Given → Option Given
-added name text given = if is_given given name then None else Some (given ++ (name, text) ∷ [])
+abbrev pub with_given : Text → Text → GivenTexts → Option GivenTexts
+with_given name text given = if is_given given name then None else Some (given ++ (name, text) ∷ [])
 
 -- a positional word goes to the next of the names, and there is none too many
-abbrev pub placed : List Text → Given → List Item → Option Given
+abbrev pub placed : List Text → GivenTexts → List Item → Option GivenTexts
 placed names given [] = Some given
 placed names given (named name text ∷ rest) =
-    option_and_then (λ more. placed names more rest) (added name text given)
+    option_and_then (λ more. placed names more rest) (with_given name text given)
 placed [] given (word text ∷ rest) = None
 placed (name ∷ names) given (word text ∷ rest) =
-    option_and_then (λ more. placed names more rest) (added name text given)
+    option_and_then (λ more. placed names more rest) (with_given name text given)
 
 -- what the words give, for these options and these names of positional words
-abbrev pub given_by : KnownOptions → List Text → List Text → Option Given
+abbrev pub given_by : KnownOptions → List Text → List Text → Option GivenTexts
 given_by known names words = option_and_then (placed names []) (items known words)

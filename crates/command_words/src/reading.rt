@@ -7,7 +7,7 @@ ghost use Rattle.clap.specs.Words.{first_value, found_of};
 ghost use Rattle.command_words.specs.Grammar.{IsGrammar};
 ghost use Rattle.command_words.specs.Commands.{known_options, command_of, command_by, command_with, options_of, gen_of};
 ghost use Rattle.command_words.specs.Commands.{monitor_by, is_set, optional_number, number_or, most_seed, most_steps};
-ghost use Rattle.command_words.specs.Commands.{usual_steps, named_first, spelled};
+ghost use Rattle.command_words.specs.Commands.{usual_steps, named_first, word_texts};
 ghost use Rattle.command_words.specs.declared.commands.Verb.{Verb};
 
 use crate::commands::{Command, Options, Verb};
@@ -26,7 +26,7 @@ use std::str;
 /// word `--` ends the options. A value that is a word of its own has no hyphen first. Help and
 /// version are no commands. The error comes only where memory runs out.
 pub fn read_words(alloc: Global, words: &[Vec<u8>]) -> Result<Option<Command>, Memory>
-    ensures spelled { IfOk result (λ asked. asked ≡ command_of (spelled words.now)) }
+    ensures spelled { IfOk result (λ asked. asked ≡ command_of (word_texts words.now)) }
     ensures grammar { (verb : Verb) → IsGrammar (known_options verb) }
 {
     match texts(alloc, words)? {
@@ -37,7 +37,7 @@ pub fn read_words(alloc: Global, words: &[Vec<u8>]) -> Result<Option<Command>, M
 
 /// The words as texts, `None` where one isn't UTF-8.
 fn texts<'a>(alloc: Global, words: &'a [Vec<u8>]) -> Result<Option<Vec<&'a str>>, Memory>
-    ensures { let bytes = spelled words.entry.now in
+    ensures { let bytes = word_texts words.entry.now in
         IfOk result (λ read. MatchOption read (list_all is_utf8 bytes ≡ false)
         (λ texts. (map (λ text. text.now) texts.items ≡ bytes) × (list_all is_utf8 bytes ≡ true))) }
 {

@@ -15,8 +15,8 @@ use Rattle.dioc_terms.specs.Values.{eval, is_true}
 use Rattle.dpoc_process.proofs.ActingLemmas.{acting-single, replaced-steps, step-acting}
 use Rattle.dpoc_process.specs.Acting.{Lead, is_single, lead_of}
 use Rattle.dpoc_process.specs.Changes.{changed, replaced}
-use Rattle.dpoc_process.specs.Growth.{value_at, growth, grown, leads_loop, leader_end, write_at, value_in, written, entry_at, load_at}
-use Rattle.dpoc_process.specs.Handed.{Handed, Empty, Message, Kept, Parted, IsKept, IsReplaced, StandsFor, given_like}
+use Rattle.dpoc_process.specs.Growth.{value_at, growth, grown, leads_loop, leader_end, write_at, handed_value, with_written, entry_at, load_at}
+use Rattle.dpoc_process.specs.Handed.{Handed, Empty, Message, Kept, Parted, BookKeeps, BookReplaces, StandsFor, given_like}
 use Rattle.process_steps.specs.Laws.{is_done}
 use Rattle.dpoc_process.specs.RoleLaws.{local, AdvancesAreSteps, IsShown, PreparedIsDone}
 use Rattle.dpoc_process.specs.RoleSteps.{entry_before, sent}
@@ -27,7 +27,7 @@ record PartStep (me : Role) (s : Store) (a : Act) (R : Process) (h : Handed)
     (given : Given) : Type 0 where
   deed : Deed
   does : step me s R a given ≡ Does deed (changed (grown (growth me (value_at s R) R) h) R)
-  stored : store_after deed s ≡ written (write_at (value_at s R) R) (value_in h) s
+  stored : store_after deed s ≡ with_written (write_at (value_at s R) R) (handed_value h) s
 
 -- a move that is done under a test is the move
 done_when : {D A : Type 0} (t : Bool) (m : Attempt D A) → is_done (when t m) ≡ true → when t m ≡ m
@@ -128,7 +128,7 @@ module _ (me : Role) (s : Store) (a : Act) where
         → record { head = head; others = others } ≡ scope
     same_scope h = cc
 
-    kept_step : (given : Given) → IsKept (lead_of (ScopeLead head others P)) given
+    kept_step : (given : Given) → BookKeeps (lead_of (ScopeLead head others P)) given
         → is_done (step me s (ScopeLead head others P) a given) ≡ true
         → PartStep me s a (ScopeLead head others P) Kept given
     kept_step given kept done =
@@ -143,7 +143,7 @@ module _ (me : Role) (s : Store) (a : Act) where
         }
 
     replaced_step : (own : Process) (ms : Letters) (given : Given)
-        → IsReplaced me (lead_of (ScopeLead head others P)) own ms given
+        → BookReplaces me (lead_of (ScopeLead head others P)) own ms given
         → is_done (step me s (ScopeLead head others P) a given) ≡ true
         → PartStep me s a (ScopeLead head others P) (Parted own ms) given
     replaced_step own ms given new done =

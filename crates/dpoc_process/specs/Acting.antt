@@ -34,5 +34,5 @@ lead_of _ = None
 abbrev pub acting_lead : LocalState → Act → Option Lead
 acting_lead s a = option_and_then lead_of (acting s.role a s.process)
 
-abbrev pub head_of : Lead → ScopeHead
-head_of lead = lead.head
+abbrev pub lead_head : Lead → ScopeHead
+lead_head lead = lead.head

@@ -29,10 +29,10 @@ branched first b (IfLead i g others P Q) = after first (if b then P else Q)
 branched first b (IfFollow i leader P Q) = after first (if b then P else Q)
 branched first b _ = Skip
 
-abbrev pub entered : Process → Process → Process → Process
-entered first last (ScopeLead head others P) = after first (after P last)
-entered first last (ScopeFollow i leader P) = after first (after P last)
-entered first last _ = Skip
+abbrev pub body_entered : Process → Process → Process → Process
+body_entered first last (ScopeLead head others P) = after first (after P last)
+body_entered first last (ScopeFollow i leader P) = after first (after P last)
+body_entered first last _ = Skip
 
 -- what a part becomes, Skip where the change is none of its kind
 abbrev pub changed : Change → Process → Process
@@ -40,7 +40,7 @@ changed (Becomes P) R = P
 changed Rest R = rest_of R
 changed (Branches first b) R = branched first b R
 changed (Turns first body last) R = after first (after body (after last R))
-changed (Enters first last) R = entered first last R
+changed (Enters first last) R = body_entered first last R
 
 -- the process with the part that does the act changed
 abbrev pub replaced : Role → Act → Process → Change → Process

@@ -91,15 +91,15 @@ write_at v (Read i x) = Reads x
 write_at v _ = Nothing
 
 -- the value that comes with the act
-abbrev pub value_in : Handed → Option Value
-value_in (Message (Val v)) = Some v
-value_in _ = None
+abbrev pub handed_value : Handed → Option Value
+handed_value (Message (Val v)) = Some v
+handed_value _ = None
 
-abbrev pub written : Write → Option Value → Store → Store
-written (Keeps x) (Some v) s = set_variable x v s
-written (Sets x v) came s = set_variable x v s
-written (Reads x) came s = set_variable x (next_input s) (drop_input s)
-written _ came s = s
+abbrev pub with_written : Write → Option Value → Store → Store
+with_written (Keeps x) (Some v) s = set_variable x v s
+with_written (Sets x v) came s = set_variable x v s
+with_written (Reads x) came s = set_variable x (next_input s) (drop_input s)
+with_written _ came s = s
 
 -- what is known of the entry before the act is done
 abbrev pub entry_at : Role → Value → Process → Option Entry

@@ -30,7 +30,7 @@ handed got.Keep = Kept
 handed (got.Parts parts) = Parted (process parts.own) (letters parts.tell)
 
 -- the book lets the scope keep its body
-pub record IsKept (lead : Option Lead) (given : Given) : Type 0 where
+pub record BookKeeps (lead : Option Lead) (given : Given) : Type 0 where
   pub scope : Lead
   pub is_led : lead ≡ Some scope
   pub decide : ScopeHead → Decision
@@ -39,7 +39,7 @@ pub record IsKept (lead : Option Lead) (given : Given) : Type 0 where
 
 -- the book replaces the scope, and the leader has its own part and the messages with the others'
 -- parts
-pub record IsReplaced (me : Role) (lead : Option Lead) (own : Process) (ms : Letters)
+pub record BookReplaces (me : Role) (lead : Option Lead) (own : Process) (ms : Letters)
     (given : Given) : Type 0 where
   pub scope : Lead
   pub is_led : lead ≡ Some scope
@@ -57,8 +57,8 @@ pub record IsReplaced (me : Role) (lead : Option Lead) (own : Process) (ms : Let
 abbrev pub StandsFor : Role → Option Lead → Handed → Given → Type 0
 StandsFor me lead Empty given = given ≡ Alone
 StandsFor me lead (Message l) given = given ≡ Got l
-StandsFor me lead Kept given = IsKept lead given
-StandsFor me lead (Parted own ms) given = IsReplaced me lead own ms given
+StandsFor me lead Kept given = BookKeeps lead given
+StandsFor me lead (Parted own ms) given = BookReplaces me lead own ms given
 
 abbrev pub Brings : LocalState → Act → Handed → Given → Type 0
 Brings s a h given = StandsFor s.role (acting_lead s a) h given

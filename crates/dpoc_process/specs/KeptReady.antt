@@ -7,7 +7,7 @@ use Rattle.dioc_terms.specs.Processes.{Process, load}
 use Rattle.dioc_terms.specs.Stores.{Store}
 use Rattle.dpoc_process.specs.declared.ready.Ready.{Ready}
 use Rattle.dpoc_process.specs.declared.runs.Prepared.{Prepared}
-use Rattle.dpoc_process.specs.Acting.{lead_of, head_of}
+use Rattle.dpoc_process.specs.Acting.{lead_of, lead_head}
 use Rattle.dpoc_process.specs.Growth.{value_at, growth, write_at, entry_at, load_at}
 use Rattle.dpoc_process.specs.KeptGrowth.{growth_of, write_of}
 
@@ -18,9 +18,10 @@ pub record IsReadyFor (me : Role) (a : Act) (v : Value) (R : Process) (ready : R
   pub write : write_of ready.write ≡ write_at v R
 
 -- what is shown of a part before its act is done
-pub record Shows (me : Role) (a : Act) (v : Value) (R : Process) (p : Prepared) : Type 0 where
+pub record IsPreparedFor (me : Role) (a : Act) (v : Value) (R : Process)
+    (p : Prepared) : Type 0 where
   pub act : p.act ≡ a
-  pub head : p.head ≡ option_map head_of (lead_of R)
+  pub head : p.head ≡ option_map lead_head (lead_of R)
   pub entry : p.entry ≡ entry_at me v R
   pub payload : option_map load p.payload ≡ load_at v R
 
@@ -30,4 +31,4 @@ pub record IsMade (me : Role) (s : Store) (a : Act) (found : Option Process) (re
   pub part : Process
   pub is_found : found ≡ Some part
   pub made : IsReadyFor me a (value_at s part) part ready
-  pub shown : Shows me a (value_at s part) part p
+  pub shown : IsPreparedFor me a (value_at s part) part p

@@ -7,7 +7,7 @@ use Rattle.dioc_terms.specs.Processes.{Process}
 use Rattle.dioc_terms.specs.Stores.{Store}
 use Rattle.dpoc_process.specs.Acting.{acting, lead_of}
 use Rattle.dpoc_process.specs.Changes.{replaced}
-use Rattle.dpoc_process.specs.Growth.{value_at, growth, grown, write_at, value_in, written, entry_at, load_at}
+use Rattle.dpoc_process.specs.Growth.{value_at, growth, grown, write_at, handed_value, with_written, entry_at, load_at}
 use Rattle.dpoc_process.specs.Handed.{Handed, StandsFor, IsEnabled}
 use Rattle.dpoc_process.specs.RoleSteps.{entry_before, sent, IsStep}
 use Rattle.dpoc_process.specs.LocalStates.{LocalState}
@@ -21,7 +21,7 @@ local me P s = record { role = me; process = P; store = s }
 abbrev pub advanced : Role → Store → Act → Process → Process → Handed → LocalState
 advanced me s a P R h =
     local me (replaced me a P (grown (growth me (value_at s R) R) h))
-    (written (write_at (value_at s R) R) (value_in h) s)
+    (with_written (write_at (value_at s R) R) (handed_value h) s)
 
 abbrev pub AdvancesAreSteps : Type 0
 AdvancesAreSteps = (me : Role) (s : Store) (a : Act) (P R : Process) (h : Handed) (given : Given)

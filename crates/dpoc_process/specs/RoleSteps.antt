@@ -5,7 +5,7 @@ use Rattle.dioc_terms.specs.declared.entries.Entry.{Entry}
 use Rattle.dioc_terms.specs.Attempts.{Does}
 use Rattle.dioc_terms.specs.Processes.{Process, Load, load}
 use Rattle.dpoc_process.specs.declared.runs.Prepared.{Prepared}
-use Rattle.dpoc_process.specs.Acting.{acting_lead, head_of}
+use Rattle.dpoc_process.specs.Acting.{acting_lead, lead_head}
 use Rattle.dpoc_process.specs.LocalStates.{LocalState, offered, step_at, local_done}
 use Rattle.process_steps.specs.Steps.{Deed, Puts, Chooses, Given, entry_of, is_offered}
 
@@ -24,7 +24,7 @@ sent _ = None
 pub record IsPrepared (s : LocalState) (a : Act) (p : Prepared) : Type 0 where
   pub act : p.act ≡ a
   pub can_act : is_offered a (offered s) ≡ true
-  pub head : p.head ≡ option_map head_of (acting_lead s a)
+  pub head : p.head ≡ option_map lead_head (acting_lead s a)
   pub entry : (given : Given) (d : Deed) (P : Process) → step_at s a given ≡ Does d P → p.entry
       ≡ entry_before d
   pub payload : (given : Given) (d : Deed) (P : Process) → step_at s a given ≡ Does d P

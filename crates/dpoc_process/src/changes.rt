@@ -6,8 +6,8 @@
 
 ghost use Rattle.std.specs.Prelude.{◌≡◌, if◌then◌else◌};
 ghost use Rattle.dioc_terms.specs.Processes.{process, letters, Tell, Gather};
-ghost use Rattle.dpoc_process.specs.Changes.{replaced, changed, rest_of, branched, entered};
-ghost use Rattle.dpoc_process.specs.KeptChanges.{change_of};
+ghost use Rattle.dpoc_process.specs.Changes.{replaced, changed, rest_of, branched, body_entered};
+ghost use Rattle.dpoc_process.specs.KeptChanges.{part_change};
 ghost use Rattle.process_steps.specs.Steps.{after, telling, gathering};
 
 use crate::offered::{find, is_ended};
@@ -50,7 +50,7 @@ pub(crate) struct Entrance {
 
 /// The process with the part that does the act changed. It takes no memory.
 pub(crate) fn replaced(me: &Role, act: &Act, proc: Proc, by: Change) -> Proc
-    ensures { process result ≡ replaced me.now act.now (process proc) (change_of by) }
+    ensures { process result ≡ replaced me.now act.now (process proc) (part_change by) }
 {
     match proc {
         Proc::Seq(first, second) => {
@@ -77,7 +77,7 @@ pub(crate) fn replaced(me: &Role, act: &Act, proc: Proc, by: Change) -> Proc
 
 /// What the part becomes.
 fn changed(part: Proc, by: Change) -> Proc
-    ensures { process result ≡ changed (change_of by) (process part) }
+    ensures { process result ≡ changed (part_change by) (process part) }
 {
     match by {
         Change::Becomes(proc) => {
@@ -252,7 +252,7 @@ fn turned(turn: Turn, part: Proc) -> Proc
 /// The body of the scope, between what is told first and what follows.
 fn entered(entrance: Entrance, part: Proc) -> Proc
     ensures { process result ≡
-        entered (process entrance.first.value) (process entrance.last.value) (process part) }
+        body_entered (process entrance.first.value) (process entrance.last.value) (process part) }
 {
     let Entrance { first, last, inner } = entrance;
     match part {

@@ -8,7 +8,7 @@ ghost use Rattle.dpoc_process.specs.Changes as changes;
 ghost use Rattle.dpoc_process.specs.Growth.{growth, grown, leads_loop, value_at, write_at};
 ghost use Rattle.dpoc_process.specs.Growth as growths;
 ghost use Rattle.dpoc_process.specs.Handed.{handed, Message, Parted};
-ghost use Rattle.dpoc_process.specs.KeptChanges.{change_of};
+ghost use Rattle.dpoc_process.specs.KeptChanges.{part_change};
 ghost use Rattle.dpoc_process.specs.KeptGrowth.{growth_of, write_of};
 ghost use Rattle.process_steps.specs.Steps.{key, tell, gather, send_one};
 ghost use Rattle.dioc_terms.specs.declared.processes.Tag.TheVariants as tags;
@@ -246,7 +246,7 @@ fn followed_scope(alloc: Global, me: &Role, index: Index, leader: &Role) -> Resu
 
 /// The change, once it is known what comes with the act. It takes no memory.
 pub(crate) fn grown(growth: Growth, got: Got) -> Change
-    ensures { change_of result ≡ grown (growth_of growth) (handed got) }
+    ensures { part_change result ≡ grown (growth_of growth) (handed got) }
 {
     match growth {
         Growth::Certain(change) => {
@@ -262,13 +262,13 @@ pub(crate) fn grown(growth: Growth, got: Got) -> Change
 
 /// Nothing is left, where what came doesn't fit; what was kept and what came are let go.
 fn nothing<T: Drop, U: Drop>(_kept: T, _came: U) -> Change
-    ensures { change_of result ≡ changes.Becomes loads.Skip }
+    ensures { part_change result ≡ changes.Becomes loads.Skip }
 {
     Change::Becomes(Proc::Skip)
 }
 
 fn by_flag(first: Box<Proc>, got: Got) -> Change
-    ensures { change_of result ≡ grown growths.ByFlag (handed got) }
+    ensures { part_change result ≡ grown growths.ByFlag (handed got) }
 {
     match got {
         Got::Payload(payload) => branch_of(first, payload),
@@ -277,7 +277,7 @@ fn by_flag(first: Box<Proc>, got: Got) -> Change
 }
 
 fn branch_of(first: Box<Proc>, payload: Payload) -> Change
-    ensures { change_of result ≡ grown growths.ByFlag (Message (load payload)) }
+    ensures { part_change result ≡ grown growths.ByFlag (Message (load payload)) }
 {
     match payload {
         Payload::Flag(flag) => Change::Branches {
@@ -289,7 +289,7 @@ fn branch_of(first: Box<Proc>, payload: Payload) -> Change
 }
 
 fn turned_by(turn: Turn, got: Got) -> Change
-    ensures { change_of result ≡
+    ensures { part_change result ≡
         grown (growths.Looping (process turn.body.value) (process turn.last.value)) (handed got) }
 {
     match got {
@@ -299,7 +299,7 @@ fn turned_by(turn: Turn, got: Got) -> Change
 }
 
 fn turn_of(turn: Turn, payload: Payload) -> Change
-    ensures { change_of result ≡
+    ensures { part_change result ≡
         grown (growths.Looping (process turn.body.value) (process turn.last.value))
         (Message (load payload)) }
 {
@@ -310,7 +310,7 @@ fn turn_of(turn: Turn, payload: Payload) -> Change
 }
 
 fn turn_for(turn: Turn, flag: bool) -> Change
-    ensures { change_of result ≡
+    ensures { part_change result ≡
         grown (growths.Looping (process turn.body.value) (process turn.last.value))
         (Message (loads.Flag flag)) }
 {
@@ -328,7 +328,7 @@ fn turn_for(turn: Turn, flag: bool) -> Change
 }
 
 fn led_by(at: Entrance, own: Box<Proc>, got: Got) -> Change
-    ensures { change_of result ≡
+    ensures { part_change result ≡
         grown (growths.Leading (process at.first.value) (process at.last.value)) (handed got) }
 {
     match got {
@@ -342,7 +342,7 @@ fn led_by(at: Entrance, own: Box<Proc>, got: Got) -> Change
 
 /// The leader's own part of an update, after the others are told theirs.
 fn parted(at: Entrance, own: Box<Proc>, parts: Parts) -> Change
-    ensures { change_of result ≡
+    ensures { part_change result ≡
         grown (growths.Leading (process at.first.value) (process at.last.value))
         (Parted (process parts.own) (letters parts.tell)) }
 {
@@ -353,7 +353,7 @@ fn parted(at: Entrance, own: Box<Proc>, parts: Parts) -> Change
 }
 
 fn followed_by(at: Entrance, own: Box<Proc>, got: Got) -> Change
-    ensures { change_of result ≡ grown (growths.Following (process at.last.value)) (handed got) }
+    ensures { part_change result ≡ grown (growths.Following (process at.last.value)) (handed got) }
 {
     match got {
         Got::Payload(payload) => begun_by(at, own, payload),
@@ -365,7 +365,7 @@ fn followed_by(at: Entrance, own: Box<Proc>, got: Got) -> Change
 }
 
 fn begun_by(at: Entrance, own: Box<Proc>, payload: Payload) -> Change
-    ensures { change_of result ≡ grown (growths.Following (process at.last.value))
+    ensures { part_change result ≡ grown (growths.Following (process at.last.value))
         (Message (load payload)) }
 {
     match payload {
@@ -379,7 +379,7 @@ fn begun_by(at: Entrance, own: Box<Proc>, payload: Payload) -> Change
 
 /// The body of the scope, with nothing told first.
 fn kept(at: Entrance) -> Change
-    ensures { change_of result ≡ changes.Enters loads.Skip (process at.last.value) }
+    ensures { part_change result ≡ changes.Enters loads.Skip (process at.last.value) }
 {
     Change::Enters(Entrance {
         first: closed(at.first, Proc::Skip),

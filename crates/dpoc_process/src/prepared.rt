@@ -5,9 +5,9 @@ ghost use Rattle.dioc_terms.specs.declared.entries.Entry.TheVariants as entries;
 ghost use Rattle.dioc_terms.specs.declared.processes.Tag.TheVariants as tags;
 ghost use Rattle.dioc_terms.specs.Processes.{process, letters, load, noted, Val, Tell, Gather};
 ghost use Rattle.dioc_terms.specs.Values.{is_true};
-ghost use Rattle.dpoc_process.specs.Acting.{lead_of, head_of};
+ghost use Rattle.dpoc_process.specs.Acting.{lead_of, lead_head};
 ghost use Rattle.dpoc_process.specs.Growth.{entry_at, load_at};
-ghost use Rattle.dpoc_process.specs.KeptReady.{Shows};
+ghost use Rattle.dpoc_process.specs.KeptReady.{IsPreparedFor};
 ghost use Rattle.process_steps.specs.Steps.{key};
 
 use crate::growth::is_true;
@@ -27,7 +27,7 @@ pub(crate) fn prepared_at(
     value: &Value,
     part: &Proc,
 ) -> Result<Prepared, Memory>
-    ensures { IfOk result (Shows me.now act.now value.now (process part.now)) }
+    ensures { IfOk result (IsPreparedFor me.now act.now value.now (process part.now)) }
 {
     let act = copy_of_act(alloc, act)?;
     match entry_at(alloc, me, value, part) {
@@ -47,7 +47,7 @@ fn with_entry(
     ensures act { IfOk result (λ shown. shown.act ≡ act) }
     ensures entry { IfOk result (λ shown. shown.entry ≡ entry) }
     ensures head { IfOk result (λ shown. shown.head
-        ≡ option_map head_of (lead_of (process part.now))) }
+        ≡ option_map lead_head (lead_of (process part.now))) }
     ensures payload { IfOk result (λ shown. option_map load shown.payload
         ≡ load_at value.now (process part.now)) }
 {
@@ -260,7 +260,7 @@ fn payload_of_tell(
 
 /// What the book sees of the scope that the part begins.
 fn head_at(alloc: Global, part: &Proc) -> Result<Option<ScopeHead>, Memory>
-    ensures { IfOk result (λ head. head ≡ option_map head_of (lead_of (process part.now))) }
+    ensures { IfOk result (λ head. head ≡ option_map lead_head (lead_of (process part.now))) }
 {
     match part {
         Proc::ScopeLead { head, .. } => Ok(Some(head.copy(alloc)?)),

@@ -5,7 +5,7 @@ ghost use Rattle.dioc_terms.specs.KeptStores.{store_of, room};
 ghost use Rattle.dioc_terms.specs.Processes.{process, load};
 ghost use Rattle.dpoc_process.specs.Acting.{acting};
 ghost use Rattle.dpoc_process.specs.Changes.{replaced};
-ghost use Rattle.dpoc_process.specs.Growth.{grown, value_in, written};
+ghost use Rattle.dpoc_process.specs.Growth.{grown, handed_value, with_written};
 ghost use Rattle.dpoc_process.specs.Growth as growths;
 ghost use Rattle.dpoc_process.specs.Handed.{handed, Message};
 ghost use Rattle.dpoc_process.specs.KeptGrowth.{growth_of, write_of};
@@ -124,7 +124,7 @@ pub(crate) fn advanced(
     ensures changed { process result ≡
         replaced me.now act.now (process proc) (grown (growth_of ready.growth) (handed got)) }
     ensures stored { store_of store.new ≡
-        written (write_of ready.write) (value_in (handed got)) (store_of store.old) }
+        with_written (write_of ready.write) (handed_value (handed got)) (store_of store.old) }
 {
     let Ready { growth, write, .. } = ready;
     let (value, got) = split(got);
@@ -135,7 +135,7 @@ pub(crate) fn advanced(
 /// The value that comes with the act, and the rest, which gives the same change. It takes no
 /// memory.
 fn split(got: Got) -> (Option<Value>, Got)
-    ensures value { result.0 ≡ value_in (handed got) }
+    ensures value { result.0 ≡ handed_value (handed got) }
     ensures rest { (made : growths.Growth) → grown made (handed result.1)
         ≡ grown made (handed got) }
 {
@@ -149,7 +149,7 @@ fn split(got: Got) -> (Option<Value>, Got)
 
 #[tactic(auto, using(crate::proofs::Splits::value_grows_nothing))]
 fn split_payload(payload: Payload) -> (Option<Value>, Got)
-    ensures value { result.0 ≡ value_in (Message (load payload)) }
+    ensures value { result.0 ≡ handed_value (Message (load payload)) }
     ensures rest { (made : growths.Growth) →
         grown made (handed result.1) ≡ grown made (Message (load payload)) }
 {
@@ -165,7 +165,7 @@ fn split_payload(payload: Payload) -> (Option<Value>, Got)
 /// Writes what the step writes. There is room for one more variable, so it takes no memory.
 fn apply(store: &mut Store, write: Write, value: Option<Value>)
     requires { 0 < room store.old }
-    ensures { store_of store.new ≡ written (write_of write) value (store_of store.old) }
+    ensures { store_of store.new ≡ with_written (write_of write) value (store_of store.old) }
 {
     match write {
         Write::Nothing => {}
@@ -181,7 +181,7 @@ fn apply(store: &mut Store, write: Write, value: Option<Value>)
 /// Keeps the value that came.
 fn keep(store: &mut Store, var: Name, value: Option<Value>)
     requires { 0 < room store.old }
-    ensures { store_of store.new ≡ written (growths.Keeps var) value (store_of store.old) }
+    ensures { store_of store.new ≡ with_written (growths.Keeps var) value (store_of store.old) }
 {
     if let Some(came) = value {
         store.set(var, came);

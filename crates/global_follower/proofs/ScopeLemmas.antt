@@ -15,7 +15,7 @@ use Rattle.dioc_terms.specs.Stores.{Store}
 use Rattle.dioc_terms.specs.declared.values.Value.{Value}
 use Rattle.dioc_terms.specs.Terms as term
 use Rattle.dioc_terms.specs.Terms.{Term, head_of, is_in, stamped}
-use Rattle.global_follower.specs.Scopes.{choice_of, chosen_body, entered}
+use Rattle.global_follower.specs.Scopes.{choice_of, chosen_body, played_scope}
 use Rattle.global_steps.specs.Follow.{BookChoice, KeepsBody, TakesRule, Leaves, book_choice, plays, scope_plays}
 use Rattle.global_steps.specs.Running as runs
 use Rattle.global_steps.specs.Running.{Running, Bar, started}
@@ -39,7 +39,7 @@ book_choice-number rules book head s = by (choose rules book head s) refl
 module _ (cast : List Role) (stores : Role → Store) (choices : ScopeHead → BookChoice) (updates : ℕ)
     (i : Index) (r : Role) (I : Term) (roles : Role → Bool) (level : ℕ) (e : Entry) where
   when_entered : (test : Bool) (J : Term) → when test (Does Leaves (Bar roles (started J)))
-      ≡ entered roles (if test then Some J else None)
+      ≡ played_scope roles (if test then Some J else None)
   when_entered true J = refl
   when_entered false J = refl
 
@@ -47,7 +47,7 @@ module _ (cast : List Role) (stores : Role → Store) (choices : ScopeHead → B
   pub scope_entered : (shown : Chosen) (choice : BookChoice)
       → ((c : Chosen) → entry_eq e (entry.Scope i r c) ≡ chosen_eq shown c)
       → scope_plays cast stores choices updates i r I roles level choice e
-      ≡ entered roles (chosen_body shown choice I updates level)
+      ≡ played_scope roles (chosen_body shown choice I updates level)
   scope_entered shown KeepsBody shows =
       ap (λ test. when test (Does Leaves (Bar roles (started I)))) (shows chosen.Keep)
       ∙ when_entered (chosen_eq shown chosen.Keep) I
@@ -76,13 +76,13 @@ module _ (cast : List Role) (rules : List PlainRule) (stores : Role → Store) (
       → rule ≡ choose rules book head (stores r)
       → ((c : Chosen) → entry_eq e (entry.Scope i r c) ≡ chosen_eq shown c)
       → body ≡ chosen_body shown (choice_of rules rule) I updates level
-      → entered (λ q. is_in q (term.Scope i r I extra props level)) body
+      → played_scope (λ q. is_in q (term.Scope i r I extra props level)) body
       ≡ plays cast stores (λ h. book_choice rules book h (stores h.leader)) updates
       (runs.Scope i r I extra props level) e
   scope_played shown head rule body is_head is_rule shows is_body =
       let roles : Role → Bool = λ q. is_in q (term.Scope i r I extra props level) in
       let seen : ScopeHead = head_of cast i r I extra props level in
-      ap (entered roles) (is_body
+      ap (played_scope roles) (is_body
       ∙ ap (λ (n : Option ℕ). chosen_body shown (choice_of rules n) I updates level)
       (is_rule ∙ ap (λ (h : ScopeHead). choose rules book h (stores r)) is_head)
       ∙ ap (λ (c : BookChoice). chosen_body shown c I updates level)

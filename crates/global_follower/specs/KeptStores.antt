@@ -8,5 +8,5 @@ abbrev pub stores_of : Stores → Role → Store
 stores_of kept = stores_in kept.stores
 
 -- the role has a place, and room there for one more variable
-abbrev pub IsReadyFor : Role → Stores → Type 0
-IsReadyFor q kept = IsReadyAt q kept.stores
+abbrev pub HasRoomFor : Role → Stores → Type 0
+HasRoomFor q kept = IsReadyAt q kept.stores

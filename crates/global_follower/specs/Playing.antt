@@ -24,9 +24,9 @@ plays_in rules scene G =
     scene.updates G scene.entry.now
 
 -- nothing is done, or the effect and what is left
-abbrev pub done : Option KeptEffect → Running → Attempt Effect Running
-done None G = Stuck
-done (Some effect) G = Does (effect_of effect) G
+abbrev pub attempt_with : Option KeptEffect → Running → Attempt Effect Running
+attempt_with None G = Stuck
+attempt_with (Some effect) G = Does (effect_of effect) G
 
 abbrev pub attempt_of : Option Played → Attempt Effect Running
 attempt_of None = Stuck

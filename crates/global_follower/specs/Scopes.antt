@@ -10,9 +10,9 @@ use Rattle.dioc_terms.specs.Terms.{Term, Scope, stamped}
 use Rattle.global_steps.specs.Follow.{BookChoice, KeepsBody, TakesRule, Effect, Leaves}
 use Rattle.global_steps.specs.Running.{Running, Bar, started}
 
-abbrev pub is_scope : Term → Bool
-is_scope (Scope i r I extra props level) = true
-is_scope _ = false
+abbrev pub is_scope_term : Term → Bool
+is_scope_term (Scope i r I extra props level) = true
+is_scope_term _ = false
 
 -- what the book says, where it chooses this rule or none
 abbrev pub choice_by : Option PlainRule → BookChoice
@@ -34,6 +34,6 @@ chosen_body shown (TakesRule name body) I updates level =
     then Some (stamped body (suc updates) (suc level)) else None
 
 -- the scope of these roles with the body that is played
-abbrev pub entered : (Role → Bool) → Option Term → Attempt Effect Running
-entered roles None = Stuck
-entered roles (Some I) = Does Leaves (Bar roles (started I))
+abbrev pub played_scope : (Role → Bool) → Option Term → Attempt Effect Running
+played_scope roles None = Stuck
+played_scope roles (Some I) = Does Leaves (Bar roles (started I))

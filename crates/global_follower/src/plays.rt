@@ -7,7 +7,7 @@ ghost use Rattle.dioc_terms.specs.Terms.{term, roles_in, is_in};
 ghost use Rattle.global_follower.specs.declared.effects.Effect.TheVariants as effects;
 ghost use Rattle.global_follower.specs.KeptBooks.{rules_of};
 ghost use Rattle.global_follower.specs.KeptRunning.{flying, marked, part_term, running};
-ghost use Rattle.global_follower.specs.Playing.{attempt_of, done, is_branching, is_whole, plays_alone, plays_in, plays_itself};
+ghost use Rattle.global_follower.specs.Playing.{attempt_of, attempt_with, is_branching, is_whole, plays_alone, plays_in, plays_itself};
 ghost use Rattle.global_steps.specs.Follow.{is_doer_due};
 ghost use Rattle.global_steps.specs.Running.{light, started};
 ghost use Rattle.global_steps.specs.Running as runs;
@@ -50,7 +50,7 @@ pub(crate) fn play<'a>(
     rules: RuleList<'a>,
     scene: &Scene<'_>,
 ) -> Result<Option<Effect>, Memory>
-    ensures played { IfOk result (λ effect. done effect (running left.new)
+    ensures played { IfOk result (λ effect. attempt_with effect (running left.new)
         ≡ plays_in (rules_of rules.entry) scene.now (running left.old)) }
     ensures stays { IfOk result (λ effect. effect ≡ None → running left.new ≡ running left.old) }
     ensures same { OnErr result (running left.new ≡ running left.old) }
@@ -111,7 +111,7 @@ fn plays_itself(left: &Running<'_>) -> bool
 
 /// Puts what is left in the place of what was there.
 fn replace<'a>(left: &mut Running<'a>, played: Option<Played<'a>>) -> Option<Effect>
-    ensures played { done result (running left.new) ≡ attempt_of played.entry }
+    ensures played { attempt_with result (running left.new) ≡ attempt_of played.entry }
     ensures stays { result ≡ None → running left.new ≡ running left.old }
 {
     match played {

@@ -8,7 +8,7 @@ ghost use Rattle.dioc_terms.specs.Terms.{at_epoch, is_in, roles_in, stamped, ter
 ghost use Rattle.global_follower.specs.KeptBooks.{rules_of};
 ghost use Rattle.global_follower.specs.KeptRunning.{marked, part_term};
 ghost use Rattle.global_follower.specs.Playing.{attempt_of, plays_in};
-ghost use Rattle.global_follower.specs.Scopes.{choice_by, choice_of, chosen_body, entered, is_scope};
+ghost use Rattle.global_follower.specs.Scopes.{choice_by, choice_of, chosen_body, played_scope, is_scope_term};
 ghost use Rattle.global_steps.specs.Running.{started};
 
 use crate::plays::{Played, Scene, leaves};
@@ -30,7 +30,7 @@ pub(crate) fn play_scope<'a>(
     rules: RuleList<'a>,
     scene: &Scene<'_>,
 ) -> Result<Option<Played<'a>>, Memory>
-    requires { is_scope (term scope.now) ≡ true }
+    requires { is_scope_term (term scope.now) ≡ true }
     ensures { IfOk result (λ played. attempt_of played
         ≡ plays_in (rules_of rules.entry) scene.now (started (marked scope.now marks))) }
 {
@@ -61,7 +61,7 @@ fn enter<'a>(
     body: Option<Part<'a>>,
 ) -> Result<Option<Played<'a>>, Memory>
     ensures { IfOk result (λ played. attempt_of played
-        ≡ entered (λ q. is_in q (part_term scope.entry))
+        ≡ played_scope (λ q. is_in q (part_term scope.entry))
         (option_map part_term body.entry)) }
 {
     match body {

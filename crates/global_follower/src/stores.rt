@@ -28,7 +28,7 @@ impl Stores {
     ghost use Rattle.dioc_terms.specs.KeptStores.{store_of};
     ghost use Rattle.dioc_terms.specs.Stores.{fresh_store};
     ghost use Rattle.global_follower.specs.KeptEffects.{effect_of};
-    ghost use Rattle.global_follower.specs.KeptStores.{stores_of, IsReadyFor};
+    ghost use Rattle.global_follower.specs.KeptStores.{stores_of, HasRoomFor};
     ghost use Rattle.global_steps.specs.Follow.{affected, inputs_of, updated};
 
     /// The stores before the first entry: no variable is set, and each role has the inputs that are
@@ -58,7 +58,7 @@ impl Stores {
     /// Makes room for one more variable in the store of the role.
     pub(crate) fn make_ready(&mut self, alloc: Global, role: &Role) -> Result<(), Memory>
         ensures same { stores_of self.new ≡ stores_of self.old }
-        ensures ready { OnOk result (IsReadyFor role.now self.new) }
+        ensures ready { OnOk result (HasRoomFor role.now self.new) }
     {
         make_place(alloc, &mut self.stores, role)?;
         make_room(&mut self.stores, role)
@@ -66,7 +66,7 @@ impl Stores {
 
     /// Does to the store of the role what an entry does to it. It takes no memory.
     pub(crate) fn affect(&mut self, role: &Role, effect: Effect)
-        requires { IsReadyFor role.now self.old }
+        requires { HasRoomFor role.now self.old }
         ensures { stores_of self.new ≡ updated role.now
             (affected (effect_of effect) (stores_of self.old role.now)) (stores_of self.old) }
     {

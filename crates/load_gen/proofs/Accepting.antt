@@ -14,8 +14,8 @@ use Rattle.load_gen.specs.declared.draws.Kind.{Kind}
 use Rattle.load_gen.specs.Blocks.{blocks}
 use Rattle.load_gen.specs.Draws.{drawn, kind_of, kinds}
 use Rattle.load_gen.specs.Laws.{MadeAreAccepted}
-use Rattle.load_gen.specs.Made.{body, choreography, condition, eight, groups, made, opening, rule, rule_name, script, sequence, text}
-use Rattle.load_gen.specs.Pieces.{role}
+use Rattle.load_gen.specs.Made.{body, choreography, condition, eight, groups_of_twenty, made, opening_steps, rule, rule_name, script, sequence, text}
+use Rattle.load_gen.specs.Pieces.{role_numbered}
 use Rattle.load_gen.proofs.BlockWholes.{cast, first_whole, pass_whole}
 use Rattle.load_gen.proofs.Casts.{none_new}
 use Rattle.load_gen.proofs.Chains.{groups_count, groups_small, groups_whole}
@@ -28,14 +28,14 @@ kinds_count (suc count) x = ap (λ n. suc n) (kinds_count count (drawn x))
 
 -- the text of these kinds, with so many groups
 abbrev text_with : ℕ → List Kind → Term
-text_with count kinds = sequence (opening ++ map sequence (groups count (blocks kinds 0 0)))
+text_with count kinds = sequence (opening_steps ++ map sequence (groups_of_twenty count (blocks kinds 0 0)))
 
 abbrev blocks_with : ℕ → List Kind → Term
-blocks_with count kinds = sequence (map sequence (groups count (blocks kinds 0 0)))
+blocks_with count kinds = sequence (map sequence (groups_of_twenty count (blocks kinds 0 0)))
 
 -- the roles that the opening names
 abbrev opening_mentions : List Role
-opening_mentions = mentions (sequence opening)
+opening_mentions = mentions (sequence opening_steps)
 
 -- what acceptance asks of a choreography
 record Fits (I : Term) : Type 0 where
@@ -50,7 +50,7 @@ leaf_small : (I : Term) → nodes I ≡ 1 → depth I ≡ 1 → IsSmall 141 25 I
 leaf_small I one deep = record { nodes = omega arith; depth = omega arith }
 
 opening_small : (Is : List Term) → AllByRecursion (IsSmall 141 25) Is
-    → AllByRecursion (IsSmall 141 25) (opening ++ Is)
+    → AllByRecursion (IsSmall 141 25) (opening_steps ++ Is)
 opening_small Is small = (
   leaf_small _ refl refl,
   (
@@ -72,18 +72,18 @@ opening_small Is small = (
 )
 
 whole_text : (count : ℕ) (kinds : List Kind) (last : Role)
-    → Whole cast (indexed_from 9 (blocks_with (suc count) kinds)) (role 0) last
-    → Whole cast (indexed (text_with (suc count) kinds)) (role 0) last
+    → Whole cast (indexed_from 9 (blocks_with (suc count) kinds)) (role_numbered 0) last
+    → Whole cast (indexed (text_with (suc count) kinds)) (role_numbered 0) last
 whole_text count kinds last rest =
-    seq_whole cast _ _ (role 0) (role 0) last (first_whole 0)
-    (seq_whole cast _ _ (role 0) (role 1) last (pass_whole 0 (omega arith) 1)
-    (seq_whole cast _ _ (role 1) (role 2) last (pass_whole 1 (omega arith) 2)
-    (seq_whole cast _ _ (role 2) (role 3) last (pass_whole 2 (omega arith) 3)
-    (seq_whole cast _ _ (role 3) (role 4) last (pass_whole 3 (omega arith) 4)
-    (seq_whole cast _ _ (role 4) (role 5) last (pass_whole 4 (omega arith) 5)
-    (seq_whole cast _ _ (role 5) (role 6) last (pass_whole 5 (omega arith) 6)
-    (seq_whole cast _ _ (role 6) (role 7) last (pass_whole 6 (omega arith) 7)
-    (seq_whole cast _ _ (role 7) (role 0) last (pass_whole 7 (omega arith) 8) rest))))))))
+    seq_whole cast _ _ (role_numbered 0) (role_numbered 0) last (first_whole 0)
+    (seq_whole cast _ _ (role_numbered 0) (role_numbered 1) last (pass_whole 0 (omega arith) 1)
+    (seq_whole cast _ _ (role_numbered 1) (role_numbered 2) last (pass_whole 1 (omega arith) 2)
+    (seq_whole cast _ _ (role_numbered 2) (role_numbered 3) last (pass_whole 2 (omega arith) 3)
+    (seq_whole cast _ _ (role_numbered 3) (role_numbered 4) last (pass_whole 3 (omega arith) 4)
+    (seq_whole cast _ _ (role_numbered 4) (role_numbered 5) last (pass_whole 4 (omega arith) 5)
+    (seq_whole cast _ _ (role_numbered 5) (role_numbered 6) last (pass_whole 5 (omega arith) 6)
+    (seq_whole cast _ _ (role_numbered 6) (role_numbered 7) last (pass_whole 6 (omega arith) 7)
+    (seq_whole cast _ _ (role_numbered 7) (role_numbered 0) last (pass_whole 7 (omega arith) 8) rest))))))))
 
 -- few nodes, before the text has its indices
 pub text_nodes : (seed size : ℕ) → size ≤ 400 → nodes (text seed size) ≤ 4294967295
@@ -91,8 +91,8 @@ text_nodes seed size few =
     let count : (size + 19) / 20 ≤ 20 = omega arith in
     let Is = blocks (kinds size seed) 0 0 in
     let number = groups_count ((size + 19) / 20) Is in
-    let small = text_small (opening ++ map sequence (groups ((size + 19) / 20) Is))
-    (opening_small (map sequence (groups ((size + 19) / 20) Is))
+    let small = text_small (opening_steps ++ map sequence (groups_of_twenty ((size + 19) / 20) Is))
+    (opening_small (map sequence (groups_of_twenty ((size + 19) / 20) Is))
     (groups_small ((size + 19) / 20) (kinds size seed) 0 0)) (omega arith) in
     let most = small.nodes in
     omega arith
@@ -104,8 +104,8 @@ text_fits count kind kinds many few fits =
     let rest = groups_whole count kind kinds 0 0 many few (omega arith) (omega arith) 9 in
     let whole = whole_text count (kind ∷ kinds) rest.0 rest.1 in
     let number = groups_count (suc count) (blocks (kind ∷ kinds) 0 0) in
-    let small = text_small (opening ++ map sequence (groups (suc count) (blocks (kind ∷ kinds) 0 0)))
-    (opening_small (map sequence (groups (suc count) (blocks (kind ∷ kinds) 0 0)))
+    let small = text_small (opening_steps ++ map sequence (groups_of_twenty (suc count) (blocks (kind ∷ kinds) 0 0)))
+    (opening_small (map sequence (groups_of_twenty (suc count) (blocks (kind ∷ kinds) 0 0)))
     (groups_small (suc count) (kind ∷ kinds) 0 0)) (omega arith) in
     let size = small.nodes in
     let deep = small.depth in

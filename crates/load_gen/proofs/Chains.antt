@@ -7,8 +7,8 @@ use Rattle.dioc_terms.specs.Terms.{Term, Seq, constructs, indexed_from}
 use Rattle.load_gen.specs.declared.draws.Kind.{Kind}
 use Rattle.load_gen.specs.declared.draws.Kind.TheVariants as kind
 use Rattle.load_gen.specs.Blocks.{block, blocks, role_after, roles_after}
-use Rattle.load_gen.specs.Made.{groups, sequence}
-use Rattle.load_gen.specs.Pieces.{role}
+use Rattle.load_gen.specs.Made.{groups_of_twenty, sequence}
+use Rattle.load_gen.specs.Pieces.{role_numbered}
 use Rattle.load_gen.proofs.BlockWholes.{block_whole, cast}
 use Rattle.load_gen.proofs.Sizes.{IsSmall, block_small, group_small}
 use Rattle.load_gen.proofs.Wholes.{Whole, seq_whole}
@@ -48,30 +48,30 @@ drop_blocks (suc n) (kind ∷ kinds) b c few =
 
 pub blocks_whole : (kind : Kind) (kinds : List Kind) (b c : ℕ) → b + suc (length kinds) ≤ 400
     → c < 8 → (n : ℕ)
-    → Whole cast (indexed_from n (sequence (blocks (kind ∷ kinds) b c))) (role c)
-    (role (roles_after (kind ∷ kinds) c))
+    → Whole cast (indexed_from n (sequence (blocks (kind ∷ kinds) b c))) (role_numbered c)
+    (role_numbered (roles_after (kind ∷ kinds) c))
 blocks_whole kind [] b c few below n = block_whole kind b c (omega arith) below n
 blocks_whole kind (next ∷ kinds) b c few below n =
-    seq_whole cast _ _ (role c) (role (role_after kind c)) _
+    seq_whole cast _ _ (role_numbered c) (role_numbered (role_after kind c)) _
     (block_whole kind b c (omega arith) below n)
     (blocks_whole next kinds (suc b) (role_after kind c) (omega arith) (after_below kind c below)
     (n + constructs (block kind b c)))
 
 -- few blocks are one group
 pub one_group : (kinds : List Kind) (b c : ℕ) → length kinds ≤ 20
-    → sequence (map sequence (groups 1 (blocks kinds b c))) ≡ sequence (blocks kinds b c)
+    → sequence (map sequence (groups_of_twenty 1 (blocks kinds b c))) ≡ sequence (blocks kinds b c)
 one_group kinds b c few =
     let count = blocks_count kinds b c in
     ap sequence (take_all 20 (blocks kinds b c) (omega arith))
 
 -- more are a group and the groups behind it
 pub more_groups : (count : ℕ) (kinds : List Kind) (b c : ℕ) → 20 ≤ length kinds
-    → sequence (map sequence (groups (suc (suc count)) (blocks kinds b c)))
+    → sequence (map sequence (groups_of_twenty (suc (suc count)) (blocks kinds b c)))
     ≡ Seq (sequence (blocks (take 20 kinds) b c)) (sequence (map sequence
-    (groups (suc count) (blocks (drop 20 kinds) (b + 20) (roles_after (take 20 kinds) c)))))
+    (groups_of_twenty (suc count) (blocks (drop 20 kinds) (b + 20) (roles_after (take 20 kinds) c)))))
 more_groups count kinds b c many =
     ap₂ Seq (ap sequence (take_blocks 20 kinds b c))
-    (ap (λ (l : List Term). sequence (map sequence (groups (suc count) l)))
+    (ap (λ (l : List Term). sequence (map sequence (groups_of_twenty (suc count) l)))
     (drop_blocks 20 kinds b c many))
 
 -- the groups of 20 * count blocks and some more, at most 20, of which the first is of this kind
@@ -79,7 +79,7 @@ abbrev GroupsWhole : ℕ → Type 0
 GroupsWhole count = (kind : Kind) (kinds : List Kind) (b c : ℕ) → 20 * count < suc (length kinds)
     → suc (length kinds) ≤ 20 * count + 20 → b + suc (length kinds) ≤ 400 → c < 8 → (n : ℕ)
     → (last : Role) × Whole cast (indexed_from n (sequence (map sequence
-    (groups (suc count) (blocks (kind ∷ kinds) b c))))) (role c) last
+    (groups_of_twenty (suc count) (blocks (kind ∷ kinds) b c))))) (role_numbered c) last
 
 groups_after : (count : ℕ) → GroupsWhole count → GroupsWhole (suc count)
 groups_after count later kind kinds b c many few fits below n = by (drop 19 kinds) refl
@@ -92,7 +92,7 @@ groups_after count later kind kinds b c many few fits below n = by (drop 19 kind
 
     by : (rest : List Kind) → drop 19 kinds ≡ rest
         → (last : Role) × Whole cast (indexed_from n (sequence (map sequence
-        (groups (suc (suc count)) (blocks (kind ∷ kinds) b c))))) (role c) last
+        (groups_of_twenty (suc (suc count)) (blocks (kind ∷ kinds) b c))))) (role_numbered c) last
     by [] is =
         let left = length-drop 19 kinds in
         let none : length (drop 19 kinds) ≡ 0 = ap length is in
@@ -105,19 +105,19 @@ groups_after count later kind kinds b c many few fits below n = by (drop 19 kind
         let rest = later other others (b + 20) d (omega arith) (omega arith) (omega arith)
         (all_below (take 20 (kind ∷ kinds)) c below) (n + constructs I) in (
           rest.0,
-          subst (λ (K : Term). Whole cast (indexed_from n K) (role c) rest.0)
+          subst (λ (K : Term). Whole cast (indexed_from n K) (role_numbered c) rest.0)
               (sym (more_groups count (kind ∷ kinds) b c (omega arith)))
-              (seq_whole cast _ _ (role c) (role d) rest.0
+              (seq_whole cast _ _ (role_numbered c) (role_numbered d) rest.0
               (blocks_whole kind (take 19 kinds) b c (omega arith) below n)
               (subst (λ (l : List Kind). Whole cast (indexed_from (n + constructs I) (sequence
-              (map sequence (groups (suc count) (blocks l (b + 20) d))))) (role d) rest.0) (sym is)
+              (map sequence (groups_of_twenty (suc count) (blocks l (b + 20) d))))) (role_numbered d) rest.0) (sym is)
               rest.1)),
         )
 
 pub groups_whole : (count : ℕ) → GroupsWhole count
 groups_whole zero kind kinds b c many few fits below n = (
-  role (roles_after (kind ∷ kinds) c),
-  subst (λ (I : Term). Whole cast (indexed_from n I) (role c) (role (roles_after (kind ∷ kinds) c)))
+  role_numbered (roles_after (kind ∷ kinds) c),
+  subst (λ (I : Term). Whole cast (indexed_from n I) (role_numbered c) (role_numbered (roles_after (kind ∷ kinds) c)))
       (sym (one_group (kind ∷ kinds) b c (omega arith))) (blocks_whole kind kinds b c fits below n),
 )
 groups_whole (suc count) kind kinds b c many few fits below n =
@@ -141,7 +141,7 @@ module _ (P : Term → Type 0) where
   dropped_all (suc n) (I ∷ Is) all = dropped_all n Is all.1
 
 small_groups : (count : ℕ) (Is : List Term) → AllByRecursion (IsSmall 6 4) Is
-    → AllByRecursion (IsSmall 141 25) (map sequence (groups count Is))
+    → AllByRecursion (IsSmall 141 25) (map sequence (groups_of_twenty count Is))
 small_groups zero Is small = tt
 small_groups (suc count) Is small = (
   group_small (take 20 Is) (taken_all (IsSmall 6 4) 20 Is small)
@@ -150,9 +150,9 @@ small_groups (suc count) Is small = (
 )
 
 pub groups_small : (count : ℕ) (kinds : List Kind) (b c : ℕ)
-    → AllByRecursion (IsSmall 141 25) (map sequence (groups count (blocks kinds b c)))
+    → AllByRecursion (IsSmall 141 25) (map sequence (groups_of_twenty count (blocks kinds b c)))
 groups_small count kinds b c = small_groups count (blocks kinds b c) (each_small kinds b c)
 
-pub groups_count : (count : ℕ) (Is : List Term) → length (map sequence (groups count Is)) ≡ count
+pub groups_count : (count : ℕ) (Is : List Term) → length (map sequence (groups_of_twenty count Is)) ≡ count
 groups_count zero Is = refl
 groups_count (suc count) Is = ap (λ n. suc n) (groups_count count (drop 20 Is))

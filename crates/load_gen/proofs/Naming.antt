@@ -5,7 +5,7 @@ use Rattle.std.proofs.lemmas.Bool.{and_from, and_parts, or_left, or_right, le-le
 use Rattle.std.proofs.lemmas.Fmt.{decimal_by_steps, length-decimal-le}
 use Rattle.std.proofs.lemmas.List.Folds.{list_all-append}
 use Rattle.dioc_terms.specs.Names.{is_letter, is_digit, is_word, is_name}
-use Rattle.load_gen.specs.Pieces.{numbered, with_digit}
+use Rattle.load_gen.specs.Pieces.{numbered_name, with_digit}
 
 digit-is_word : (n : ℕ) → n < 10 → is_word (48 + n) ≡ true
 digit-is_word n h =
@@ -23,7 +23,7 @@ decimal-words n h = decimal_by_steps (λ m ds. list_all is_word ds ≡ true)
 
 -- a short name, and a number after it
 pub numbered_is_name : (letters : List ℕ) (n : ℕ) → is_name letters ≡ true → length letters ≤ 10
-    → n < 2 ^ 32 → is_name (numbered letters n) ≡ true
+    → n < 2 ^ 32 → is_name (numbered_name letters n) ≡ true
 numbered_is_name [] n named short small = cc
 numbered_is_name (byte ∷ rest) n named short small =
     let digits : length (decimal n) ≤ 10 =

@@ -5,7 +5,7 @@ use Rattle.dioc_terms.specs.Terms.{Term, Seq}
 use Rattle.load_gen.specs.declared.draws.Kind.{Kind}
 use Rattle.load_gen.specs.Blocks.{block, blocks, role_after, roles_after}
 use Rattle.load_gen.specs.Draws.{drawn, kind_of, kinds}
-use Rattle.load_gen.specs.Made.{groups, opening, pass, sequence, text}
+use Rattle.load_gen.specs.Made.{groups_of_twenty, opening_steps, pass, sequence, text}
 use Rattle.load_gen.proofs.Accepting.{kinds_count}
 use Rattle.load_gen.proofs.Chains.{more_groups, one_group}
 
@@ -68,16 +68,16 @@ pass_none j R all = rw all refl
 -- at most 20 blocks are one group, and more are a group and the groups behind it
 pub few_groups : (kinds : List Kind) (b c : ℕ) → 0 < length kinds → length kinds ≤ 20
     → sequence (blocks kinds b c)
-    ≡ sequence (map sequence (groups ((length kinds + 19) / 20) (blocks kinds b c)))
+    ≡ sequence (map sequence (groups_of_twenty ((length kinds + 19) / 20) (blocks kinds b c)))
 few_groups kinds b c some few =
     let one : (length kinds + 19) / 20 ≡ 1 = omega arith in
     rw one (sym (one_group kinds b c few))
 
 pub many_groups : (kinds : List Kind) (b c : ℕ) → 20 < length kinds
     → Seq (sequence (blocks (take 20 kinds) b c)) (sequence (map sequence
-    (groups ((length (drop 20 kinds) + 19) / 20)
+    (groups_of_twenty ((length (drop 20 kinds) + 19) / 20)
     (blocks (drop 20 kinds) (b + 20) (roles_after (take 20 kinds) c)))))
-    ≡ sequence (map sequence (groups ((length kinds + 19) / 20) (blocks kinds b c)))
+    ≡ sequence (map sequence (groups_of_twenty ((length kinds + 19) / 20) (blocks kinds b c)))
 many_groups kinds b c many =
     let left = length-drop 20 kinds in
     let rest : (length (drop 20 kinds) + 19) / 20 ≡ suc ((length kinds - 21) / 20) = omega arith in
@@ -86,13 +86,13 @@ many_groups kinds b c many =
 
 -- the opening before the groups
 joined : (count : ℕ) (Is : List Term)
-    → sequence (opening ++ sequence (map sequence (groups (suc count) Is)) ∷ [])
-    ≡ sequence (opening ++ map sequence (groups (suc count) Is))
+    → sequence (opening_steps ++ sequence (map sequence (groups_of_twenty (suc count) Is)) ∷ [])
+    ≡ sequence (opening_steps ++ map sequence (groups_of_twenty (suc count) Is))
 joined zero Is = refl
 joined (suc count) Is = refl
 
 pub text_joined : (seed size : ℕ) (all : List Kind) → 1 ≤ size → all ≡ kinds size seed
-    → sequence (opening ++ sequence (map sequence (groups ((length all + 19) / 20)
+    → sequence (opening_steps ++ sequence (map sequence (groups_of_twenty ((length all + 19) / 20)
     (blocks all 0 0))) ∷ []) ≡ text seed size
 text_joined seed size all some are =
     let count : (size + 19) / 20 ≡ suc ((size - 1) / 20) = omega arith in

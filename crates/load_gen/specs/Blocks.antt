@@ -6,28 +6,28 @@ use Rattle.dioc_terms.specs.Expressions.{Var, Bin}
 use Rattle.dioc_terms.specs.Terms.{Term, Seq, If, While, Scope, index_at}
 use Rattle.load_gen.specs.declared.draws.Kind.{Kind}
 use Rattle.load_gen.specs.declared.draws.Kind.TheVariants as kind
-use Rattle.load_gen.specs.Pieces.{numbered, role, next, number, token, token_plus, is_even_token, sending, setting}
+use Rattle.load_gen.specs.Pieces.{numbered_name, role_numbered, next, number_literal, token, token_plus, is_even_token, sending, setting_variable}
 
 -- the message of block b, and the counter of its loop
 abbrev pub message_name : ℕ → List ℕ
-message_name b = numbered (codes "m") b
+message_name b = numbered_name (codes "m") b
 
 abbrev pub counter : ℕ → List ℕ
-counter b = numbered (codes "c") b
+counter b = numbered_name (codes "c") b
 
 -- block b, where role number c has the token
 abbrev pub block : Kind → ℕ → ℕ → Term
 block kind.Message b c = sending (message_name b) c (token_plus 1)
 block kind.Choice b c =
-    If (index_at 0) (role c) is_even_token (sending (message_name b) c (token_plus 1))
+    If (index_at 0) (role_numbered c) is_even_token (sending (message_name b) c (token_plus 1))
     (sending (message_name b) c (token_plus 2))
 block kind.Loop b c =
-    Seq (setting (counter b) c (number 0))
-    (While (index_at 0) (role c) (Bin Lt (Var (counter b)) (number 2))
+    Seq (setting_variable (counter b) c (number_literal 0))
+    (While (index_at 0) (role_numbered c) (Bin Lt (Var (counter b)) (number_literal 2))
     (Seq (sending (message_name b) c (Var token))
-    (setting (counter b) c (Bin Add (Var (counter b)) (number 1)))))
+    (setting_variable (counter b) c (Bin Add (Var (counter b)) (number_literal 1)))))
 block kind.Scope b c =
-    Scope (index_at 0) (role c) (sending (message_name b) c (Var token)) []
+    Scope (index_at 0) (role_numbered c) (sending (message_name b) c (Var token)) []
     ((codes "k", Int (pos c)) ∷ []) 0
 
 -- who has the token after it: after a loop the same role, else the next one

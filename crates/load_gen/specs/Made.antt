@@ -11,7 +11,7 @@ use Rattle.dioc_terms.specs.Plain.{PlainRule, PlainBundle}
 use Rattle.dioc_terms.specs.Terms.{Term, Skip, Seq, indexed}
 use Rattle.load_gen.specs.Blocks.{blocks}
 use Rattle.load_gen.specs.Draws.{kinds}
-use Rattle.load_gen.specs.Pieces.{role, number, token, sending, setting, with_digit}
+use Rattle.load_gen.specs.Pieces.{role_numbered, number_literal, token, sending, setting_variable, with_digit}
 
 -- one after another, nested to the right
 abbrev pub sequence : List Term → Term
@@ -27,18 +27,19 @@ eight = numbers_from 0 8
 abbrev pub pass : ℕ → Term
 pass j = sending (with_digit (codes "pass") j) j (Var token)
 
-abbrev pub opening : List Term
-opening = setting token 0 (number 1) ∷ map pass eight
+abbrev pub opening_steps : List Term
+opening_steps = setting_variable token 0 (number_literal 1) ∷ map pass eight
 
 -- so many groups of 20, the last one possibly shorter
-abbrev pub groups : {A : Type 0} → ℕ → List A → List (List A)
-groups zero xs = []
-groups (suc count) xs = take 20 xs ∷ groups count (drop 20 xs)
+abbrev pub groups_of_twenty : {A : Type 0} → ℕ → List A → List (List A)
+groups_of_twenty zero xs = []
+groups_of_twenty (suc count) xs = take 20 xs ∷ groups_of_twenty count (drop 20 xs)
 
 -- the parts of the choreography: the opening, then groups of blocks
 abbrev pub parts : ℕ → ℕ → List Term
 parts seed size =
-    opening ++ map sequence (groups ((size + 19) / 20) (blocks (kinds size seed) 0 0))
+    opening_steps
+    ++ map sequence (groups_of_twenty ((size + 19) / 20) (blocks (kinds size seed) 0 0))
 
 -- the choreography before it has its indices, and with them
 abbrev pub text : ℕ → ℕ → Term
@@ -53,11 +54,12 @@ rule_name j = with_digit (codes "u") j
 
 abbrev pub condition : ℕ → Expression
 condition j =
-    Bin And (Bin Eq (Prop (codes "k")) (number j)) (Bin Ne (Env (codes "calm")) (number 1))
+    Bin And (Bin Eq (Prop (codes "k")) (number_literal j))
+    (Bin Ne (Env (codes "calm")) (number_literal 1))
 
 abbrev pub body : ℕ → Term
 body j =
-    indexed (Seq (setting (codes "w") j (Bin Mul (Var token) (number 2)))
+    indexed (Seq (setting_variable (codes "w") j (Bin Mul (Var token) (number_literal 2)))
     (sending (codes "w") j (Var (codes "w"))))
 
 abbrev pub rule : ℕ → PlainRule
@@ -82,7 +84,7 @@ script =
 abbrev pub made : ℕ → ℕ → PlainBundle
 made seed size = record {
   version = 1;
-  cast = map role eight;
+  cast = map role_numbered eight;
   choreo = choreography seed size;
   rules = map rule eight;
   opening = 0;

@@ -7,7 +7,7 @@ ghost use Rattle.dioc_terms.specs.Expressions.{expression, Var, Bin};
 ghost use Rattle.dioc_terms.specs.Terms.{term, Seq, While, index_at};
 ghost use Rattle.load_gen.specs.Blocks.{block, counter, message_name, role_after};
 ghost use Rattle.load_gen.specs.declared.draws.Kind.TheVariants as kinds;
-ghost use Rattle.load_gen.specs.Pieces.{is_even_token, number, role, sending, setting, token, token_plus};
+ghost use Rattle.load_gen.specs.Pieces.{is_even_token, number_literal, role_numbered, sending, setting_variable, token, token_plus};
 
 use crate::draws::Kind;
 use crate::pieces::{
@@ -96,7 +96,7 @@ fn branches(alloc: Global, b: u32, c: u32) -> Result<(Box<Choreo>, Box<Choreo>),
 /// The leader of a choice, and its guard.
 fn picking(alloc: Global, c: u32) -> Result<(Role, Expr), Memory>
     requires is_role { c < 8 }
-    ensures leader { IfOk result (λ made. made.0 ≡ role c) }
+    ensures leader { IfOk result (λ made. made.0 ≡ role_numbered c) }
     ensures guard { IfOk result (λ made. expression made.1 ≡ is_even_token) }
 {
     let leader = role(alloc, c)?;
@@ -133,7 +133,8 @@ fn counter(alloc: Global, b: u32) -> Result<Name, Memory>
 /// The operator between the counter and the number.
 fn of_counter(alloc: Global, b: u32, oper: Oper, right: u32) -> Result<Expr, Memory>
     requires few { b < 400 }
-    ensures { IfOk result (λ made. expression made ≡ Bin oper (Var (counter b)) (number right)) }
+    ensures { IfOk result (λ made. expression made
+        ≡ Bin oper (Var (counter b)) (number_literal right)) }
 {
     let counter = Expr::Var(counter(alloc, b)?);
     binary(alloc, oper, counter, number(right))
@@ -143,7 +144,7 @@ fn of_counter(alloc: Global, b: u32, oper: Oper, right: u32) -> Result<Expr, Mem
 fn beginning(alloc: Global, b: u32, c: u32) -> Result<Choreo, Memory>
     requires few { b < 400 }
     requires is_role { c < 8 }
-    ensures { IfOk result (λ made. term made ≡ setting (counter b) c (number 0)) }
+    ensures { IfOk result (λ made. term made ≡ setting_variable (counter b) c (number_literal 0)) }
 {
     let counter = counter(alloc, b)?;
     setting(alloc, counter, c, number(0))
@@ -153,8 +154,8 @@ fn beginning(alloc: Global, b: u32, c: u32) -> Result<Choreo, Memory>
 fn counting(alloc: Global, b: u32, c: u32) -> Result<Choreo, Memory>
     requires few { b < 400 }
     requires is_role { c < 8 }
-    ensures { IfOk result (λ made. term made ≡ setting (counter b) c
-        (Bin operators.Add (Var (counter b)) (number 1))) }
+    ensures { IfOk result (λ made. term made ≡ setting_variable (counter b) c
+        (Bin operators.Add (Var (counter b)) (number_literal 1))) }
 {
     let counter = counter(alloc, b)?;
     let sum = of_counter(alloc, b, Oper::Add, 1)?;
@@ -166,7 +167,7 @@ fn turn(alloc: Global, b: u32, c: u32) -> Result<Choreo, Memory>
     requires few { b < 400 }
     requires is_role { c < 8 }
     ensures { IfOk result (λ made. term made ≡ Seq (sending (message_name b) c (Var token))
-        (setting (counter b) c (Bin operators.Add (Var (counter b)) (number 1)))) }
+        (setting_variable (counter b) c (Bin operators.Add (Var (counter b)) (number_literal 1)))) }
 {
     let first = passing(alloc, b, c)?;
     match counting(alloc, b, c) {
@@ -179,10 +180,11 @@ fn turn(alloc: Global, b: u32, c: u32) -> Result<Choreo, Memory>
 fn turns(alloc: Global, b: u32, c: u32) -> Result<Choreo, Memory>
     requires few { b < 400 }
     requires is_role { c < 8 }
-    ensures { IfOk result (λ made. term made ≡ While (index_at 0) (role c)
-        (Bin operators.Lt (Var (counter b)) (number 2))
+    ensures { IfOk result (λ made. term made ≡ While (index_at 0) (role_numbered c)
+        (Bin operators.Lt (Var (counter b)) (number_literal 2))
         (Seq (sending (message_name b) c (Var token))
-        (setting (counter b) c (Bin operators.Add (Var (counter b)) (number 1))))) }
+        (setting_variable (counter b) c
+        (Bin operators.Add (Var (counter b)) (number_literal 1))))) }
 {
     let leader = role(alloc, c)?;
     let body = turn(alloc, b, c)?;

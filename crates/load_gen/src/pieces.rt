@@ -4,7 +4,7 @@ ghost use Rattle.std.specs.Prelude.{◌≡◌, ◌<◌, ◌≤◌, length, true,
 ghost use Rattle.dioc_terms.specs.Expressions.{expression, Var, Bin};
 ghost use Rattle.dioc_terms.specs.Names.{is_name};
 ghost use Rattle.dioc_terms.specs.Terms.{term, Seq};
-ghost use Rattle.load_gen.specs.Pieces.{is_even_token, next, number, numbered, role, sending, setting, token, token_plus, with_digit};
+ghost use Rattle.load_gen.specs.Pieces.{is_even_token, next, number_literal, numbered_name, role_numbered, sending, setting_variable, token, token_plus, with_digit};
 
 use dioc_terms::{
     Choreo, Expr, Index, Memory, Name, NameFault, Oper, Role, Value, give_up, new_box,
@@ -32,7 +32,7 @@ pub(crate) fn name(alloc: Global, bytes: &[u8]) -> Result<Name, Memory>
 pub(crate) fn numbered(alloc: Global, letters: &[u8], number: u32) -> Result<Name, Memory>
     requires is_name { is_name letters.now ≡ true }
     requires short { length letters.now ≤ 10 }
-    ensures { IfOk result (λ name. name ≡ numbered letters.now number) }
+    ensures { IfOk result (λ name. name ≡ numbered_name letters.now number) }
 {
     let mut digits = Buffer::new();
     let mut bytes = letters.to_vec(alloc)?;
@@ -56,7 +56,7 @@ pub(crate) fn with_digit(alloc: Global, letters: &[u8], digit: u32) -> Result<Na
 /// Role number j.
 pub(crate) fn role(alloc: Global, j: u32) -> Result<Role, Memory>
     requires { j < 8 }
-    ensures { IfOk result (λ made. made ≡ role j) }
+    ensures { IfOk result (λ made. made ≡ role_numbered j) }
 {
     Ok(Role(with_digit(alloc, b"r", j)?))
 }
@@ -94,7 +94,7 @@ pub(crate) fn sequence(alloc: Global, first: Choreo, second: Choreo) -> Result<C
 
 /// The constant.
 pub(crate) fn number(value: u32) -> Expr
-    ensures { expression result ≡ number value }
+    ensures { expression result ≡ number_literal value }
 {
     Expr::Const(Value::Int(i64::from(value)))
 }
@@ -135,7 +135,7 @@ pub(crate) fn is_even_token(alloc: Global) -> Result<Expr, Memory>
 /// The role of that number, the next role, and the token's name.
 fn ends(alloc: Global, j: u32) -> Result<(Role, Role, Name), Memory>
     requires { j < 8 }
-    ensures { IfOk result (λ ends. ends ≡ (role j, role (next j), token)) }
+    ensures { IfOk result (λ ends. ends ≡ (role_numbered j, role_numbered (next j), token)) }
 {
     let from = role(alloc, j)?;
     let to = role(alloc, next(j))?;
@@ -163,7 +163,7 @@ pub(crate) fn sending(alloc: Global, op: Name, j: u32, expr: Expr) -> Result<Cho
 /// Role number j sets the variable.
 pub(crate) fn setting(alloc: Global, var: Name, j: u32, expr: Expr) -> Result<Choreo, Memory>
     requires { j < 8 }
-    ensures { IfOk result (λ made. term made ≡ setting var j (expression expr)) }
+    ensures { IfOk result (λ made. term made ≡ setting_variable var j (expression expr)) }
 {
     match role(alloc, j) {
         Ok(role) => Ok(Choreo::Set {

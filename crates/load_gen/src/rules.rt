@@ -8,7 +8,7 @@ ghost use Rattle.dioc_terms.specs.Expressions.{expression, Bin, Env, Prop, Var};
 ghost use Rattle.dioc_terms.specs.Plain.{plain_rule};
 ghost use Rattle.dioc_terms.specs.Terms.{term, Seq};
 ghost use Rattle.load_gen.specs.Made.{body, condition, eight, rule, rule_name, script};
-ghost use Rattle.load_gen.specs.Pieces.{number, role, sending, setting, token};
+ghost use Rattle.load_gen.specs.Pieces.{number_literal, role_numbered, sending, setting_variable, token};
 
 use crate::pieces::{binary, name, number, role, sending, sequence, setting, token, with_digit};
 use dioc_terms::{
@@ -20,7 +20,7 @@ use std::alloc::Global;
 /// The eight roles.
 #[tactic(auto, using(crate::proofs::Rows::made_last))]
 pub(crate) fn roles(alloc: Global) -> Result<Roles, Memory>
-    ensures { IfOk result (λ roles. roles ≡ map role eight) }
+    ensures { IfOk result (λ roles. roles ≡ map role_numbered eight) }
 {
     let mut roles = Vec::new(alloc);
     for j in 0..8 {
@@ -40,7 +40,7 @@ fn rule_name(alloc: Global, j: u32) -> Result<Name, Memory>
 /// Whether the scope's property is the number.
 fn is_leader(alloc: Global, j: u32) -> Result<Expr, Memory>
     ensures { IfOk result (λ made. expression made
-        ≡ Bin operators.Eq (Prop (codes "k")) (number j)) }
+        ≡ Bin operators.Eq (Prop (codes "k")) (number_literal j)) }
 {
     let property = Expr::Prop(name(alloc, b"k")?);
     binary(alloc, Oper::Eq, property, number(j))
@@ -48,7 +48,7 @@ fn is_leader(alloc: Global, j: u32) -> Result<Expr, Memory>
 
 fn is_not_calm(alloc: Global) -> Result<Expr, Memory>
     ensures { IfOk result (λ made. expression made
-        ≡ Bin operators.Ne (Env (codes "calm")) (number 1)) }
+        ≡ Bin operators.Ne (Env (codes "calm")) (number_literal 1)) }
 {
     let calm = Expr::Env(name(alloc, b"calm")?);
     binary(alloc, Oper::Ne, calm, number(1))
@@ -67,7 +67,7 @@ fn condition(alloc: Global, j: u32) -> Result<Expr, Memory>
 /// Twice the token.
 fn twice(alloc: Global) -> Result<Expr, Memory>
     ensures { IfOk result (λ made. expression made
-        ≡ Bin operators.Mul (Var token) (number 2)) }
+        ≡ Bin operators.Mul (Var token) (number_literal 2)) }
 {
     let token = token(alloc)?;
     binary(alloc, Oper::Mul, token, number(2))
@@ -76,7 +76,7 @@ fn twice(alloc: Global) -> Result<Expr, Memory>
 fn doubling(alloc: Global, j: u32) -> Result<Choreo, Memory>
     requires { j < 8 }
     ensures { IfOk result (λ made. term made
-        ≡ setting (codes "w") j (Bin operators.Mul (Var token) (number 2))) }
+        ≡ setting_variable (codes "w") j (Bin operators.Mul (Var token) (number_literal 2))) }
 {
     let var = name(alloc, b"w")?;
     let value = twice(alloc)?;
@@ -96,7 +96,7 @@ fn passing(alloc: Global, j: u32) -> Result<Choreo, Memory>
 fn body_text(alloc: Global, j: u32) -> Result<Choreo, Memory>
     requires { j < 8 }
     ensures { IfOk result (λ made. term made
-        ≡ Seq (setting (codes "w") j (Bin operators.Mul (Var token) (number 2)))
+        ≡ Seq (setting_variable (codes "w") j (Bin operators.Mul (Var token) (number_literal 2)))
         (sending (codes "w") j (Var (codes "w")))) }
 {
     let first = doubling(alloc, j)?;

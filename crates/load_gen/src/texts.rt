@@ -4,8 +4,8 @@ ghost use Rattle.std.specs.Prelude.{◌≡◌, ◌+◌, ◌-◌, ◌/◌, ◌<�
 ghost use Rattle.dioc_terms.specs.Bundles.{numbers_from};
 ghost use Rattle.dioc_terms.specs.Terms.{term};
 ghost use Rattle.load_gen.specs.Blocks.{blocks, roles_after};
-ghost use Rattle.load_gen.specs.Made.{choreography, groups, opening, pass, sequence, text};
-ghost use Rattle.load_gen.specs.Pieces.{number, setting, token};
+ghost use Rattle.load_gen.specs.Made.{choreography, groups_of_twenty, opening_steps, pass, sequence, text};
+ghost use Rattle.load_gen.specs.Pieces.{number_literal, setting_variable, token};
 
 use crate::blocks::{block, role_after};
 use crate::draws::{Kind, draw_kinds};
@@ -56,7 +56,7 @@ fn groups(alloc: Global, kinds: &[Kind], b: u32, c: u32) -> Result<Choreo, Memor
     requires few { b + length kinds.now ≤ 400 }
     requires is_role { c < 8 }
     ensures { IfOk result (λ made. term made ≡ sequence
-        (map sequence (groups ((length kinds.now + 19) / 20) (blocks kinds.now b c)))) }
+        (map sequence (groups_of_twenty ((length kinds.now + 19) / 20) (blocks kinds.now b c)))) }
 {
     if kinds.len() <= GROUP {
         return group(alloc, kinds, b, c);
@@ -98,7 +98,7 @@ fn passed(alloc: Global, j: u32, rest: Choreo) -> Result<Choreo, Memory>
 
 /// The first role sets the token.
 fn first(alloc: Global) -> Result<Choreo, Memory>
-    ensures { IfOk result (λ made. term made ≡ setting token 0 (number 1)) }
+    ensures { IfOk result (λ made. term made ≡ setting_variable token 0 (number_literal 1)) }
 {
     let var = name(alloc, b"t")?;
     setting(alloc, var, 0, number(1))
@@ -106,7 +106,7 @@ fn first(alloc: Global) -> Result<Choreo, Memory>
 
 /// The opening, and then the rest.
 fn opened(alloc: Global, rest: Choreo) -> Result<Choreo, Memory>
-    ensures { IfOk result (λ made. term made ≡ sequence (opening ++ term rest ∷ [])) }
+    ensures { IfOk result (λ made. term made ≡ sequence (opening_steps ++ term rest ∷ [])) }
 {
     let later = passed(alloc, 0, rest)?;
     match first(alloc) {

@@ -16,10 +16,10 @@ use Rattle.role_network.proofs.TellLemmas.{tells_run}
 use Rattle.role_network.specs.Deeds.{DoneAt, IsAt, RoleDid, given_to}
 use Rattle.role_network.specs.Nets.{network_at}
 use Rattle.role_network.specs.Scopes.{KnownRules, Tells}
-use Rattle.role_network.specs.Standing.{Parts, Stands, local_in}
+use Rattle.role_network.specs.Standing.{Parts, HoldsRun, local_in}
 use Rattle.scope_leader.specs.Leaders.{LeadersTell, TellsOthers}
 
-module _ (b : PlainBundle) (limit : ℕ) (parts : Parts) (is : Stands b limit parts) where
+module _ (b : PlainBundle) (limit : ℕ) (parts : Parts) (is : HoldsRun b limit parts) where
   -- there is one local for each role of the cast
   pub locals_long : length parts.locals ≡ length parts.cast
   locals_long = ap length is.locals ∙ length-map b.cast (local_in is.network) ∙ ap length (sym is.cast)

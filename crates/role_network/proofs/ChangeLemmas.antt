@@ -28,7 +28,7 @@ use Rattle.role_network.specs.declared.faults.ChangeFault.{ChangeFault}
 use Rattle.role_network.specs.declared.faults.ChangeFault.TheVariants as fault
 use Rattle.role_network.specs.Nets.{NetState, network_at}
 use Rattle.role_network.specs.Scripts.{ChangeMade, ChangeRefused, change_in}
-use Rattle.role_network.specs.Standing.{Body, Due, Parts, Stands, due_of}
+use Rattle.role_network.specs.Standing.{Body, ScriptedChange, Parts, HoldsRun, due_of}
 use Rattle.role_network.specs.StepLaws.{StepsRun}
 
 drop_first : {A : Type 0} (xs : List A) (n : ℕ) → slice_get (drop n xs) 0 ≡ slice_get xs n
@@ -53,31 +53,31 @@ change_visible rules (change.Drop name) e h = ap is_aux (sym (some_same h))
 change_visible rules (change.Env key v) e h = ap is_aux (sym (some_same h))
 
 -- the change of the script that is to come next
-pub record IsNext (b : PlainBundle) (N : Network) (due : Due) : Type 0 where
+pub record IsNext (b : PlainBundle) (N : Network) (due : ScriptedChange) : Type 0 where
   pub timed : Timed
   pub stands : slice_get b.script N.changes ≡ Some timed
   pub same : due ≡ due_of b.rules timed
 
-module _ (b : PlainBundle) (limit : ℕ) (parts : Parts) (is : Stands b limit parts) where
+module _ (b : PlainBundle) (limit : ℕ) (parts : Parts) (is : HoldsRun b limit parts) where
   pub next_due : slice_get parts.coming 0 ≡ option_map (due_of b.rules) (slice_get b.script is.network.changes)
   next_due = ap (λ l. slice_get l 0) is.coming ∙ drop_first (map (due_of b.rules) b.script) is.network.changes ∙ slice_get-map (due_of b.rules) b.script is.network.changes
 
   none_next : parts.coming ≡ [] → slice_get b.script is.network.changes ≡ None
-  none_next empty = by_case (slice_get b.script is.network.changes) (ap (λ (l : List Due). slice_get l 0) (sym empty) ∙ next_due)
+  none_next empty = by_case (slice_get b.script is.network.changes) (ap (λ (l : List ScriptedChange). slice_get l 0) (sym empty) ∙ next_due)
     where
       by_case : (o : Option Timed) → None ≡ option_map (due_of b.rules) o → o ≡ None
       by_case None h = refl
       by_case (Some timed) h = absurd (none_some h)
 
-  is_next : (due : Due) (rest : List Due) → parts.coming ≡ due ∷ rest → IsNext b is.network due
-  is_next due rest e = by_case (slice_get b.script is.network.changes) refl (ap (λ (l : List Due). slice_get l 0) (sym e) ∙ next_due)
+  is_next : (due : ScriptedChange) (rest : List ScriptedChange) → parts.coming ≡ due ∷ rest → IsNext b is.network due
+  is_next due rest e = by_case (slice_get b.script is.network.changes) refl (ap (λ (l : List ScriptedChange). slice_get l 0) (sym e) ∙ next_due)
     where
       by_case : (o : Option Timed) → slice_get b.script is.network.changes ≡ o → Some due ≡ option_map (due_of b.rules) o → IsNext b is.network due
       by_case None at h = absurd (none_some (sym h))
       by_case (Some timed) at h = record { timed = timed; stands = at; same = some_same h }
 
-module _ (b : PlainBundle) (limit : ℕ) (cast : List Role) (locals : List LocalState) (mail : Mail) (book : KeptBook) (bodies : List Body) (script : List Due) (count : ℕ) (H : List Entry) where
-  abbrev pub with_change : KeptBook → List Due → List Entry → Parts
+module _ (b : PlainBundle) (limit : ℕ) (cast : List Role) (locals : List LocalState) (mail : Mail) (book : KeptBook) (bodies : List Body) (script : List ScriptedChange) (count : ℕ) (H : List Entry) where
+  abbrev pub with_change : KeptBook → List ScriptedChange → List Entry → Parts
   with_change book script H = record {
     cast = cast;
     locals = locals;
@@ -90,23 +90,23 @@ module _ (b : PlainBundle) (limit : ℕ) (cast : List Role) (locals : List Local
   }
 
   -- where nothing was changed, what a net keeps stands as before
-  pub changed_same : Stands b limit (with_change book script H) → (script' : List Due) (book' : KeptBook) (H' : List Entry) → script' ≡ script → book' ≡ book → H' ≡ H
-      → Stands b limit (with_change book' script' H')
+  pub changed_same : HoldsRun b limit (with_change book script H) → (script' : List ScriptedChange) (book' : KeptBook) (H' : List Entry) → script' ≡ script → book' ≡ book → H' ≡ H
+      → HoldsRun b limit (with_change book' script' H')
   changed_same is script' book' H' same_script same_book same_history =
-      subst (λ h. Stands b limit (with_change book' script' h)) (sym same_history)
-      (subst (λ l. Stands b limit (with_change book' l H)) (sym same_script)
-      (subst (λ k. Stands b limit (with_change k script H)) (sym same_book) is))
+      subst (λ h. HoldsRun b limit (with_change book' script' h)) (sym same_history)
+      (subst (λ l. HoldsRun b limit (with_change book' l H)) (sym same_script)
+      (subst (λ k. HoldsRun b limit (with_change k script H)) (sym same_book) is))
 
-  module _ (is : Stands b limit (with_change book script H)) (laws : StepsRun) (script' : List Due) (book' : KeptBook) (H' : List Entry)
+  module _ (is : HoldsRun b limit (with_change book script H)) (laws : StepsRun) (script' : List ScriptedChange) (book' : KeptBook) (H' : List Entry)
       (made : ChangeMade b.rules script (length (visible H)) book H script' book' H') where
     pub next : IsNext b is.network made.due
     next = is_next b limit (with_change book script H) is made.due script' made.script
 
     shown : change_entry b.rules next.timed.change ≡ Some made.entry
-    shown = ap (λ (due : Due). due.entry) (sym next.same) ∙ made.shows
+    shown = ap (λ (due : ScriptedChange). due.entry) (sym next.same) ∙ made.shows
 
     due_now : nat_le next.timed.after is.network.visible ≡ true
-    due_now = le-leb next.timed.after is.network.visible (omega (arith, ap (λ (due : Due). due.after) next.same, made.stands, is.visible))
+    due_now = le-leb next.timed.after is.network.visible (omega (arith, ap (λ (due : ScriptedChange). due.after) next.same, made.stands, is.visible))
 
     pub changes : change_step (setting b) is.network ≡ Some (record { entry = made.entry; network = after_change (setting b) is.network next.timed })
     changes = ap (script_outcome (setting b) is.network) next.stands ∙ ap (entry_outcome (setting b) is.network next.timed) shown
@@ -120,7 +120,7 @@ module _ (b : PlainBundle) (limit : ℕ) (cast : List Role) (locals : List Local
         ∙ visible_now H made.entry is.network.visible is.visible
 
     -- what a net keeps after a change
-    pub stands_changed : length H < limit → Stands b limit (with_change book' script' H')
+    pub stands_changed : length H < limit → HoldsRun b limit (with_change book' script' H')
     stands_changed room = record {
       sound = is.sound;
       network = after_change (setting b) is.network next.timed;
@@ -141,8 +141,8 @@ module _ (b : PlainBundle) (limit : ℕ) (cast : List Role) (locals : List Local
         one_longer : (H : List Entry) (e : Entry) → length H < limit → length (H ++ e ∷ []) ≤ limit
         one_longer H e room = omega (arith, length-append H (e ∷ []))
 
-module _ (of : Bundle) (limit : ℕ) (cast : List Role) (locals : List LocalState) (mail : Mail) (book : KeptBook) (bodies : List Body) (script : List Due) (count : ℕ) (H : List Entry)
-    (is : Stands (plain of) limit (with_change (plain of) limit cast locals mail book bodies script count H book script H)) (room : length H < limit) where
+module _ (of : Bundle) (limit : ℕ) (cast : List Role) (locals : List LocalState) (mail : Mail) (book : KeptBook) (bodies : List Body) (script : List ScriptedChange) (count : ℕ) (H : List Entry)
+    (is : HoldsRun (plain of) limit (with_change (plain of) limit cast locals mail book bodies script count H book script H)) (room : length H < limit) where
   abbrev state : List Entry → NetState
   state history = record { bundle = of; history = history; limit = limit }
 
@@ -154,7 +154,7 @@ module _ (of : Bundle) (limit : ℕ) (cast : List Role) (locals : List LocalStat
       cond-false (nat_le limit (length H)) (Some fault.Full) (script_fault (slice_get (plain of).script (network_at (plain of) H).changes) (network_at (plain of) H).visible) (lt-leb limit (length H) room)
       ∙ ap (λ (N : Network). script_fault (slice_get (plain of).script N.changes) N.visible) at ∙ same
 
-  pub change_made : StepsRun → (script' : List Due) (book' : KeptBook) (H' : List Entry)
+  pub change_made : StepsRun → (script' : List ScriptedChange) (book' : KeptBook) (H' : List Entry)
       → ChangeMade (plain of).rules script (length (visible H)) book H script' book' H' → IsChangeOf (state H) (state H')
   change_made laws script' book' H' made =
       let due = next (plain of) limit cast locals mail book bodies script count H is laws script' book' H' made in
@@ -163,7 +163,7 @@ module _ (of : Bundle) (limit : ℕ) (cast : List Role) (locals : List LocalStat
         outcome = out;
         no_fault = fault_is (ap (λ o. script_fault o is.network.visible) due.stands
             ∙ cond-false (nat_lt is.network.visible due.timed.after) (Some fault.NotYet) None
-            (lt_false is.network.visible due.timed.after (omega (arith, ap (λ (d : Due). d.after) due.same, made.stands, is.visible))));
+            (lt_false is.network.visible due.timed.after (omega (arith, ap (λ (d : ScriptedChange). d.after) due.same, made.stands, is.visible))));
         steps = subst (λ N. change_step (setting (plain of)) N ≡ Some out) (sym at)
             (changes (plain of) limit cast locals mail book bodies script count H is laws script' book' H' made);
         goes = record {
@@ -185,7 +185,7 @@ module _ (of : Bundle) (limit : ℕ) (cast : List Role) (locals : List LocalStat
       let next = is_next (plain of) limit (with_change (plain of) limit cast locals mail book bodies script count H book script H) is refused.due refused.rest refused.script in
       fault_is (ap (λ o. script_fault o is.network.visible) next.stands
       ∙ cond-true (nat_lt is.network.visible next.timed.after) (Some fault.NotYet) None
-      ((Decides-ltb is.network.visible next.timed.after).1 (omega (arith, ap (λ (due : Due). due.after) next.same, refused.later, is.visible))))
+      ((Decides-ltb is.network.visible next.timed.after).1 (omega (arith, ap (λ (due : ScriptedChange). due.after) next.same, refused.later, is.visible))))
   change_refused fault.Memory refused h = absurd (h refl)
   change_refused fault.Full refused h = absurd refused
 

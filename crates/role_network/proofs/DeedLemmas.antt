@@ -22,19 +22,19 @@ use Rattle.process_steps.specs.Steps.{Deed, Puts, Takes, Sets, Inputs, Picks, Ch
 use Rattle.role_mailbox.specs.declared.mail.Mail.{Mail}
 use Rattle.role_mailbox.specs.Pending.{payload_at}
 use Rattle.marked_laws.proofs.Shapes.{none_some, some_same}
-use Rattle.role_network.specs.Acts.{given_in, put_with, taken_with, TakenBy, PutBy}
-use Rattle.role_network.specs.Deeds.{given_to, is_scope, pending_with, MailAfter, IsDone}
+use Rattle.role_network.specs.Acts.{given_from_mail, put_with, taken_with, TakenBy, PutBy}
+use Rattle.role_network.specs.Deeds.{given_to, asks_scope, pending_with, MailAfter, IsDone}
 
 -- what is done where something is done
 pub deed_there : (m : Attempt Deed Process) → is_done m ≡ true → (d : Deed) × (P : Process) × (m ≡ Does d P)
 deed_there Stuck h = cc
 deed_there (Does d P) h = (d, P, refl)
 
-not_scope : (a c : Act) → Some a ≡ Some c → is_scope a ≡ true → is_scope c ≡ false → ⊥
-not_scope a c same is isnt = cc (ap is_scope (some_same same))
+not_scope : (a c : Act) → Some a ≡ Some c → asks_scope a ≡ true → asks_scope c ≡ false → ⊥
+not_scope a c same is isnt = cc (ap asks_scope (some_same same))
 
 -- a deed that isn't a choice for a scope has its entry before it is done
-pub entry_known : (d : Deed) (a : Act) → act_of (entry_of d) ≡ Some a → is_scope a ≡ false → entry_before d ≡ Some (entry_of d)
+pub entry_known : (d : Deed) (a : Act) → act_of (entry_of d) ≡ Some a → asks_scope a ≡ false → entry_before d ≡ Some (entry_of d)
 entry_known (Chooses i r c) a is other = absurd (not_scope (act.Scope i) a is refl other)
 entry_known (Puts k l) a is other = refl
 entry_known (Takes k x l) a is other = refl
@@ -43,7 +43,7 @@ entry_known (Inputs i r x v) a is other = refl
 entry_known (Picks i r b) a is other = refl
 
 -- and it is no update
-pub no_update : (d : Deed) (a : Act) (n : ℕ) → act_of (entry_of d) ≡ Some a → is_scope a ≡ false → n ≡ updates_after (entry_of d) n
+pub no_update : (d : Deed) (a : Act) (n : ℕ) → act_of (entry_of d) ≡ Some a → asks_scope a ≡ false → n ≡ updates_after (entry_of d) n
 no_update (Chooses i r c) a n is other = absurd (not_scope (act.Scope i) a is refl other)
 no_update (Puts k l) a n is other = refl
 no_update (Takes k x l) a n is other = refl
@@ -68,8 +68,8 @@ mail_changed d a sends old mid new is same taken put = record {
 }
 
 -- what comes to an act that isn't a scope's, by the mail alone
-pub given_plain : (cast : List Role) (rules : List PlainRule) (mail : Mail) (book : Book) (count : ℕ) (s : Store) (a : Act) → is_scope a ≡ false
-    → given_in a mail ≡ given_to cast rules mail book count s a
+pub given_plain : (cast : List Role) (rules : List PlainRule) (mail : Mail) (book : Book) (count : ℕ) (s : Store) (a : Act) → asks_scope a ≡ false
+    → given_from_mail a mail ≡ given_to cast rules mail book count s a
 given_plain cast rules mail book count s (act.Scope i) h = cc
 given_plain cast rules mail book count s (act.Take k) h = refl
 given_plain cast rules mail book count s _ h = refl
@@ -94,7 +94,7 @@ module _ (shows : StepsShowTheirActs) (s : LocalState) (a : Act) (p : Prepared) 
       sends_of_put p.payload did.0 k (prepared.payload given did.0 did.1 did.2) (act_shown given did.0 did.1 did.2 ∙ ap Some (sym prepared.act ∙ same))
 
   -- a role that made its step, with what was shown of it before, did the act
-  pub committed : (given : Given) → is_scope a ≡ false → (s' : LocalState) → IsStep s a given s' → (e : Entry) → p.entry ≡ Some e
+  pub committed : (given : Given) → asks_scope a ≡ false → (s' : LocalState) → IsStep s a given s' → (e : Entry) → p.entry ≡ Some e
       → (old mid new : Mail) → TakenBy a old mid → PutBy p.act (option_map load p.payload) mid new
       → (H H' : List Entry) → H' ≡ H ++ e ∷ [] → (count : ℕ) → IsDone a given s old count H s' new count H'
   committed given plain s' stepped e entry old mid new taken put H H' pushed count =

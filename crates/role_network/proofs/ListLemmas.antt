@@ -16,9 +16,9 @@ use Rattle.role_network.proofs.NetLemmas.{network_is, ready_is}
 use Rattle.role_network.specs.Deeds.{is_there}
 use Rattle.role_network.specs.MovesIn.{local_moves, moves_in, is_first_due}
 use Rattle.role_network.specs.Nets.{network_at}
-use Rattle.role_network.specs.Standing.{Due, Parts, Stands, due_of, local_in}
+use Rattle.role_network.specs.Standing.{ScriptedChange, Parts, HoldsRun, due_of, local_in}
 
-module _ (b : PlainBundle) (limit : ℕ) (parts : Parts) (is : Stands b limit parts) where
+module _ (b : PlainBundle) (limit : ℕ) (parts : Parts) (is : HoldsRun b limit parts) where
   ready_alike : (a : Act) → is_there a parts.mail ≡ is_ready is.network a
   ready_alike a = ready_is b limit parts is a
 
@@ -32,7 +32,7 @@ module _ (b : PlainBundle) (limit : ℕ) (parts : Parts) (is : Stands b limit pa
   due_alike : is_first_due parts.coming is.network.visible ≡ change_due b.script is.network.changes is.network.visible
   due_alike = first_is parts.coming (slice_get b.script is.network.changes) (next_due b limit parts is)
     where
-      first_is : (script : List Due) (o : Option Timed) → slice_get script 0 ≡ option_map (due_of b.rules) o
+      first_is : (script : List ScriptedChange) (o : Option Timed) → slice_get script 0 ≡ option_map (due_of b.rules) o
           → is_first_due script is.network.visible ≡ option_map_or (λ (timed : Timed). nat_le timed.after is.network.visible) o false
       first_is [] None h = refl
       first_is [] (Some timed) h = cc

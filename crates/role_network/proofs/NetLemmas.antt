@@ -42,7 +42,7 @@ use Rattle.role_network.proofs.LocalLemmas.{at_member, locals_after}
 use Rattle.role_network.specs.Acts.{CanStep}
 use Rattle.role_network.specs.Deeds.{IsAt, RoleDid, RefusedFor, given_to, is_there, message_given}
 use Rattle.role_network.specs.Nets.{NetState, network_at}
-use Rattle.role_network.specs.Standing.{Body, Due, Parts, Stands, local_in}
+use Rattle.role_network.specs.Standing.{Body, ScriptedChange, Parts, HoldsRun, local_in}
 use Rattle.role_network.specs.StepLaws.{StepsRun}
 use Rattle.role_network.specs.Steps.{IsStepOf, fault_of}
 
@@ -72,7 +72,7 @@ pub record Laws : Type 0 where
   pub maps : MailIsAMap
   pub casts : CastsAreRoles
 
-module _ (b : PlainBundle) (limit : ℕ) (parts : Parts) (is : Stands b limit parts) where
+module _ (b : PlainBundle) (limit : ℕ) (parts : Parts) (is : HoldsRun b limit parts) where
   pub unique : CastsAreRoles → distinct_roles b.cast ≡ true
   unique casts = ap distinct_roles is.sound.formed.cast ∙ casts.distinct b.choreo
 
@@ -137,7 +137,7 @@ puts_only (Inputs i r x v) k is = cc
 puts_only (Picks i r b) k is = cc
 puts_only (Chooses i r c) k is = cc
 
-module _ (b : PlainBundle) (limit : ℕ) (parts : Parts) (is : Stands b limit parts) (laws : Laws) (shows : StepsShowTheirActs) where
+module _ (b : PlainBundle) (limit : ℕ) (parts : Parts) (is : HoldsRun b limit parts) (laws : Laws) (shows : StepsShowTheirActs) where
   abbrev outside : LocalState → Act → Given
   outside s a = given_to b.cast b.rules parts.mail (book_of parts.book) parts.updates s.store a
 
@@ -160,7 +160,7 @@ module _ (b : PlainBundle) (limit : ℕ) (parts : Parts) (is : Stands b limit pa
   }
 
 -- the parts after the deed of a role stand again
-module _ (b : PlainBundle) (limit : ℕ) (cast : List Role) (locals : List LocalState) (mail : Mail) (book : KeptBook) (bodies : List Body) (coming : List Due) (count : ℕ) (H : List Entry) where
+module _ (b : PlainBundle) (limit : ℕ) (cast : List Role) (locals : List LocalState) (mail : Mail) (book : KeptBook) (bodies : List Body) (coming : List ScriptedChange) (count : ℕ) (H : List Entry) where
   abbrev pub these : List LocalState → Mail → ℕ → List Entry → Parts
   these locals mail count H = record {
     cast = cast;
@@ -174,12 +174,12 @@ module _ (b : PlainBundle) (limit : ℕ) (cast : List Role) (locals : List Local
   }
 
   -- parts that show the same stand as well
-  pub stands_same : Stands b limit (these locals mail count H) → (locals' : List LocalState) (mail' : Mail) (count' : ℕ) (H' : List Entry)
-      → locals' ≡ locals → messages mail' ≡ messages mail → count' ≡ count → H' ≡ H → Stands b limit (these locals' mail' count' H')
+  pub stands_same : HoldsRun b limit (these locals mail count H) → (locals' : List LocalState) (mail' : Mail) (count' : ℕ) (H' : List Entry)
+      → locals' ≡ locals → messages mail' ≡ messages mail → count' ≡ count → H' ≡ H → HoldsRun b limit (these locals' mail' count' H')
   stands_same is locals' mail' count' H' same_locals same_mail same_count same_history =
-      subst (λ h. Stands b limit (these locals' mail' count' h)) (sym same_history)
-      (subst (λ n. Stands b limit (these locals' mail' n H)) (sym same_count)
-      (subst (λ l. Stands b limit (these l mail' count H)) (sym same_locals) (record {
+      subst (λ h. HoldsRun b limit (these locals' mail' count' h)) (sym same_history)
+      (subst (λ n. HoldsRun b limit (these locals' mail' n H)) (sym same_count)
+      (subst (λ l. HoldsRun b limit (these l mail' count H)) (sym same_locals) (record {
         sound = is.sound;
         network = is.network;
         runs = is.runs;
@@ -196,7 +196,7 @@ module _ (b : PlainBundle) (limit : ℕ) (cast : List Role) (locals : List Local
         visible = is.visible;
       })))
 
-  module _ (is : Stands b limit (these locals mail count H)) (laws : Laws) (q : Role) (a : Act) (locals' : List LocalState) (mail' : Mail) (count' : ℕ) (H' : List Entry)
+  module _ (is : HoldsRun b limit (these locals mail count H)) (laws : Laws) (q : Role) (a : Act) (locals' : List LocalState) (mail' : Mail) (count' : ℕ) (H' : List Entry)
       (did : RoleDid cast q a (λ s. given_to b.cast b.rules mail (book_of book) count s a) locals mail count H locals' mail' count' H') where
     pub local_same : did.local ≡ local_in is.network q
     local_same = local_is b limit (these locals mail count H) is did.place q did.local did.at did.here
@@ -211,7 +211,7 @@ module _ (b : PlainBundle) (limit : ℕ) (cast : List Role) (locals : List Local
     pub steps : act_step (setting b) is.network q a ≡ Some (record { entry = entry_of did.did.done.deed; network = after_deed is.network q did.did.done.deed did.did.done.left })
     steps = ap (deed_outcome is.network q) does
 
-    pub stands_after : length H < limit → Stands b limit (these locals' mail' count' H')
+    pub stands_after : length H < limit → HoldsRun b limit (these locals' mail' count' H')
     stands_after room = record {
       sound = is.sound;
       network = after_deed is.network q did.did.done.deed did.did.done.left;
@@ -242,8 +242,8 @@ no_act r e1 f1 o1 j = first_fault (e1 j) (f1 j) (o1 j) r
 not_yet : {e f o r : Bool} → e ≡ false → f ≡ false → o ≡ true → r ≡ false → first_fault e f o r ≡ Some fault.NotYet
 not_yet e1 f1 o1 r1 j = first_fault (e1 j) (f1 j) (o1 j) (r1 j)
 
-module _ (of : Bundle) (limit : ℕ) (cast : List Role) (locals : List LocalState) (mail : Mail) (book : KeptBook) (bodies : List Body) (coming : List Due) (count : ℕ) (H : List Entry)
-    (is : Stands (plain of) limit (record { cast = cast; locals = locals; mail = mail; book = book; bodies = bodies; coming = coming; updates = count; history = H }))
+module _ (of : Bundle) (limit : ℕ) (cast : List Role) (locals : List LocalState) (mail : Mail) (book : KeptBook) (bodies : List Body) (coming : List ScriptedChange) (count : ℕ) (H : List Entry)
+    (is : HoldsRun (plain of) limit (record { cast = cast; locals = locals; mail = mail; book = book; bodies = bodies; coming = coming; updates = count; history = H }))
     (goes : network_ended (plain of).cast (network_at (plain of) H) ≡ false) (room : length H < limit) (q : Role) (a : Act) where
   abbrev state : List Entry → NetState
   state history = record { bundle = of; history = history; limit = limit }
@@ -309,7 +309,7 @@ all_roles N [] = refl
 all_roles N (q ∷ qs) = ap (λ t. ended (N.processes q) && t) (all_roles N qs)
 
 -- each role has ended and no message is pending, exactly where the network has ended
-pub ended_is : {A : Type 0} (f : A → LocalState) (b : PlainBundle) (limit : ℕ) (parts : Parts) (is : Stands b limit parts) (listed : List A) (empty : Bool) → parts.locals ≡ map f listed
+pub ended_is : {A : Type 0} (f : A → LocalState) (b : PlainBundle) (limit : ℕ) (parts : Parts) (is : HoldsRun b limit parts) (listed : List A) (empty : Bool) → parts.locals ≡ map f listed
     → ((empty ≡ true) ↔ ((k : Key) → payload_at k parts.mail ≡ None))
     → (empty && list_all (λ x. ended (f x).process) listed) ≡ network_ended b.cast (network_at b parts.history)
 ended_is f b limit parts is listed empty same none =

@@ -16,7 +16,7 @@ use Rattle.process_steps.specs.Laws.{is_done}
 use Rattle.process_steps.specs.Steps.{entry_of}
 use Rattle.role_mailbox.specs.declared.mail.Mail.{Mail}
 use Rattle.role_mailbox.specs.Pending.{messages, payload_at}
-use Rattle.role_network.specs.Acts.{given_in, CanStep}
+use Rattle.role_network.specs.Acts.{given_from_mail, CanStep}
 use Rattle.role_network.specs.Deeds.{given_to, is_there, message_given, pending_with, ActDone}
 
 module _ (old new : Mail) (same : messages new ≡ messages old) where
@@ -27,7 +27,7 @@ module _ (old new : Mail) (same : messages new ≡ messages old) where
   there_same (act.Take k) = ap is_some (payload_same k)
   there_same _ = refl
 
-  in_same : (a : Act) → given_in a new ≡ given_in a old
+  in_same : (a : Act) → given_from_mail a new ≡ given_from_mail a old
   in_same (act.Take k) = ap message_given (payload_same k)
   in_same _ = refl
 

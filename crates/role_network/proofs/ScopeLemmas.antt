@@ -26,7 +26,7 @@ use Rattle.dioc_terms.specs.Rules.{Book, choose}
 use Rattle.dioc_terms.specs.Stores.{Store}
 use Rattle.dpoc_process.proofs.ActingLemmas.{acting-offered, acting-single, step-acting}
 use Rattle.dpoc_process.specs.Acting.{Lead, acting, acting_lead, is_single, lead_of}
-use Rattle.dpoc_process.specs.Handed.{IsEnabled, IsKept, IsReplaced, Kept}
+use Rattle.dpoc_process.specs.Handed.{IsEnabled, BookKeeps, BookReplaces, Kept}
 use Rattle.dpoc_process.specs.RoleSteps.{IsStep}
 use Rattle.dpoc_process.specs.LocalStates.{LocalState, offered, step_at}
 use Rattle.global_steps.specs.Follow.{BookChoice, KeepsBody, TakesRule, book_choice, updates_after}
@@ -39,11 +39,11 @@ use Rattle.process_steps.specs.Laws.{OffersAreSteps}
 use Rattle.process_steps.specs.Steps.{Deed, Chooses, FromBook, Decision, Keeps, Replaces, begin_scope, letters_to, offers, is_offered, step, entry_of}
 use Rattle.role_mailbox.specs.declared.mail.Mail.{Mail}
 use Rattle.role_mailbox.specs.Pending.{payload_at}
-use Rattle.role_network.specs.Deeds.{given_to, is_scope, pending_with, IsDone}
-use Rattle.role_network.specs.Scopes.{choice_by, chosen_by}
+use Rattle.role_network.specs.Deeds.{given_to, asks_scope, pending_with, IsDone}
+use Rattle.role_network.specs.Scopes.{choice_of_body, chosen_by}
 use Rattle.role_network.specs.Standing.{Body, body_of}
 use Rattle.scope_leader.specs.Leaders.{TellsOthers}
-use Rattle.scope_leader.specs.Plans.{part_of, begins}
+use Rattle.scope_leader.specs.Plans.{part_of, begin_messages}
 
 -- a part that offers to begin a scope leads it
 lead_from : (me : Role) (i : Index) (R : Process) → is_single R ≡ true → is_offered (act.Scope i) (offers me R) ≡ true → (lead : Lead) × (lead_of R ≡ Some lead)
@@ -70,7 +70,7 @@ part_there None h = cc
 part_there (Some R) h = (R, refl)
 
 -- the role that offers to begin a scope leads it
-pub lead_there : (s : LocalState) (a : Act) → is_scope a ≡ true → is_offered a (offered s) ≡ true → (lead : Lead) × (acting_lead s a ≡ Some lead)
+pub lead_there : (s : LocalState) (a : Act) → asks_scope a ≡ true → is_offered a (offered s) ≡ true → (lead : Lead) × (acting_lead s a ≡ Some lead)
 lead_there s (act.Scope i) scope offers_it =
     let part = part_there (acting s.role (act.Scope i) s.process) (acting-offered s.role (act.Scope i) s.process ∙ offers_it) in
     let is = acting-single s.role (act.Scope i) s.process part.1 in
@@ -83,7 +83,7 @@ lead_there s (act.Input i) scope offers_it = cc
 lead_there s (act.Pick i) scope offers_it = cc
 
 -- with what the book says the begin can be done
-pub can_begin : OffersAreSteps → (s : LocalState) (a : Act) → is_scope a ≡ true → is_offered a (offered s) ≡ true → IsEnabled s a Kept
+pub can_begin : OffersAreSteps → (s : LocalState) (a : Act) → asks_scope a ≡ true → is_offered a (offered s) ≡ true → IsEnabled s a Kept
 can_begin steps s (act.Scope i) scope offers_it =
     steps.exactly s.role s.store s.process (act.Scope i) (FromBook (λ head. Keeps)) refl ∙ offers_it
 can_begin steps s (act.Put k) scope offers_it = cc
@@ -129,7 +129,7 @@ lead_part None lead h = absurd (none_some h)
 lead_part (Some R) lead h = (R, refl, h)
 
 -- the deed of a begin is what the book decides of the scope's head
-pub begin_deed : (s : LocalState) (a : Act) (decide : ScopeHead → Decision) (lead : Lead) (d : Deed) (Q : Process) → is_scope a ≡ true → acting_lead s a ≡ Some lead
+pub begin_deed : (s : LocalState) (a : Act) (decide : ScopeHead → Decision) (lead : Lead) (d : Deed) (Q : Process) → asks_scope a ≡ true → acting_lead s a ≡ Some lead
     → step_at s a (FromBook decide) ≡ Does d Q → d ≡ Chooses lead.head.index s.role (chosen_by (decide lead.head))
 begin_deed s (act.Scope i) decide lead d Q scope is does =
     let part = lead_part (acting s.role (act.Scope i) s.process) lead is in
@@ -142,7 +142,7 @@ begin_deed s (act.Input i) decide lead d Q scope is does = cc
 begin_deed s (act.Pick i) decide lead d Q scope is does = cc
 
 -- a leader that made its step has begun the scope as the book decides
-pub scope_begun : (s : LocalState) (a : Act) (decide : ScopeHead → Decision) (lead : Lead) (s' : LocalState) → is_scope a ≡ true → acting_lead s a ≡ Some lead → lead.head.leader ≡ s.role
+pub scope_begun : (s : LocalState) (a : Act) (decide : ScopeHead → Decision) (lead : Lead) (s' : LocalState) → asks_scope a ≡ true → acting_lead s a ≡ Some lead → lead.head.leader ≡ s.role
     → IsStep s a (FromBook decide) s' → (mail : Mail) (count count' : ℕ) (H H' : List Entry)
     → count' ≡ updates_after (entry.Scope lead.head.index lead.head.leader (chosen_by (decide lead.head))) count
     → H' ≡ H ++ entry.Scope lead.head.index lead.head.leader (chosen_by (decide lead.head)) ∷ []
@@ -163,7 +163,7 @@ scope_begun s a decide lead s' scope is leads stepped mail count count' H H' cou
     }
 
 -- what comes from outside to the begin of a scope is what the book decides
-pub given_scope : (cast : List Role) (rules : List PlainRule) (mail : Mail) (book : Book) (count : ℕ) (s : Store) (a : Act) → is_scope a ≡ true
+pub given_scope : (cast : List Role) (rules : List PlainRule) (mail : Mail) (book : Book) (count : ℕ) (s : Store) (a : Act) → asks_scope a ≡ true
     → given_to cast rules mail book count s a ≡ FromBook (λ head. decision cast count head (book_choice rules book head s))
 given_scope cast rules mail book count s (act.Scope i) h = refl
 given_scope cast rules mail book count s (act.Put k) h = cc
@@ -172,7 +172,7 @@ given_scope cast rules mail book count s (act.Set i) h = cc
 given_scope cast rules mail book count s (act.Input i) h = cc
 given_scope cast rules mail book count s (act.Pick i) h = cc
 
-module _ (cast : List Role) (rules : List PlainRule) (mail : Mail) (book : Book) (count : ℕ) (s : LocalState) (a : Act) (lead : Lead) (scope : is_scope a ≡ true)
+module _ (cast : List Role) (rules : List PlainRule) (mail : Mail) (book : Book) (count : ℕ) (s : LocalState) (a : Act) (lead : Lead) (scope : asks_scope a ≡ true)
     (is : acting_lead s a ≡ Some lead) (tells : TellsOthers cast s.role lead.head lead.others) (head : ScopeHead) (same : lead.head ≡ head) where
   abbrev pub decides : ScopeHead → Decision
   decides h = decision cast count h (book_choice rules book h s.store)
@@ -192,17 +192,17 @@ module _ (cast : List Role) (rules : List PlainRule) (mail : Mail) (book : Book)
 
 -- the scope is kept as the book says
 pub kept_brings : (s : LocalState) (a : Act) (lead : Lead) (head : ScopeHead) (decide : ScopeHead → Decision) → acting_lead s a ≡ Some lead → lead.head ≡ head → decide head ≡ Keeps
-    → IsKept (acting_lead s a) (FromBook decide)
+    → BookKeeps (acting_lead s a) (FromBook decide)
 kept_brings s a lead head decide is same keeps = record { scope = lead; is_led = is; decide = decide; decides = refl; keeps = ap decide same ∙ keeps }
 
 -- the scope is replaced as the book says, with the parts of a plan
 pub replaced_brings : (cast : List Role) (s : LocalState) (a : Act) (lead : Lead) (head : ScopeHead) (decide : ScopeHead → Decision) (name : List ℕ) (epoch : ℕ) (body : Term) (own : Process) (ms : Letters)
     → acting_lead s a ≡ Some lead → TellsOthers cast s.role lead.head lead.others → lead.head ≡ head
-    → decide head ≡ Replaces name epoch (part_of cast head epoch body) → own ≡ part_of cast head epoch body head.leader → ms ≡ begins cast head epoch body
-    → IsReplaced s.role (acting_lead s a) own ms (FromBook decide)
+    → decide head ≡ Replaces name epoch (part_of cast head epoch body) → own ≡ part_of cast head epoch body head.leader → ms ≡ begin_messages cast head epoch body
+    → BookReplaces s.role (acting_lead s a) own ms (FromBook decide)
 replaced_brings cast s a lead head decide name epoch body own ms is tells same =
-    subst (λ (h : ScopeHead). decide h ≡ Replaces name epoch (part_of cast h epoch body) → own ≡ part_of cast h epoch body h.leader → ms ≡ begins cast h epoch body
-    → IsReplaced s.role (acting_lead s a) own ms (FromBook decide)) same
+    subst (λ (h : ScopeHead). decide h ≡ Replaces name epoch (part_of cast h epoch body) → own ≡ part_of cast h epoch body h.leader → ms ≡ begin_messages cast h epoch body
+    → BookReplaces s.role (acting_lead s a) own ms (FromBook decide)) same
     (λ decided owns sends. record {
       scope = lead;
       is_led = is;
@@ -256,14 +256,14 @@ module _ (rules : List PlainRule) (book : Book) (head : ScopeHead) (s : Store) w
   by_choice goes body (Some m) at h = by_rule body m (slice_get rules m) refl h (goes.chosen_fits rules book head s m at)
 
   -- the body at the number that is chosen is what the book answers
-  pub choice_is : (n : ℕ) → choose rules book head s ≡ Some n → choice_by (slice_get (map body_of rules) n) ≡ book_choice rules book head s
-  choice_is n h = ap choice_by (slice_get-map body_of rules n) ∙ same (slice_get rules n) ∙ sym (ap choice_answer h)
+  pub choice_is : (n : ℕ) → choose rules book head s ≡ Some n → choice_of_body (slice_get (map body_of rules) n) ≡ book_choice rules book head s
+  choice_is n h = ap choice_of_body (slice_get-map body_of rules n) ∙ same (slice_get rules n) ∙ sym (ap choice_answer h)
     where
-      same : (o : Option PlainRule) → choice_by (option_map body_of o) ≡ rule_answer o
+      same : (o : Option PlainRule) → choice_of_body (option_map body_of o) ≡ rule_answer o
       same None = refl
       same (Some rule) = refl
 
-  pub choice_none : choose rules book head s ≡ None → choice_by None ≡ book_choice rules book head s
+  pub choice_none : choose rules book head s ≡ None → choice_of_body None ≡ book_choice rules book head s
   choice_none h = sym (ap choice_answer h)
 
   pub answer_of : ChoicesGoOn → (body : Body) → TakesRule body.name body.body ≡ book_choice rules book head s → Answer rules head body

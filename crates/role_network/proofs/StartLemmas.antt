@@ -18,10 +18,10 @@ use Rattle.marked_laws.specs.Network.{network_run, network_start}
 use Rattle.role_mailbox.specs.Pending.{messages}
 use Rattle.rule_book.proofs.OrderLemmas.{numbers_from-below}
 use Rattle.rule_book.specs.KeptBooks.{book_of, coming, IsBookOf}
-use Rattle.role_network.specs.Standing.{Body, Due, Parts, Stands, body_of, due_of, local_in}
+use Rattle.role_network.specs.Standing.{Body, ScriptedChange, Parts, HoldsRun, body_of, due_of, local_in}
 
 -- the changes are those of the script
-changes_of : (rules : List PlainRule) (script : List Timed) → map (λ (due : Due). due.change) (map (due_of rules) script) ≡ map (λ (timed : Timed). timed.change) script
+changes_of : (rules : List PlainRule) (script : List Timed) → map (λ (due : ScriptedChange). due.change) (map (due_of rules) script) ≡ map (λ (timed : Timed). timed.change) script
 changes_of rules [] = refl
 changes_of rules (timed ∷ rest) = ap (λ (l : List Change). timed.change ∷ l) (changes_of rules rest)
 
@@ -32,7 +32,7 @@ bodies_of (rule ∷ rest) = ap (λ (l : List Body). body_of (plain_rule rule) �
 
 pub stands_started : (b : PlainBundle) (limit : ℕ) (parts : Parts) → IsSound b → parts.cast ≡ b.cast → parts.locals ≡ map (local_in (network_start b)) b.cast → messages parts.mail ≡ []
     → book_of parts.book ≡ opening_book b.rules b.opening b.env → IsBookOf b.rules parts.book → coming parts.book ≡ map (λ (timed : Timed). timed.change) b.script
-    → parts.bodies ≡ map body_of b.rules → parts.coming ≡ map (due_of b.rules) b.script → parts.updates ≡ 0 → parts.history ≡ [] → Stands b limit parts
+    → parts.bodies ≡ map body_of b.rules → parts.coming ≡ map (due_of b.rules) b.script → parts.updates ≡ 0 → parts.history ≡ [] → HoldsRun b limit parts
 stands_started b limit parts sound cast locals mail book of next bodies script updates history = record {
   sound = sound;
   network = network_start b;
@@ -43,7 +43,7 @@ stands_started b limit parts sound cast locals mail book of next bodies script u
   pending = λ k. ap (lookup (key_eq k)) mail;
   book = book;
   of = of;
-  next = next ∙ sym (changes_of b.rules b.script) ∙ ap (map (λ (due : Due). due.change)) (sym script);
+  next = next ∙ sym (changes_of b.rules b.script) ∙ ap (map (λ (due : ScriptedChange). due.change)) (sym script);
   bodies = bodies;
   coming = script;
   updates = updates;

@@ -10,11 +10,11 @@ use Rattle.process_steps.specs.Laws.{is_done}
 use Rattle.process_steps.specs.Steps.{Given, Alone, is_offered}
 use Rattle.role_mailbox.specs.declared.mail.Mail.{Mail}
 use Rattle.role_mailbox.specs.Pending.{payload_at}
-use Rattle.role_network.specs.Deeds.{is_scope, is_there, message_given}
+use Rattle.role_network.specs.Deeds.{asks_scope, is_there, message_given}
 
-abbrev pub given_in : Act → Mail → Given
-given_in (act.Take k) mail = message_given (payload_at k mail)
-given_in _ mail = Alone
+abbrev pub given_from_mail : Act → Mail → Given
+given_from_mail (act.Take k) mail = message_given (payload_at k mail)
+given_from_mail _ mail = Alone
 
 -- what is pending for a key after the take of an act, by what was pending before
 abbrev pub taken_with : Act → Key → Option Load → Option Load
@@ -34,7 +34,7 @@ pub record PutBy (a : Act) (sent : Option Load) (old new : Mail) : Type 0 where
 
 -- the act can be done where it is offered and its message is there, and what it puts isn't pending
 pub record CanStep (local : LocalState) (a : Act) (mail : Mail) : Type 0 where
-  pub can : is_scope a ≡ false → is_offered a (offered local) ≡ true → is_there a mail ≡ true
-      → is_done (step_at local a (given_in a mail)) ≡ true
+  pub can : asks_scope a ≡ false → is_offered a (offered local) ≡ true → is_there a mail ≡ true
+      → is_done (step_at local a (given_from_mail a mail)) ≡ true
   pub free : (k : Key) → a ≡ act.Put k → is_offered a (offered local) ≡ true → payload_at k mail
       ≡ None

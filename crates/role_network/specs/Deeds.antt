@@ -55,9 +55,9 @@ given_to cast rules mail book count s (act.Scope i) =
 given_to cast rules mail book count s _ = Alone
 
 -- whether the act begins a scope
-abbrev pub is_scope : Act → Bool
-is_scope (act.Scope i) = true
-is_scope _ = false
+abbrev pub asks_scope : Act → Bool
+asks_scope (act.Scope i) = true
+asks_scope _ = false
 
 -- every act but a take whose message isn't pending
 abbrev pub is_there : Act → Mail → Bool

@@ -3,10 +3,10 @@ use Rattle.std.specs.Prelude.{Some}
 use Rattle.dioc_terms.specs.Terms.{term}
 use Rattle.role_network.specs.declared.bodies.Coming.{Coming}
 use Rattle.role_network.specs.declared.bodies.RuleBody.{RuleBody}
-use Rattle.role_network.specs.Standing.{Body, Due}
+use Rattle.role_network.specs.Standing.{Body, ScriptedChange}
 
 abbrev pub body_seen : RuleBody → Body
 body_seen kept = record { name = kept.name; body = term kept.body }
 
-abbrev pub due_seen : Coming → Due
+abbrev pub due_seen : Coming → ScriptedChange
 due_seen kept = record { after = kept.after; change = kept.change; entry = Some kept.entry }

@@ -6,7 +6,7 @@ use Rattle.net_core.specs.declared.moves.Move.{Move}
 use Rattle.net_core.specs.declared.moves.Move.TheVariants as move
 use Rattle.role_mailbox.specs.declared.mail.Mail.{Mail}
 use Rattle.role_network.specs.Deeds.{is_there}
-use Rattle.role_network.specs.Standing.{Due}
+use Rattle.role_network.specs.Standing.{ScriptedChange}
 
 -- the acts that a role offers, without takes whose message isn't pending
 abbrev pub local_moves : Role → LocalState → Mail → List Move
@@ -18,6 +18,6 @@ moves_in (q ∷ qs) (s ∷ ss) mail = local_moves q s mail ++ moves_in qs ss mai
 moves_in _ _ mail = []
 
 -- whether the first of the changes may stand after so many visible entries
-abbrev pub is_first_due : List Due → ℕ → Bool
+abbrev pub is_first_due : List ScriptedChange → ℕ → Bool
 is_first_due [] visible_entries = false
 is_first_due (due ∷ rest) visible_entries = nat_le due.after visible_entries

@@ -21,9 +21,9 @@ chosen_by Keeps = chosen.Keep
 chosen_by (Replaces name epoch part) = chosen.Rule name epoch
 
 -- what the book's answer is, by the rule's body
-abbrev pub choice_by : Option Body → BookChoice
-choice_by None = KeepsBody
-choice_by (Some body) = TakesRule body.name body.body
+abbrev pub choice_of_body : Option Body → BookChoice
+choice_of_body None = KeepsBody
+choice_of_body (Some body) = TakesRule body.name body.body
 
 -- the book and the bodies are those of rules that may run
 pub record KnownRules (cast : List Role) (book : KeptBook) (bodies : List Body) : Type 0 where

@@ -6,18 +6,18 @@ use Rattle.dioc_terms.specs.Plain.{PlainRule}
 use Rattle.dioc_terms.specs.Rules.{apply}
 use Rattle.role_network.specs.declared.faults.ChangeFault.{ChangeFault}
 use Rattle.role_network.specs.declared.faults.ChangeFault.TheVariants as fault
-use Rattle.role_network.specs.Standing.{Due}
+use Rattle.role_network.specs.Standing.{ScriptedChange}
 use Rattle.rule_book.specs.declared.book.Book.{Book as KeptBook}
 use Rattle.rule_book.specs.KeptBooks.{book_of, coming, IsBookOf}
 
-abbrev pub change_in : Due → Change
+abbrev pub change_in : ScriptedChange → Change
 change_in due = due.change
 
 -- the first of the changes was made: it was due, the book has it, and its entry is the last one
-pub record ChangeMade (rules : List PlainRule) (old : List Due) (visible_entries : ℕ)
-    (old_book : KeptBook) (before : List Entry) (new : List Due) (new_book : KeptBook)
+pub record ChangeMade (rules : List PlainRule) (old : List ScriptedChange) (visible_entries : ℕ)
+    (old_book : KeptBook) (before : List Entry) (new : List ScriptedChange) (new_book : KeptBook)
     (after : List Entry) : Type 0 where
-  pub due : Due
+  pub due : ScriptedChange
   pub script : old ≡ due ∷ new
   pub entry : Entry
   pub shows : due.entry ≡ Some entry
@@ -28,13 +28,13 @@ pub record ChangeMade (rules : List PlainRule) (old : List Due) (visible_entries
   pub entries : after ≡ before ++ entry ∷ []
 
 -- none is to come, or the first isn't due; nothing is said of want of memory
-pub record NotDue (old : List Due) (visible_entries : ℕ) : Type 0 where
-  pub due : Due
-  pub rest : List Due
+pub record NotDue (old : List ScriptedChange) (visible_entries : ℕ) : Type 0 where
+  pub due : ScriptedChange
+  pub rest : List ScriptedChange
   pub script : old ≡ due ∷ rest
   pub later : visible_entries < due.after
 
-abbrev pub ChangeRefused : List Due → ℕ → ChangeFault → Type 0
+abbrev pub ChangeRefused : List ScriptedChange → ℕ → ChangeFault → Type 0
 ChangeRefused script visible_entries fault.NoMore = script ≡ []
 ChangeRefused script visible_entries fault.NotYet = NotDue script visible_entries
 ChangeRefused script visible_entries fault.Memory = Unit {0}

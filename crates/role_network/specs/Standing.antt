@@ -30,12 +30,12 @@ abbrev pub body_of : PlainRule → Body
 body_of rule = record { name = rule.name; body = rule.body }
 
 -- a change of the script, with the entry that it shows
-pub record Due : Type 0 where
+pub record ScriptedChange : Type 0 where
   pub after : ℕ
   pub change : Change
   pub entry : Option Entry
 
-abbrev pub due_of : List PlainRule → Timed → Due
+abbrev pub due_of : List PlainRule → Timed → ScriptedChange
 due_of rules timed =
     record {
       after = timed.after;
@@ -53,12 +53,12 @@ pub record Parts : Type 0 where
   -- what may replace a scope, by the numbers of the rules
   pub bodies : List Body
   -- the changes of the script that are still to come
-  pub coming : List Due
+  pub coming : List ScriptedChange
   pub updates : ℕ
   pub history : List Entry
 
 -- the parts are the network after the history, which is a run of the bundle within the limit
-pub record Stands (b : PlainBundle) (limit : ℕ) (parts : Parts) : Type 0 where
+pub record HoldsRun (b : PlainBundle) (limit : ℕ) (parts : Parts) : Type 0 where
   pub sound : IsSound b
   pub network : Network
   pub runs : network_run b parts.history ≡ Some network
@@ -69,7 +69,7 @@ pub record Stands (b : PlainBundle) (limit : ℕ) (parts : Parts) : Type 0 where
   pub pending : (k : Key) → payload_at k parts.mail ≡ pending_at k network.pending
   pub book : book_of parts.book ≡ network.book
   pub of : IsBookOf b.rules parts.book
-  pub next : coming parts.book ≡ map (λ (due : Due). due.change) parts.coming
+  pub next : coming parts.book ≡ map (λ (due : ScriptedChange). due.change) parts.coming
   pub bodies : parts.bodies ≡ map body_of b.rules
   pub coming : parts.coming ≡ drop network.changes (map (due_of b.rules) b.script)
   pub updates : parts.updates ≡ network.updates

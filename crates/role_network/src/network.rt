@@ -54,7 +54,7 @@ impl<R: Runs> Model for Net<R> {
     ghost use Rattle.net_core.specs.Schedule.{change_due, moves};
     ghost use Rattle.role_network.specs.Changes.{IsChangeOf, change_fault};
     ghost use Rattle.role_network.specs.Nets.{NetState};
-    ghost use Rattle.role_network.specs.Standing.{Stands};
+    ghost use Rattle.role_network.specs.Standing.{HoldsRun};
 
     ghost Value = { NetState };
 
@@ -66,7 +66,7 @@ impl<R: Runs> Model for Net<R> {
       limit = net.limit;
     } };
 
-    ghost invariant = { λ net. Stands (plain net.of.value) net.limit (record {
+    ghost invariant = { λ net. HoldsRun (plain net.of.value) net.limit (record {
       cast = net.cast;
       locals = map R.local net.roles.items;
       mail = net.mail;

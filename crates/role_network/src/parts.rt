@@ -17,8 +17,8 @@ ghost use Rattle.dpoc_process.specs.LocalStates.{LocalState, offered, step_at};
 ghost use Rattle.process_steps.specs.Laws.{is_done};
 ghost use Rattle.process_steps.specs.Steps.{ended, is_offered};
 ghost use Rattle.role_mailbox.specs.Pending.{messages, payload_at, room};
-ghost use Rattle.role_network.specs.Acts.{given_in, CanStep, TakenBy, PutBy};
-ghost use Rattle.role_network.specs.Deeds.{given_to, is_scope, is_there, ActDone, DoneAt, IsAt, IsDone, RefusedFor, RoleDid};
+ghost use Rattle.role_network.specs.Acts.{given_from_mail, CanStep, TakenBy, PutBy};
+ghost use Rattle.role_network.specs.Deeds.{given_to, asks_scope, is_there, ActDone, DoneAt, IsAt, IsDone, RefusedFor, RoleDid};
 ghost use Rattle.role_network.specs.Faults.{ReadyFault};
 ghost use Rattle.role_network.specs.KeptParts.{body_seen};
 ghost use Rattle.role_network.specs.Scopes.{KnownRules, Tells};
@@ -110,11 +110,11 @@ pub(crate) fn is_there(mail: &Mail, act: &Act) -> bool
 
 /// Takes the message of a take out of the mail.
 fn take_in(mail: &mut Mail, act: &Act) -> Got
-    requires plain { is_scope act.now ≡ false }
+    requires plain { asks_scope act.now ≡ false }
     requires there { is_there act.now mail.old ≡ true }
-    ensures like { given_like (handed result) ≡ given_in act.now mail.old }
+    ensures like { given_like (handed result) ≡ given_from_mail act.now mail.old }
     ensures stands { (me : OneRole) (lead : Option Lead) →
-        StandsFor me lead (handed result) (given_in act.now mail.old) }
+        StandsFor me lead (handed result) (given_from_mail act.now mail.old) }
     ensures taken { TakenBy act.now mail.old mail.new }
     ensures keeps_room { room mail.old ≤ room mail.new }
 {
@@ -147,14 +147,15 @@ pub(crate) fn commit<R: Runs>(
 )
     requires ready { R.is_ready state.old act.now }
     requires shown { IsPrepared (R.local state.old) act.now prepared }
-    requires plain { is_scope act.now ≡ false }
+    requires plain { asks_scope act.now ≡ false }
     requires there { is_there act.now mail.old ≡ true }
-    requires can { is_done (step_at (R.local state.old) act.now (given_in act.now mail.old))
+    requires can { is_done (step_at (R.local state.old) act.now (given_from_mail act.now mail.old))
         ≡ true }
     requires free { (k : OneKey) → act.now ≡ acts.Put k → payload_at k mail.old ≡ None }
     requires mail_room { 0 < room mail.old }
     requires history_room { 0 < history.old.room }
-    ensures { (count : ℕ) → IsDone act.now (given_in act.now mail.old) (R.local state.old) mail.old
+    ensures { (count : ℕ)
+        → IsDone act.now (given_from_mail act.now mail.old) (R.local state.old) mail.old
         count history.old.entries (R.local state.new) mail.new count history.new.entries }
 {
     process_steps::steps_show_their_acts();
@@ -173,7 +174,7 @@ pub(crate) fn commit<R: Runs>(
 
 /// Whether the act begins a scope.
 fn is_scope(act: &Act) -> bool
-    ensures { result ≡ is_scope act.now }
+    ensures { result ≡ asks_scope act.now }
 {
     matches!(act, Act::Scope(_))
 }

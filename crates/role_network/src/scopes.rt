@@ -16,9 +16,9 @@ ghost use Rattle.dpoc_process.specs.RoleSteps.{IsPrepared, IsStep};
 ghost use Rattle.global_steps.specs.Follow.{book_choice};
 ghost use Rattle.process_steps.specs.Steps.{Decision, FromBook, Keeps, Replaces};
 ghost use Rattle.role_mailbox.specs.declared.mail.Mail.{Mail as OneMail};
-ghost use Rattle.role_network.specs.Deeds.{given_to, is_scope, IsDone};
+ghost use Rattle.role_network.specs.Deeds.{given_to, asks_scope, IsDone};
 ghost use Rattle.role_network.specs.KeptParts.{body_seen};
-ghost use Rattle.role_network.specs.Scopes.{choice_by, KnownRules, Tells};
+ghost use Rattle.role_network.specs.Scopes.{choice_of_body, KnownRules, Tells};
 ghost use Rattle.role_network.specs.Standing.{body_of};
 ghost use Rattle.rule_book.specs.KeptBooks.{book_of, IsBookOf};
 ghost use Rattle.scope_leader.specs.Plans.{part_of};
@@ -45,7 +45,7 @@ pub(crate) fn begin_scope<R: Runs>(
 ) -> Result<(), Memory>
     requires ready { R.is_ready state.old act.now }
     requires shown { IsPrepared (R.local state.old) act.now prepared }
-    requires scope { is_scope act.now ≡ true }
+    requires scope { asks_scope act.now ≡ true }
     requires history_room { 0 < history.old.room }
     requires updates { updates.old < 4294967295 }
     requires known { KnownRules cast.now book.now (map body_seen bodies.now) }
@@ -94,7 +94,7 @@ fn choice<'a>(
 ) -> Option<&'a RuleBody>
     ensures { (rules : List PlainRule) → IsBookOf rules book.now
         → map body_seen bodies.now ≡ map body_of rules
-        → choice_by (option_map body_seen (option_copied result))
+        → choice_of_body (option_map body_seen (option_copied result))
         ≡ book_choice rules (book_of book.now) head.now (store_of store.now) }
 {
     match book.choose(head, store) {

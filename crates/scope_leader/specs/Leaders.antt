@@ -13,13 +13,13 @@ use Rattle.dpoc_process.specs.Acting.{acting_lead, Lead}
 use Rattle.dpoc_process.specs.LocalStates.{LocalState}
 use Rattle.process_steps.specs.Steps.{Deed, Puts, Given, Got, FromBook, Decision, Replaces, step}
 use Rattle.projection.specs.Projection.{projected}
-use Rattle.scope_leader.specs.Plans.{told}
+use Rattle.scope_leader.specs.Plans.{told_roles}
 
 -- the role leads the scope, and tells the others that its head shows
 pub record TellsOthers (cast : List Role) (me : Role) (head : ScopeHead)
     (others : List Role) : Type 0 where
   pub leads : head.leader ≡ me
-  pub tells : others ≡ told cast head
+  pub tells : others ≡ told_roles cast head
 
 abbrev mutual
   -- so does the role with each scope that it leads in the process

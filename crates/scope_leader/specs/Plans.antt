@@ -21,18 +21,18 @@ abbrev pub is_told : ScopeHead → Role → Bool
 is_told head q = member q head.roles && not (role_eq q head.leader)
 
 -- the roles of the scope without its leader, in the order of the cast
-abbrev pub told : List Role → ScopeHead → List Role
-told cast head = filter (is_told head) cast
+abbrev pub told_roles : List Role → ScopeHead → List Role
+told_roles cast head = filter (is_told head) cast
 
 -- the messages with the parts of the others
-abbrev pub begins : List Role → ScopeHead → ℕ → Term → Letters
-begins cast head epoch body =
-    letters_to head.leader (told cast head) head.index Begin
+abbrev pub begin_messages : List Role → ScopeHead → ℕ → Term → Letters
+begin_messages cast head epoch body =
+    letters_to head.leader (told_roles cast head) head.index Begin
     (λ q. Part epoch (part_of cast head epoch body q))
 
 -- the roles that are told are the others of the scope, all of them and in the same order
 abbrev pub ToldAreTheOthers : Type 0
 ToldAreTheOthers = (cast : List Role) (i : Index) (r : Role) (I : Term) (extra : List Role)
     (props : List (List ℕ × Value)) (level : ℕ)
-    → told cast (head_of cast i r I extra props level)
+    → told_roles cast (head_of cast i r I extra props level)
     ≡ others cast r (Scope i r I extra props level)

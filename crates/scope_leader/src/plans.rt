@@ -8,7 +8,7 @@ ghost use Rattle.dioc_terms.specs.Processes.{process, letters, load, Part, More}
 ghost use Rattle.dioc_terms.specs.Terms.{term, is_in};
 ghost use Rattle.process_steps.specs.Steps.{key, letters_to};
 ghost use Rattle.projection.specs.Projection.{projected};
-ghost use Rattle.scope_leader.specs.Plans.{part_of, is_told, told, begins};
+ghost use Rattle.scope_leader.specs.Plans.{part_of, is_told, told_roles, begin_messages};
 
 use dioc_terms::{
     Choreo, Key, Memory, Messages, Parts, Payload, Role, ScopeHead, Tag, give_up, new_box, stamped,
@@ -35,7 +35,7 @@ pub fn plan_update(
     ensures own { IfOk result (λ parts.
         process parts.own ≡ part_of cast.now head.now epoch (term body.now) head.now.leader) }
     ensures tell { IfOk result (λ parts.
-        letters parts.tell ≡ begins cast.now head.now epoch (term body.now)) }
+        letters parts.tell ≡ begin_messages cast.now head.now epoch (term body.now)) }
 {
     stamped_bodies();
     let body = stamped(alloc, body, epoch, head.level + 1)?;
@@ -56,7 +56,8 @@ fn parts(
     ensures own { IfOk result (λ parts.
         process parts.own ≡ projected cast.now (term body.now) head.now.leader) }
     ensures tell { IfOk result (λ parts.
-        letters parts.tell ≡ letters_to head.now.leader (told cast.now head.now) head.now.index
+        letters parts.tell
+        ≡ letters_to head.now.leader (told_roles cast.now head.now) head.now.index
         Begin (λ q. Part epoch (projected cast.now (term body.now) q))) }
 {
     let own = project(alloc, body, &head.leader, cast)?;

@@ -17,8 +17,8 @@ use Rattle.dioc_terms.specs.Processes.{Skip, Recv, Val}
 use Rattle.dioc_terms.specs.Stores.{fresh_store, set_variable}
 use Rattle.dioc_terms.specs.Terms.{Term, Com, cast_of, indexed}
 use Rattle.process_steps.specs.Steps.{Alone, Puts, key}
-use Rattle.stage.specs.Owners.{place_of, owner_in}
-use Rattle.stage.specs.Roles.{StandsAt, CanDo}
+use Rattle.stage.specs.Owners.{cast_place, owner_in}
+use Rattle.stage.specs.Roles.{RoleStandsAt, CanDo}
 
 -- a bundle of a choreography alone, with the indices of its text
 abbrev program : Term → PlainBundle
@@ -81,7 +81,7 @@ set-owner = refl
 change-owner : owner_in cast (entry.Env x (int 2)) ≡ 2
 change-owner = refl
 
-no-owner : place_of cast (role hi) ≡ 2
+no-owner : cast_place cast (role hi) ≡ 2
 no-owner = refl
 
 abbrev greeting : PlainBundle
@@ -101,12 +101,12 @@ sender = record {
 }
 
 -- after the put the sender has nothing left to do, and the receiver stands where it stood
-sender_done : StandsAt greeting sent (role a) Skip (fresh_store [])
+sender_done : RoleStandsAt greeting sent (role a) Skip (fresh_store [])
 sender_done = record { network = _; runs = refl; process = refl; store = refl }
 
-receiver : StandsAt greeting sent (role b) (Recv (at 0 0) hi (role a) x) (fresh_store [])
+receiver : RoleStandsAt greeting sent (role b) (Recv (at 0 0) hi (role a) x) (fresh_store [])
 receiver = record { network = _; runs = refl; process = refl; store = refl }
 
 -- after its take the receiver has the value
-receiver_done : StandsAt greeting (sent ++ take a b (Op hi) (at 0 0) (Some x) ∷ []) (role b) Skip (set_variable x (int 1) (fresh_store []))
+receiver_done : RoleStandsAt greeting (sent ++ take a b (Op hi) (at 0 0) (Some x) ∷ []) (role b) Skip (set_variable x (int 1) (fresh_store []))
 receiver_done = record { network = _; runs = refl; process = refl; store = refl }

@@ -19,8 +19,8 @@ use Rattle.marked_laws.proofs.Equality.{role_same, role_itself, entry_itself}
 use Rattle.marked_laws.proofs.Extension.{extensions}
 use Rattle.marked_laws.proofs.Networks.{RoleStep, ChangeStep, network_cases, after_deed, deed_outcome, act_outcome}
 use Rattle.marked_laws.proofs.Shapes.{none_some, some_same}
-use Rattle.stage.specs.Owners.{place_of, owner_in}
-use Rattle.stage.specs.Roles.{StandsAt}
+use Rattle.stage.specs.Owners.{cast_place, owner_in}
+use Rattle.stage.specs.Roles.{RoleStandsAt}
 use Rattle.stage.specs.Laws.{OthersLeaveAlone, DeedsMove}
 use Rattle.turn_lock.proofs.Lists.{append_cancel}
 
@@ -62,7 +62,7 @@ other_run b q (e ∷ es) N N' h others =
 
 -- where only others went on, the role stands where it stood
 pub stands_still : (b : PlainBundle) (H rest : List Entry) (q : Role) (P : Process) (s : Store) (N' : Network) → network_run b (H ++ rest) ≡ Some N' → IsOthers q rest
-    → StandsAt b H q P s → StandsAt b (H ++ rest) q P s
+    → RoleStandsAt b H q P s → RoleStandsAt b (H ++ rest) q P s
 stands_still b H rest q P s N' h others at =
     let two = parts (network_run b H) (λ M. run_from (setting b) M rest) N' (sym (extensions.run (setting b) _ H rest) ∙ h) in
     let same = other_run (setting b) q rest two.0 N' two.2 others in
@@ -75,33 +75,33 @@ stands_still b H rest q P s N' h others at =
     }
 
 -- where no entry has the number of the role, none is the role's
-pub are_others : (cast : List Role) (q : Role) (es : List Entry) → filter (λ e. owner_in cast e == place_of cast q) es ≡ [] → IsOthers q es
+pub are_others : (cast : List Role) (q : Role) (es : List Entry) → filter (λ e. owner_in cast e == cast_place cast q) es ≡ [] → IsOthers q es
 are_others cast q [] h = tt
 are_others cast q (e ∷ es) h = ⊎_elim mine (λ no. (theirs no, are_others cast q es (sym (cond-false here (e ∷ left) left no) ∙ h))) (cases_Bool here)
   where
     here : Bool
-    here = owner_in cast e == place_of cast q
+    here = owner_in cast e == cast_place cast q
 
     left : List Entry
-    left = filter (λ x. owner_in cast x == place_of cast q) es
+    left = filter (λ x. owner_in cast x == cast_place cast q) es
 
     mine : here ≡ true → IsOthers q (e ∷ es)
     mine same = absurd (let some : e ∷ left ≡ [] = sym (cond-true here (e ∷ left) left same) ∙ h in cc)
 
     theirs : here ≡ false → doer e ≡ Some q → ⊥
     theirs other own =
-        let same : here ≡ true = eq-eqb (owner_in cast e) (place_of cast q) (ap (λ (who : Option Role). option_map_or (place_of cast) who (length cast)) own) in
+        let same : here ≡ true = eq-eqb (owner_in cast e) (cast_place cast q) (ap (λ (who : Option Role). option_map_or (cast_place cast) who (length cast)) own) in
         let never : true ≡ false = sym same ∙ other in cc
 
 pub others_leave_alone : OthersLeaveAlone
 others_leave_alone b seen H mine N q P s begins own met runs at =
     let owner = owner_in b.cast in
-    let n = place_of b.cast q in
+    let n = cast_place b.cast q in
     let rest = begins.0 in
     let all : filter (λ e. owner e == n) seen ++ filter (λ e. owner e == n) rest ≡ filter (λ e. owner e == n) seen ++ [] =
     sym (filter-append (λ e. owner e == n) seen rest) ∙ (sym (ap (filter (λ e. owner e == n)) begins.1) ∙ (own ∙ (sym met ∙ sym (append-nil (filter (λ e. owner e == n) seen))))) in
     let none : filter (λ e. owner e == n) rest ≡ [] = append_cancel (filter (λ e. owner e == n) seen) (filter (λ e. owner e == n) rest) [] all in
-    subst (λ l. StandsAt b l q P s) (sym begins.1)
+    subst (λ l. RoleStandsAt b l q P s) (sym begins.1)
     (stands_still b seen rest q P s N (ap (network_run b) (sym begins.1) ∙ runs) (are_others b.cast q rest none) at)
 
 -- the network after an entry, by who did it

@@ -8,9 +8,9 @@ use Rattle.dioc_terms.specs.Equality.{role_eq}
 use Rattle.dioc_terms.specs.Messages.{doer}
 
 -- the place of a role in the cast, and the number of roles where it isn't there
-abbrev pub place_of : List Role → Role → ℕ
-place_of [] q = 0
-place_of (r ∷ rs) q = if role_eq q r then 0 else suc (place_of rs q)
+abbrev pub cast_place : List Role → Role → ℕ
+cast_place [] q = 0
+cast_place (r ∷ rs) q = if role_eq q r then 0 else suc (cast_place rs q)
 
 abbrev pub owner_in : List Role → Entry → ℕ
-owner_in cast e = option_map_or (place_of cast) (doer e) (length cast)
+owner_in cast e = option_map_or (cast_place cast) (doer e) (length cast)

@@ -11,18 +11,18 @@ use Rattle.process_steps.specs.Steps.{Deed, Given, step}
 use Rattle.marked_laws.specs.Network.{Network, network_run}
 
 -- in the network after the history the role has this process and this store
-pub record StandsAt (b : PlainBundle) (H : List Entry) (q : Role) (P : Process) (s : Store) : Type 0
-  where
-    pub network : Network
-    pub runs : network_run b H ≡ Some network
-    pub process : network.processes q ≡ P
-    pub store : network.stores q ≡ s
+pub record RoleStandsAt (b : PlainBundle) (H : List Entry) (q : Role) (P : Process)
+    (s : Store) : Type 0 where
+  pub network : Network
+  pub runs : network_run b H ≡ Some network
+  pub process : network.processes q ≡ P
+  pub store : network.stores q ≡ s
 
 -- the role can do the deed there, where this comes to its act from outside
 pub record CanDo (b : PlainBundle) (H : List Entry) (q : Role) (a : Act) (given : Given) (d : Deed)
     : Type 0 where
   pub process : Process
   pub store : Store
-  pub stands : StandsAt b H q process store
+  pub stands : RoleStandsAt b H q process store
   pub next : Process
   pub does : step q store process a given ≡ Does d next

@@ -10,8 +10,8 @@ use Rattle.dioc_terms.specs.Stores.{Store}
 use Rattle.turn_lock.specs.declared.views.View.{View}
 use Rattle.turn_lock.specs.Items.{BeginsWith}
 use Rattle.turn_lock.specs.Views.{number, mine}
-use Rattle.stage.specs.Owners.{place_of}
-use Rattle.stage.specs.Roles.{StandsAt}
+use Rattle.stage.specs.Owners.{cast_place}
+use Rattle.stage.specs.Roles.{RoleStandsAt}
 
 -- the base of a stage's lock: its bundle, and how many entries its history may have
 abbrev pub Base : Type 0
@@ -21,7 +21,7 @@ Base = Bundle × ℕ
 pub record SitsFor (v : View Entry Base) (base : Base) (q : Role) : Type 0 where
   pub known : v.base ≡ Some base
   pub in_cast : member q base.0.cast ≡ true
-  pub place : number v ≡ place_of base.0.cast q
+  pub place : number v ≡ cast_place base.0.cast q
 
 -- The seat has looked at the history again and done nothing: others alone have acted since, so its
 -- role stands where it stood.
@@ -31,7 +31,7 @@ pub record LookedOn (v w : View Entry Base) : Type 0 where
   pub same_mine : mine w ≡ mine v
   pub begins : BeginsWith w.seen v.seen
   pub stands : (base : Base) (q : Role) (P : Process) (s : Store) → SitsFor v base q
-      → StandsAt (plain base.0) v.seen q P s → StandsAt (plain base.0) w.seen q P s
+      → RoleStandsAt (plain base.0) v.seen q P s → RoleStandsAt (plain base.0) w.seen q P s
 
 -- the seat has looked at the history again, and added this entry of its own
 pub record Added (v w : View Entry Base) (e : Entry) : Type 0 where

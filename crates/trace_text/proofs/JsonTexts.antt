@@ -20,7 +20,7 @@ use Rattle.serde_json.specs.Written.{members_have_float, compact_text, members_t
 use Rattle.serde_json.specs.declared.value.Value.{Value, Object}
 use Rattle.serde_json.proofs.Views.{view-Object}
 use Rattle.trace_text.specs.Json as written
-use Rattle.trace_text.specs.JsonValues.{IsText, Puts}
+use Rattle.trace_text.specs.JsonValues.{IsJsonText, Puts}
 
 both_true : (a b : Bool) → (a && b) ≡ true → (a ≡ true) × (b ≡ true)
 both_true true b is = (refl, is)
@@ -76,7 +76,7 @@ escapes_alike (byte ∷ bytes) all =
 pub quoted_alike : (bytes : List ℕ) → list_all is_printable bytes ≡ true → json.quoted bytes ≡ quoted bytes
 quoted_alike bytes all = ap (λ inside. 34 ∷ (inside ++ 34 ∷ [])) (escapes_alike bytes all)
 
-pub string_is : (bytes : List ℕ) → list_all is_printable bytes ≡ true → IsText (string bytes) (quoted bytes)
+pub string_is : (bytes : List ℕ) → list_all is_printable bytes ≡ true → IsJsonText (string bytes) (quoted bytes)
 string_is bytes all = record { no_float = refl; text_is = quoted_alike bytes all }
 
 -- a key with its value, and the value's text
@@ -85,7 +85,7 @@ pub record Row : Type 0 where
   pub plain : list_all is_printable key ≡ true
   pub value : Data
   pub text : List ℕ
-  pub is : IsText value text
+  pub is : IsJsonText value text
 
 -- the row of what was put
 abbrev pub row : {old new : List (String Global × Value)} {key text : List ℕ} → Puts old new key text → list_all is_printable key ≡ true → Row
@@ -101,28 +101,28 @@ listed (r ∷ rows) = member r.key r.value (listed rows)
 
 abbrev pub row_texts : List Row → List (List ℕ)
 row_texts [] = []
-row_texts (r ∷ rows) = written.member r.key r.text ∷ row_texts rows
+row_texts (r ∷ rows) = written.json_member r.key r.text ∷ row_texts rows
 
 listed_no_float : (rows : List Row) → members_have_float (listed rows) ≡ false
 listed_no_float [] = refl
 listed_no_float (r ∷ rows) = λ i. r.is.no_float i || listed_no_float rows i
 
-member_is : (r : Row) (rest : List ℕ) → json.quoted r.key ++ 58 ∷ (compact_text r.value ++ rest) ≡ written.member r.key r.text ++ rest
+member_is : (r : Row) (rest : List ℕ) → json.quoted r.key ++ 58 ∷ (compact_text r.value ++ rest) ≡ written.json_member r.key r.text ++ rest
 member_is r rest =
     (λ i. quoted_alike r.key r.plain i ++ 58 ∷ (r.is.text_is i ++ rest)) ∙ simp append_assoc
 
 listed_tail : (rows : List Row) → members_text true (listed rows) ≡ written.tail_members (row_texts rows) ++ 125 ∷ []
 listed_tail [] = refl
 listed_tail (r ∷ rows) =
-    ap (λ t. 44 ∷ t) (member_is r (members_text true (listed rows)) ∙ ap (λ t. written.member r.key r.text ++ t) (listed_tail rows)) ∙ simp append_assoc
+    ap (λ t. 44 ∷ t) (member_is r (members_text true (listed rows)) ∙ ap (λ t. written.json_member r.key r.text ++ t) (listed_tail rows)) ∙ simp append_assoc
 
 listed_text : (rows : List Row) → compact_text (object (listed rows)) ≡ written.object (row_texts rows)
 listed_text [] = refl
 listed_text (r ∷ rows) =
-    ap (λ t. 123 ∷ t) (member_is r (members_text true (listed rows)) ∙ ap (λ t. written.member r.key r.text ++ t) (listed_tail rows)) ∙ simp append_assoc
+    ap (λ t. 123 ∷ t) (member_is r (members_text true (listed rows)) ∙ ap (λ t. written.json_member r.key r.text ++ t) (listed_tail rows)) ∙ simp append_assoc
 
 -- an object of these rows has this text
-pub object_is : (rows : List Row) (ms : Members) → ms ≡ listed rows → IsText (object ms) (written.object (row_texts rows))
+pub object_is : (rows : List Row) (ms : Members) → ms ≡ listed rows → IsJsonText (object ms) (written.object (row_texts rows))
 object_is rows ms is = record { no_float = ap members_have_float is ∙ listed_no_float rows; text_is = ap (λ ms. compact_text (object ms)) is ∙ listed_text rows }
 
 -- one member more
@@ -130,8 +130,8 @@ pub more : {old new : List (String Global × Value)} {key text : List ℕ} {ms :
 more {key = key} puts is = puts.members ∙ ap (put key puts.value) is
 
 -- the value of members that are these rows
-pub json_is : (m : BTreeMap (String Global) Value) (rows : List Row) → members_view m.entries ≡ listed rows → IsText (view (Object m)) (written.object (row_texts rows))
-json_is m rows is = subst (λ seen. IsText seen (written.object (row_texts rows))) (sym (view-Object m)) (object_is rows (members_view m.entries) is)
+pub json_is : (m : BTreeMap (String Global) Value) (rows : List Row) → members_view m.entries ≡ listed rows → IsJsonText (view (Object m)) (written.object (row_texts rows))
+json_is m rows is = subst (λ seen. IsJsonText seen (written.object (row_texts rows))) (sym (view-Object m)) (object_is rows (members_view m.entries) is)
 
 -- pieces that are written one after another, the first of them first
 pub two_pieces : (start first second one all : List ℕ) → start ≡ [] → one ≡ start ++ first → all ≡ one ++ second → all ≡ first ++ second

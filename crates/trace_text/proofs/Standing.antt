@@ -38,7 +38,7 @@ use Rattle.expr_syntax.proofs.RoundTrip.{written_all}
 use Rattle.text_pieces.specs.Pieces.{truth_text}
 use Rattle.trace_text.specs.Lines.{value_text, index_text, tag_text, note_text, key_text, variable_text, choice_text, line, last_line, line_end}
 use Rattle.trace_text.specs.Laws.{WrittenRunIsSpelled}
-use Rattle.trace_text.specs.Runs.{shown, lines, run_text}
+use Rattle.trace_text.specs.Runs.{shown_entries, lines, run_text}
 use Rattle.trace_text.specs.Written.{written_index, written_tag, written_key, written_note, written_variable, written_choice, written_setting, written_line, written_last, written_lines}
 
 pub both_true : (a b : Bool) → (a && b) ≡ true → (a ≡ true) × (b ≡ true)
@@ -296,5 +296,5 @@ line_lexemes e is = whole_lexemes (line e) (written_line e) (line_stands e is tt
 
 pub run_lexemes : WrittenRunIsSpelled
 run_lexemes aux entries end is last =
-    whole_lexemes (run_text aux false entries end) (λ found. written_lines (shown aux entries) (written_last end found))
-    (behind line_ends (behind (last_stands end last refl) (lines_stand (shown aux entries) is)))
+    whole_lexemes (run_text aux false entries end) (λ found. written_lines (shown_entries aux entries) (written_last end found))
+    (behind line_ends (behind (last_stands end last refl) (lines_stand (shown_entries aux entries) is)))

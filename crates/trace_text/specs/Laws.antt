@@ -10,7 +10,7 @@ use Rattle.aioc_tokens.specs.Lexemes.{Lexeme, HasLexemes, sort_of}
 use Rattle.trace_syntax.specs.Grammar.{IsLine, IsClosedTrace}
 use Rattle.trace_syntax.specs.declared.words.Line.TheVariants as read
 use Rattle.trace_text.specs.Lines.{line}
-use Rattle.trace_text.specs.Runs.{shown, run_text}
+use Rattle.trace_text.specs.Runs.{shown_entries, run_text}
 use Rattle.trace_text.specs.Written.{written_line, written_last, written_lines}
 
 -- the line of an entry has the lexemes that were written
@@ -26,9 +26,9 @@ WrittenIsRead = (entry : Entry) (others : List Lexeme) → is_formed_entry entry
 -- the text of a run has the lexemes of its lines
 abbrev pub WrittenRunIsSpelled : Type 0
 WrittenRunIsSpelled = (aux : Bool) (entries : List Entry) (end : Last)
-    → list_all is_formed_entry (shown aux entries) ≡ true → is_formed_last (Some end) ≡ true
+    → list_all is_formed_entry (shown_entries aux entries) ≡ true → is_formed_last (Some end) ≡ true
     → HasLexemes (run_text aux false entries end)
-    (written_lines (shown aux entries) (written_last end []))
+    (written_lines (shown_entries aux entries) (written_last end []))
 
 -- they are the lines of these entries and this last line, up to a `}` behind them
 abbrev pub WrittenRunIsRead : Type 0

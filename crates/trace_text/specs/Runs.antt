@@ -7,8 +7,8 @@ use Rattle.trace_text.specs.Lines.{line, last_line, line_end}
 use Rattle.trace_text.specs.Json.{json_line, json_last_line}
 
 -- the entries that are shown: all of them, or the visible ones alone
-abbrev pub shown : Bool → List Entry → List Entry
-shown aux entries = if aux then entries else visible entries
+abbrev pub shown_entries : Bool → List Entry → List Entry
+shown_entries aux entries = if aux then entries else visible entries
 
 abbrev pub entry_line : Bool → Entry → List ℕ
 entry_line json e = if json then json_line e else line e
@@ -22,4 +22,4 @@ lines json entries = flat_map (λ e. entry_line json e ++ line_end ∷ []) entri
 
 abbrev pub run_text : Bool → Bool → List Entry → Last → List ℕ
 run_text aux json entries last =
-    lines json (shown aux entries) ++ end_line json last ++ line_end ∷ []
+    lines json (shown_entries aux entries) ++ end_line json last ++ line_end ∷ []

@@ -3,7 +3,7 @@
 ghost use Rattle.std.specs.Prelude.{◌≡◌, IfOk};
 ghost use Rattle.dioc_terms.specs.Plain.{plain};
 ghost use Rattle.rule_checks.specs.Refusals.{IsAccepted};
-ghost use Rattle.aioc_top.specs.Replies.{check_line, done, reply_of};
+ghost use Rattle.aioc_top.specs.Replies.{check_line, done_reply, reply_of};
 
 use crate::replies::{End, Written};
 use dioc_terms::{Bundle, Memory};
@@ -15,7 +15,8 @@ use text_pieces::{write_bytes, write_number};
 /// choreography, of its rules, and of the changes of its script.
 pub fn check(alloc: Global, bundle: &Bundle) -> Result<Written, Memory>
     requires accepted { IsAccepted (plain bundle.now) }
-    ensures { IfOk result (λ written. reply_of written ≡ done (check_line (plain bundle.now))) }
+    ensures { IfOk result (λ written. reply_of written
+        ≡ done_reply (check_line (plain bundle.now))) }
 {
     let mut text = Vec::new(alloc);
     write_bytes(b"accepted: roles ", &mut text)?;

@@ -1,6 +1,6 @@
 -- A command that reads nothing leaves the source as it was.
 use Rattle.std.proofs.Common.{[], refl, sym, ap, subst}
-use Rattle.aioc_top.specs.Calls.{Reads}
+use Rattle.aioc_top.specs.Calls.{CommandReads}
 use Rattle.aioc_top.specs.Replies.{reply_of}
 use Rattle.aioc_top.specs.Verdicts.{Comes, Replied}
 use Rattle.aioc_top.proofs.reading.answer.Goals as goal
@@ -11,6 +11,6 @@ returns-in-Ok-clause-reply g c =
     let verdict = Replied (reply_of c.in-Ok.written) in
     record {
       bytes = [];
-      read = subst (λ asked. Reads asked verdict [] source source) (sym c.in-Gen.is) refl;
+      read = subst (λ asked. CommandReads asked verdict [] source source) (sym c.in-Gen.is) refl;
       comes = subst (λ asked. Comes asked [] verdict) (sym c.in-Gen.is) (ap Replied c.in-Ok.ensures);
     }

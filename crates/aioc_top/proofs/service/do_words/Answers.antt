@@ -1,6 +1,6 @@
 -- Only commands that are built are asked for.
 use Rattle.std.proofs.Common.{◌≡◌, Option, Some, sym, ◌∙◌, subst}
-use Rattle.command_words.specs.Commands.{spelled}
+use Rattle.command_words.specs.Commands.{word_texts}
 use Rattle.command_words.specs.declared.commands.Command.{Command}
 use Rattle.aioc_top.specs.Calls.{Happens}
 use Rattle.aioc_top.specs.Words.{asked}
@@ -9,12 +9,12 @@ use Rattle.aioc_top.proofs.service.do_words.Goals as goal
 
 pub do_command-requires : goal.do_command-requires
 do_command-requires g c = record {
-  served = asked_served (spelled c.args.words.now) c.in-Ok-Some.command (sym c.in-Ok-Some.ensures ∙ c.in-Ok-Some.field-0-is);
+  served = asked_served (word_texts c.args.words.now) c.in-Ok-Some.command (sym c.in-Ok-Some.ensures ∙ c.in-Ok-Some.field-0-is);
 }
 
 pub returns-in-Ok-Some : goal.returns-in-Ok-Some
 returns-in-Ok-Some g c =
-    let same : asked (spelled c.args.words.now) ≡ Some c.in-Ok-Some.command = sym c.in-Ok-Some.ensures ∙ c.in-Ok-Some.field-0-is in
+    let same : asked (word_texts c.args.words.now) ≡ Some c.in-Ok-Some.command = sym c.in-Ok-Some.ensures ∙ c.in-Ok-Some.field-0-is in
     subst (λ (found : Option Command). Happens (record {
       asked = found;
       source = g.S.Source.state c.args.source.now;

@@ -13,7 +13,7 @@ use Rattle.global_follower.specs.KeptBooks.{book_of, rules_of}
 use Rattle.global_follower.specs.KeptRunning.{marked, part_term}
 use Rattle.global_follower.specs.KeptStores.{stores_of}
 use Rattle.global_follower.specs.Playing.{attempt_of}
-use Rattle.global_follower.specs.Scopes.{choice_of, chosen_body, entered}
+use Rattle.global_follower.specs.Scopes.{choice_of, chosen_body, played_scope}
 use Rattle.global_follower.proofs.ScopeLemmas.{scope_played}
 use Rattle.global_follower.proofs.scopes.play_scope.Goals as goal
 
@@ -34,7 +34,7 @@ returns-in_ok-head-in-Some c =
     let rule = c.choose-rule.result in
     let shown = c.in-Some.shown.now in
     IfOk-weaker c.enter.result
-    (λ played. attempt_of played ≡ entered (λ q. is_in q (part_term c.part.result))
+    (λ played. attempt_of played ≡ played_scope (λ q. is_in q (part_term c.part.result))
     (option_map part_term c.chosen_body-body.result))
     _
     (λ played is. is ∙ rw (c.part.ensures.text, scope.is)

@@ -1,8 +1,8 @@
 -- One for each number so far.
 use Rattle.std.proofs.Common.{◌≡◌, map}
 use Rattle.dioc_terms.specs.Bundles.{numbers_from}
-use Rattle.load_gen.specs.Pieces.{role}
+use Rattle.load_gen.specs.Pieces.{role_numbered}
 use Rattle.load_gen.proofs.rules.roles.Given as goal
 
 abbrev pub invariant-loop-j : goal.invariant-loop-j
-invariant-loop-j l = l.roles.items ≡ map role (numbers_from 0 l.j)
+invariant-loop-j l = l.roles.items ≡ map role_numbered (numbers_from 0 l.j)

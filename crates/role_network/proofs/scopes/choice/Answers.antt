@@ -5,7 +5,7 @@ use Rattle.std.proofs.lemmas.Option.{slice_get-map}
 use Rattle.dioc_terms.specs.KeptStores.{store_of}
 use Rattle.role_network.proofs.ScopeLemmas.{choice_is, choice_none}
 use Rattle.role_network.specs.KeptParts.{body_seen}
-use Rattle.role_network.specs.Scopes.{choice_by}
+use Rattle.role_network.specs.Scopes.{choice_of_body}
 use Rattle.rule_book.specs.KeptBooks.{book_of}
 use Rattle.role_network.proofs.scopes.choice.Goals as goal
 
@@ -15,7 +15,7 @@ returns-in-None c = λ rules of same.
 
 pub returns-in-Some : goal.returns-in-Some
 returns-in-Some c = λ rules of same.
-    ap (λ o. choice_by (option_map body_seen o)) c.body_at.ensures
-    ∙ ap choice_by (sym (slice_get-map body_seen c.args.bodies.now c.in-Some.number))
-    ∙ ap (λ l. choice_by (slice_get l c.in-Some.number)) same
+    ap (λ o. choice_of_body (option_map body_seen o)) c.body_at.ensures
+    ∙ ap choice_of_body (sym (slice_get-map body_seen c.args.bodies.now c.in-Some.number))
+    ∙ ap (λ l. choice_of_body (slice_get l c.in-Some.number)) same
     ∙ choice_is rules (book_of c.args.book.now) c.args.head.now (store_of c.args.store.now) c.in-Some.number (sym (c.choose.ensures rules of) ∙ c.in-Some.is)

@@ -4,7 +4,7 @@ use Rattle.dioc_terms.specs.Processes.{process, letters}
 use Rattle.dioc_terms.specs.Terms.{term}
 use Rattle.process_steps.specs.Steps.{FromBook}
 use Rattle.role_network.proofs.ScopeLemmas.{replaced_brings}
-use Rattle.scope_leader.specs.Plans.{part_of, begins}
+use Rattle.scope_leader.specs.Plans.{part_of, begin_messages}
 use Rattle.role_network.proofs.scopes.replace_scope.Goals as goal
 
 pub returns-clause-steps : goal.returns-clause-steps
@@ -16,4 +16,4 @@ returns-clause-steps g c = λ decide decided.
     (replaced_brings c.args.cast.now (g.R.Runs.local c.args.state.now) c.args.act.now led.0 c.args.head decide c.args.rule.now.name (suc c.args.updates.now) body
     (process c.in_ok-parts.parts.own) (letters c.in_ok-parts.parts.tell) led.1 (c.requires.tells led.0 led.1) led.2 decided
     (c.in_ok-parts.ensures.own ∙ ap₂ (λ cast n. part_of cast c.args.head n body c.args.head.leader) c.as_slice.ensures next)
-    (c.in_ok-parts.ensures.tell ∙ ap₂ (λ cast n. begins cast c.args.head n body) c.as_slice.ensures next))
+    (c.in_ok-parts.ensures.tell ∙ ap₂ (λ cast n. begin_messages cast c.args.head n body) c.as_slice.ensures next))

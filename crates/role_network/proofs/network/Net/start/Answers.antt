@@ -7,7 +7,7 @@ use Rattle.dioc_terms.specs.Bundles.{adds}
 use Rattle.dioc_terms.specs.Plain.{plain, plain_rule}
 use Rattle.role_network.proofs.StartLemmas.{adds_rules, bodies_of, roles_of_cast, stands_started}
 use Rattle.role_network.specs.KeptParts.{body_seen, due_seen}
-use Rattle.role_network.specs.Standing.{Parts, Stands, body_of, due_of}
+use Rattle.role_network.specs.Standing.{Parts, HoldsRun, body_of, due_of}
 use Rattle.role_network.proofs.network.Net.start.Goals as goal
 
 pub keep_script-requires : goal.keep_script-requires
@@ -23,7 +23,7 @@ pub invariant_of-result : goal.invariant_of-result
 invariant_of-result g c =
     let b = plain c.args.bundle.now in
     let parts : Parts = record { cast = c.in_ok-cast.cast; locals = map g.R.Runs.local c.in_ok-roles.roles.items; mail = c.new-mail.result; book = c.in_ok-book.book; bodies = map body_seen c.new-bodies.result; coming = map due_seen c.in_ok-coming.coming.items; updates = 0; history = c.new-history.result.entries } in
-    subst (λ (of : Bundle). Stands (plain of) c.args.limit parts) (sym c.of-of.ensures)
+    subst (λ (of : Bundle). HoldsRun (plain of) c.args.limit parts) (sym c.of-of.ensures)
     (stands_started b c.args.limit parts c.requires c.in_ok-cast.ensures c.in_ok-roles.ensures c.new-mail.ensures
     c.in_ok-book.ensures.opening c.in_ok-book.ensures.of c.in_ok-book.ensures.coming
     (ap (map body_seen) c.new-bodies.ensures ∙ c.in_ok-bodies.ensures ∙ ap (map (λ rule. body_of (plain_rule rule))) c.as_slice.ensures ∙ bodies_of c.args.bundle.now.rules)
