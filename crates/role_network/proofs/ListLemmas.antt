@@ -8,19 +8,27 @@ use Rattle.dioc_terms.specs.declared.names.Role.{Role}
 use Rattle.dioc_terms.specs.Messages.{visible}
 use Rattle.dioc_terms.specs.Plain.{PlainBundle, setting}
 use Rattle.marked_laws.specs.Network.{Network, network_ended}
+use Rattle.dpoc_process.specs.LocalStates.{LocalState, offered}
 use Rattle.net_core.specs.declared.moves.Move.TheVariants as move
 use Rattle.net_core.specs.Schedule.{change_due, is_ready, moves, role_moves}
 use Rattle.process_steps.specs.Steps.{offers}
 use Rattle.role_network.proofs.ChangeLemmas.{next_due}
-use Rattle.role_network.proofs.NetLemmas.{network_is, ready_is}
+use Rattle.role_network.proofs.NetLemmas.{local_is, network_is, ready_is}
 use Rattle.role_network.specs.Deeds.{is_there}
-use Rattle.role_network.specs.MovesIn.{local_moves, moves_in, is_first_due}
+use Rattle.role_network.specs.MovesIn.{ReadyAt, is_first_due, local_moves, moves_in, ready_of}
 use Rattle.role_network.specs.Nets.{network_at}
 use Rattle.role_network.specs.Standing.{ScriptedChange, Parts, HoldsRun, due_of, local_in}
 
 module _ (b : PlainBundle) (limit : ℕ) (parts : Parts) (is : HoldsRun b limit parts) where
   ready_alike : (a : Act) → is_there a parts.mail ≡ is_ready is.network a
   ready_alike a = ready_is b limit parts is a
+
+  -- what a role can do now, by its local and the mail
+  pub ready_is_of : (q : Role) (acts : List Act) → ReadyAt parts.cast parts.locals parts.mail q acts → acts ≡ ready_of (network_at b parts.history) q
+  ready_is_of q acts at =
+      at.ready ∙ ap (λ (s : LocalState). filter (λ a. is_there a parts.mail) (offered s)) (local_is b limit parts is at.is_at.place q at.local at.is_at.at at.is_at.here)
+      ∙ (λ j. filter (λ a. ready_alike a j) (offers q (is.network.processes q)))
+      ∙ ap (λ (N : Network). ready_of N q) (sym (network_is b parts.history is.network is.runs))
 
   local_alike : (q : Role) → local_moves q (local_in is.network q) parts.mail ≡ role_moves is.network q
   local_alike q i = map (move.Act q) (filter (λ a. ready_alike a i) (offers q (is.network.processes q)))

@@ -1,11 +1,15 @@
 -- The moves that the roles of a net have, by their locals and the mail.
-use Rattle.std.specs.Prelude.{ℕ, List, [], ◌∷◌, ◌++◌, map, filter, Bool, false, nat_le}
+use Rattle.std.specs.Prelude.{◌≡◌, ℕ, List, [], ◌∷◌, ◌++◌, map, filter, Bool, false, nat_le}
 use Rattle.dioc_terms.specs.declared.names.Role.{Role}
+use Rattle.dioc_terms.specs.declared.entries.Act.{Act}
 use Rattle.dpoc_process.specs.LocalStates.{LocalState, offered}
+use Rattle.marked_laws.specs.Network.{Network}
 use Rattle.net_core.specs.declared.moves.Move.{Move}
 use Rattle.net_core.specs.declared.moves.Move.TheVariants as move
+use Rattle.net_core.specs.Schedule.{is_ready}
+use Rattle.process_steps.specs.Steps.{offers}
 use Rattle.role_mailbox.specs.declared.mail.Mail.{Mail}
-use Rattle.role_network.specs.Deeds.{is_there}
+use Rattle.role_network.specs.Deeds.{IsAt, is_there}
 use Rattle.role_network.specs.Standing.{ScriptedChange}
 
 -- the acts that a role offers, without takes whose message isn't pending
@@ -21,3 +25,14 @@ moves_in _ _ mail = []
 abbrev pub is_first_due : List ScriptedChange → ℕ → Bool
 is_first_due [] visible_entries = false
 is_first_due (due ∷ rest) visible_entries = nat_le due.after visible_entries
+
+-- the acts that a role can do now: those that it offers, without takes whose message isn't pending
+abbrev pub ready_of : Network → Role → List Act
+ready_of N q = filter (is_ready N) (offers q (N.processes q))
+
+-- the role is at a place, and these are the acts that it can do now
+pub record ReadyAt (cast : List Role) (locals : List LocalState) (mail : Mail) (q : Role)
+    (acts : List Act) : Type 0 where
+  pub local : LocalState
+  pub is_at : IsAt cast locals q local
+  pub ready : acts ≡ filter (λ a. is_there a mail) (offered local)

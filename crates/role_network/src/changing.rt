@@ -15,7 +15,7 @@ use trace_book::History;
 
 /// Makes the next of the changes that are still to come. After a refusal they, the book and the
 /// history are as they were.
-pub(crate) fn make_change(
+pub fn make_change(
     script: &mut VecDeque<Coming>,
     book: &mut Book,
     history: &mut History,

@@ -11,7 +11,10 @@ mod parts;
 mod scopes;
 mod starting;
 
+pub use bodies::Coming;
+pub use changing::make_change;
 pub use faults::ChangeFault;
 pub use laws::steps_run;
+pub use listing::is_first_due;
 pub use network::Net;
-pub use starting::Begins;
+pub use starting::{Begins, keep_script};

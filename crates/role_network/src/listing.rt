@@ -1,13 +1,16 @@
 //! The moves of a net, listed.
 
-ghost use Rattle.std.specs.Prelude.{◌≡◌, ◌++◌, [], ◌∷◌, if◌then◌else◌, IfOk, OnOk, map};
+ghost use Rattle.std.specs.Prelude.{◌≡◌, ◌++◌, [], ◌∷◌, true, filter, if◌then◌else◌, IfOk, OnOk, length, map};
+ghost use Rattle.dioc_terms.specs.Equality.{member};
+ghost use Rattle.dpoc_process.specs.LocalStates.{offered};
 ghost use Rattle.net_core.specs.declared.moves.Move.TheVariants as move;
+ghost use Rattle.role_network.specs.Deeds.{is_there};
 ghost use Rattle.role_network.specs.KeptParts.{due_seen};
-ghost use Rattle.role_network.specs.MovesIn.{local_moves, moves_in, is_first_due};
+ghost use Rattle.role_network.specs.MovesIn.{ReadyAt, local_moves, moves_in, is_first_due};
 
 use crate::bodies::Coming;
-use crate::parts::is_there;
-use dioc_terms::{Memory, Role, Roles};
+use crate::parts::{is_there, place_of};
+use dioc_terms::{Act, Memory, Role, Roles};
 use dpoc_process::Runs;
 use net_core::Move;
 use role_mailbox::Mail;
@@ -15,7 +18,7 @@ use std::alloc::Global;
 use std::collections::VecDeque;
 
 /// Whether the first of the changes may stand after so many visible entries.
-pub(crate) fn is_first_due(script: &VecDeque<Coming>, visible_entries: u64) -> bool
+pub fn is_first_due(script: &VecDeque<Coming>, visible_entries: u64) -> bool
     ensures { result ≡ is_first_due (map due_seen script.now.items) visible_entries }
 {
     match script.front() {
@@ -87,12 +90,48 @@ fn add_acts<R: Runs>(
     ensures { OnOk result (moves.new.items
         ≡ moves.old.items ++ local_moves role.now (R.local state.now) mail.now) }
 {
-    let acts = state.acts(alloc)?;
+    let acts = ready_acts(alloc, state, mail)?;
     for act in acts {
-        if is_there(mail, &act) {
-            let role = role.copy(alloc)?;
-            moves.push(Move::Act(role, act))?;
-        }
+        let role = role.copy(alloc)?;
+        moves.push(Move::Act(role, act))?;
     }
     Ok(())
+}
+
+/// The acts that a role of the cast can do now.
+pub(crate) fn ready_at<R: Runs>(
+    alloc: Global,
+    cast: &[Role],
+    roles: &[R],
+    mail: &Mail,
+    role: &Role,
+) -> Result<Vec<Act>, Memory>
+    requires lengths { length roles.now ≡ length cast.now }
+    requires member { member role.now cast.now ≡ true }
+    ensures { IfOk result
+        (λ acts. ReadyAt cast.now (map R.local roles.now) mail.now role.now acts.items) }
+{
+    let Some(at) = place_of(cast, role) else {
+        unreachable!()
+    };
+    let state = &roles[at];
+    match ready_acts(alloc, state, mail) {
+        Ok(acts) => Ok(acts),
+        Err(fault) => Err(fault),
+    }
+}
+
+/// The acts that a role offers, without takes whose message isn't there.
+fn ready_acts<R: Runs>(alloc: Global, state: &R, mail: &Mail) -> Result<Vec<Act>, Memory>
+    ensures { IfOk result (λ acts. acts.items
+        ≡ filter (λ a. is_there a mail.now) (offered (R.local state.now))) }
+{
+    let acts = state.acts(alloc)?;
+    let mut ready = Vec::new(alloc);
+    for act in acts {
+        if is_there(mail, &act) {
+            ready.push(act)?;
+        }
+    }
+    Ok(ready)
 }

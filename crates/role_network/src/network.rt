@@ -7,6 +7,7 @@ ghost use Rattle.marked_laws.specs.Network.{network_ended};
 ghost use Rattle.net_core.specs.Schedule.{change_due, moves};
 ghost use Rattle.process_steps.specs.Steps.{ended};
 ghost use Rattle.role_network.specs.Changes.{IsChangeOf, change_fault};
+ghost use Rattle.role_network.specs.MovesIn.{ready_of};
 ghost use Rattle.role_network.specs.Nets.{IsSoundRun, bundle_of, network_of};
 ghost use Rattle.role_network.specs.Steps.{IsStepOf, fault_of};
 
@@ -14,7 +15,7 @@ use crate::bodies::{Coming, RuleBody};
 use crate::changing::make_change;
 use crate::faults::ChangeFault;
 use crate::laws::steps_run;
-use crate::listing::{is_first_due, list_moves};
+use crate::listing::{is_first_due, list_moves, ready_at};
 use crate::parts::{all_done, is_done_at, step_role};
 use crate::starting::{Begins, keep_bodies, keep_script, role_states};
 use dioc_terms::{Act, Bundle, Items, Memory, Role, Roles};
@@ -94,6 +95,31 @@ impl<R: Runs> Net<R> {
         self.limit
     }
 
+    /// The allocator that its memory comes from.
+    pub fn allocator(&self) -> Global {
+        self.alloc
+    }
+
+    /// The roles, in the cast's order.
+    pub fn cast(&self) -> &[Role]
+        ensures { result.now ≡ (bundle_of self.now).cast }
+    {
+        self.cast.as_slice()
+    }
+
+    /// The acts that a role of the cast can do now: those that its process offers, from left to
+    /// right in it, without takes whose message isn't pending.
+    pub fn ready_acts(&self, role: &Role) -> Result<Vec<Act>, Memory>
+        requires { member role.now (bundle_of self.now).cast ≡ true }
+        ensures { IfOk result (λ acts. acts.items ≡ ready_of (network_of self.now) role.now) }
+    {
+        let cast = self.cast.as_slice();
+        match ready_at(self.alloc, cast, self.roles.as_slice(), &self.mail, role) {
+            Ok(acts) => Ok(acts),
+            Err(fault) => Err(fault),
+        }
+    }
+
     /// How many updates were made.
     pub fn updates(&self) -> u32
         ensures { result ≡ (network_of self.now).updates }
@@ -140,7 +166,7 @@ impl<R: Runs> Net<R> {
     }
 
     /// Whether the script's next change is due and the network has not ended.
-    fn is_change_due(&self) -> bool
+    pub fn is_change_due(&self) -> bool
         ensures { result ≡ (change_due (bundle_of self.now).script (network_of self.now).changes
             (network_of self.now).visible
             && not (network_ended (bundle_of self.now).cast (network_of self.now))) }

@@ -112,7 +112,7 @@ pub(crate) fn keep_bodies(alloc: Global, rules: &[Rule]) -> Result<Vec<RuleBody>
 }
 
 /// The changes of the script, in their order.
-pub(crate) fn keep_script(
+pub fn keep_script(
     alloc: Global,
     rules: &[Rule],
     script: &[Timed],
