@@ -11,4 +11,3 @@ mod texts;
 
 pub use bundles::make;
 pub use laws::made_are_accepted;
-
