@@ -14,6 +14,7 @@ mod rules;
 mod services;
 mod sizes;
 mod spellings;
+mod sweeps;
 mod tokenizing;
 mod traces;
 mod values;
@@ -29,7 +30,8 @@ pub fn answer(alloc: Global, case: &Case) -> Result<Vec<u8>, Problem> {
     let is_answered = answer_piece(alloc, case, &mut out)?
         || answer_choreography(alloc, case, &mut out)?
         || answer_message(alloc, case, &mut out)?
-        || answer_whole(alloc, case, &mut out)?;
+        || answer_whole(alloc, case, &mut out)?
+        || answer_service(alloc, case, &mut out)?;
     if is_answered {
         Ok(out)
     } else {
@@ -88,7 +90,20 @@ fn answer_whole(alloc: Global, case: &Case, out: &mut Vec<u8>) -> Result<bool, P
         b"write_bundle" => bundles::answer_written(alloc, case, out)?,
         b"accept" => refusals::answer(alloc, case, out)?,
         b"read_words" => words::answer(alloc, case, out)?,
+        _ => return Ok(false),
+    }
+    Ok(true)
+}
+
+// Answers a call of the top call, and says whether it is one.
+fn answer_service(alloc: Global, case: &Case, out: &mut Vec<u8>) -> Result<bool, Problem> {
+    match case.call.as_slice() {
         b"serve_alone" => services::answer(alloc, case, out)?,
+        b"serve_over" => services::answer_over(alloc, case, out)?,
+        b"serve_endless" => services::answer_endless(alloc, case, out)?,
+        b"each_read" => sweeps::answer_reads(alloc, case, out)?,
+        b"each_write" => sweeps::answer_writes(alloc, case, out)?,
+        b"each_front" => sweeps::answer_fronts(alloc, case, out)?,
         _ => return Ok(false),
     }
     Ok(true)

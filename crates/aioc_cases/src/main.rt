@@ -7,6 +7,8 @@
 
 mod calls;
 mod cases;
+mod devices;
+mod endless;
 mod expansions;
 mod problems;
 mod tables;

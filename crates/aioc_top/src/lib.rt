@@ -13,6 +13,3 @@ mod words;
 
 pub use service::serve_alone;
 pub use status::Status;
-
-#[cfg(test)]
-mod tests;
