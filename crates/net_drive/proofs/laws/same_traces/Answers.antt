@@ -1,0 +1,6 @@
+use Rattle.net_drive.proofs.Exactness.{same_traces}
+use Rattle.net_drive.proofs.laws.same_traces.Goals as goal
+
+pub returns : goal.returns
+returns c = let k = c.known.ensures in
+    same_traces (record { mentions = k.mentions; casts = k.casts; bodies = k.bodies; ends = k.ends; stamps = k.stamps }) k.offered k.readiness k.auxiliary k.simulation k.settlement
