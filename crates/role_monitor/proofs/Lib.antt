@@ -1,0 +1,9 @@
+pub mod Books
+pub mod Listings
+pub mod Goods
+pub mod GoodSteps
+pub mod Mailboxes
+pub mod Truths
+pub mod Shown
+pub mod Whole
+pub mod Examples
