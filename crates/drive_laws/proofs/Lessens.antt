@@ -170,21 +170,33 @@ module _ (cast : List Role) where
     lessens (leaves e closed) fine h = absurd (both_ways false refl h)
     lessens (tells {k = k} {phases = phases} {q = t} {qs = ts} e) fine h =
         let head = untold_head cast k phases t ts e in
-        omega (arith, lowers k phases t Told (is_follower cast k t fine.1.proper head.1 head.2)
-        (subst (λ x. weight k Told < weight k x) (sym (waits_phase (phases t) head.0)) (told_weight k)))
+        omega (
+          arith,
+          lowers k phases t Told (is_follower cast k t fine.1.proper head.1 head.2)
+              (subst (λ x. weight k Told < weight k x) (sym (waits_phase (phases t) head.0)) (told_weight k)),
+        )
     lessens (hears {k = k} {phases = phases} {q = t} e) fine h =
         let who = fine.1.known t (ap waits e) in
-        omega (arith, lowers k phases t Inside (is_follower cast k t fine.1.proper who.0 who.1)
-        (subst (λ x. weight k Inside < weight k x) (sym e) (heard_weight k)))
+        omega (
+          arith,
+          lowers k phases t Inside (is_follower cast k t fine.1.proper who.0 who.1)
+              (subst (λ x. weight k Inside < weight k x) (sym e) (heard_weight k)),
+        )
     lessens (works b s) fine h = omega (arith, lessens s fine.0 h)
     lessens (arrives {k = k} {phases = phases} {q = t} b e f) fine h =
         let who = fine.1.known t (ap waits e) in
-        omega (arith, lowers k phases t Sent (is_follower cast k t fine.1.proper who.0 who.1)
-        (subst (λ x. weight k Sent < weight k x) (sym e) (sent_weight b)))
+        omega (
+          arith,
+          lowers k phases t Sent (is_follower cast k t fine.1.proper who.0 who.1)
+              (subst (λ x. weight k Sent < weight k x) (sym e) (sent_weight b)),
+        )
     lessens (gathers {k = k} {phases = phases} {q = t} {qs = ts} b e f) fine h =
         let head = ungone_head cast k phases t ts e in
-        omega (arith, lowers k phases t Gone (is_follower cast k t fine.1.proper head.1 head.2)
-        (subst (λ x. weight k Gone < weight k x) (sym f) (gone_weight b)))
+        omega (
+          arith,
+          lowers k phases t Gone (is_follower cast k t fine.1.proper head.1 head.2)
+              (subst (λ x. weight k Gone < weight k x) (sym f) (gone_weight b)),
+        )
     lessens (keeps e) fine h = absurd (both_ways false refl h)
     lessens (replaces e) fine h = absurd (both_ways false refl h)
     lessens (frees {i = i} {r = r} {I = I} {extra = extra} {props = props} {level = level} {phases = phases} {q = t} {qs = ts} closed f) fine h =
@@ -192,8 +204,11 @@ module _ (cast : List Role) where
         let in_it : member t qs ≡ true = subst (λ l. member t l ≡ true) (sym f) (member_here t ts) in
         let less : there (updated t Told all_wait t) < back (phases t) + 2 =
         subst (λ x. there x < back (phases t) + 2) (sym (updated_here t Told all_wait)) (omega arith) in
-        omega (arith, total_less (λ q. there (updated t Told all_wait q)) (λ q. back (phases q) + 2) qs t in_it less
-        (λ q. omega (arith, there_bound (updated t Told all_wait q))))
+        omega (
+          arith,
+          total_less (λ q. there (updated t Told all_wait q)) (λ q. back (phases q) + 2) qs t in_it less
+              (λ q. omega (arith, there_bound (updated t Told all_wait q))),
+        )
 
     -- a visible one lets it grow by what one construct has at most
     pub grows : {M N : Mark} {d : Deed} → Steps cast stores choices updates M d N → is_aux (entry_of d) ≡ false → left N ≤ left M + 6 * length cast

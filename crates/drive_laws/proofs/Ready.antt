@@ -126,18 +126,26 @@ module _ (cast : List Role) (stores : Role → Store) (choices : ScopeHead → B
       let qs : List Role = others cast r (term.Scope i r I extra props level) in
       let P : Process = process.ScopeLead head qs (projected cast I r) in
       doable_that E e q r (projected cast (term.Scope i r I extra props level)) (when_does (entry_eq e E) _ h).0 who refl
-      (doable_same r P (projected cast (term.Scope i r I extra props level) r) E (sym (cond-true (role_eq r r) P _ (role_itself r)))
-      (act.Scope i, Chooses i r chosen.Keep, refl, refl,
-      (_, when_true (act_eq (act.Scope i) (act.Scope i)) _ (act_itself (act.Scope i)) ∙ ap (begin_scope r i qs (projected cast I r)) (decides r head refl ∙ ap (decision cast updates head) is))))
+      (doable_same r P (projected cast (term.Scope i r I extra props level) r) E (sym (cond-true (role_eq r r) P _ (role_itself r))) (
+        act.Scope i,
+        Chooses i r chosen.Keep,
+        refl,
+        refl,
+        (_, when_true (act_eq (act.Scope i) (act.Scope i)) _ (act_itself (act.Scope i)) ∙ ap (begin_scope r i qs (projected cast I r)) (decides r head refl ∙ ap (decision cast updates head) is)),
+      ))
   chooses_first i r I extra props level e q who (TakesRule name B) is h =
       let head : ScopeHead = head_of cast i r I extra props level in
       let E : Entry = entry.Scope i r (chosen.Rule name (suc updates)) in
       let qs : List Role = others cast r (term.Scope i r I extra props level) in
       let P : Process = process.ScopeLead head qs (projected cast I r) in
       doable_that E e q r (projected cast (term.Scope i r I extra props level)) (when_does (entry_eq e E) _ h).0 who refl
-      (doable_same r P (projected cast (term.Scope i r I extra props level) r) E (sym (cond-true (role_eq r r) P _ (role_itself r)))
-      (act.Scope i, Chooses i r (chosen.Rule name (suc updates)), refl, refl,
-      (_, when_true (act_eq (act.Scope i) (act.Scope i)) _ (act_itself (act.Scope i)) ∙ ap (begin_scope r i qs (projected cast I r)) (decides r head refl ∙ ap (decision cast updates head) is))))
+      (doable_same r P (projected cast (term.Scope i r I extra props level) r) E (sym (cond-true (role_eq r r) P _ (role_itself r))) (
+        act.Scope i,
+        Chooses i r (chosen.Rule name (suc updates)),
+        refl,
+        refl,
+        (_, when_true (act_eq (act.Scope i) (act.Scope i)) _ (act_itself (act.Scope i)) ∙ ap (begin_scope r i qs (projected cast I r)) (decides r head refl ∙ ap (decision cast updates head) is)),
+      ))
 
   -- of a term that nobody has begun
   still_ready : (I : Term) → Proper cast I → (e : Entry) (r : Role) → doer e ≡ Some r → {x : Effect} {K : Running}
@@ -284,10 +292,17 @@ module _ (cast : List Role) (stores : Role → Store) (choices : ScopeHead → B
   flying_ready i o a y b z v fine agrees =
       let j : Key = key a b i (Op o) in
       doable_same b (process.Recv i o a z) (place cast (Flying i o a y b z v) b) (entry.Take (operation a b i o) (Some z))
-      (sym (cond-false (role_eq b a) process.Skip _ (role_swap a b fine.no_self) ∙ cond-true (role_eq b b) (process.Recv i o a z) process.Skip (role_itself b)))
-      (act.Take j, Takes j (Some z) (Val v), refl, refl,
-      (process.Skip, when_true (act_eq (act.Take j) (act.Take j)) _ (act_itself (act.Take j))
-      ∙ ap (take_value j z) (given_pending mails (decide b) j (Val v) (agrees j refl ∙ cond-true (key_eq j j) (Some (Val v)) None (key_itself j)))))
+      (sym (cond-false (role_eq b a) process.Skip _ (role_swap a b fine.no_self) ∙ cond-true (role_eq b b) (process.Recv i o a z) process.Skip (role_itself b))) (
+        act.Take j,
+        Takes j (Some z) (Val v),
+        refl,
+        refl,
+        (
+          process.Skip,
+          when_true (act_eq (act.Take j) (act.Take j)) _ (act_itself (act.Take j))
+              ∙ ap (take_value j z) (given_pending mails (decide b) j (Val v) (agrees j refl ∙ cond-true (key_eq j j) (Some (Val v)) None (key_itself j))),
+        ),
+      )
 
   -- the next pick of a loop, whose roles have all come to the end of the turn
   turn_ready : (i : Index) (s : Role) (g : Expression) (I : Term) (phases : Phases) (M : Mark) → Closed cast (Turning i s g I) phases M

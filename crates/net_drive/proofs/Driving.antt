@@ -229,8 +229,7 @@ module _ (known : Known) (offered_steps : OffersAreSteps) (b : PlainBundle) (sou
             (readiness b H N S follows.0 e sound runs (none_quiet known offered_steps b sound H N runs none) played follows.1 settled.0) in
             absurd (both_ways (may_come N e) waits (step_may known offered_steps b sound H N runs e ready.0 ready.1))
         by_first waits (Some outcome) some =
-            let more = drives_aux count rest H N S (e ∷ t) runs played plays settled room outcome some in
-            (
+            let more = drives_aux count rest H N S (e ∷ t) runs played plays settled room outcome some in (
               outcome.entry ∷ more.0,
               waits_on (setting b) count N e t waits
                   ∙ ap (option_and_then (λ (o : NextNetwork). put_before o.entry (driven_from (setting b) count o.network (e ∷ t)))) some

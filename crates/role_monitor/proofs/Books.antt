@@ -111,11 +111,12 @@ module _ (rules : List PlainRule) where
   add_apart m rule (n ∷ ns) at apart = ⊎_elim
       (λ yes. subst Apart (sym (cond-true (is_named rules rule.name n) (m ∷ ns) (n ∷ add_rule rules m rule.name ns) yes))
       (λ name named. apart.0 name (subst (λ x. is_named rules x n ≡ true) (named_same m rule name at named) yes), apart.1))
-      (λ no. subst Apart (sym (cond-false (is_named rules rule.name n) (m ∷ ns) (n ∷ add_rule rules m rule.name ns) no))
-      (λ name named. add_none m rule name ns
-      (false_from_ne_true (is_named rules name m) (λ also. both_ways (is_named rules rule.name n) no (subst (λ x. is_named rules x n ≡ true) (sym (named_same m rule name at also)) named)))
-      (apart.0 name named),
-      add_apart m rule ns at apart.1))
+      (λ no. subst Apart (sym (cond-false (is_named rules rule.name n) (m ∷ ns) (n ∷ add_rule rules m rule.name ns) no)) (
+        λ name named. add_none m rule name ns
+            (false_from_ne_true (is_named rules name m) (λ also. both_ways (is_named rules rule.name n) no (subst (λ x. is_named rules x n ≡ true) (sym (named_same m rule name at also)) named)))
+            (apart.0 name named),
+        add_apart m rule ns at apart.1,
+      ))
       (cases_Bool (is_named rules rule.name n))
 
   abbrev added_option : ℕ → List ℕ → Option PlainRule → List ℕ

@@ -79,8 +79,15 @@ module _ (me : Role) (s : Store) (a : Act) (given : Given) where
 
   lift : (P Q : Process) {i : Index} {name : List ℕ} {n : ℕ} → ((R : Process) → acting me a P ≡ Some R → acting me a Q ≡ Some R) → Begun P i name n → Begun Q i name n
   lift P Q along g = record {
-    head = g.head; others = g.others; body = g.body; decide = g.decide; part = g.part;
-    acts = along (ScopeLead g.head g.others g.body) g.acts; index = g.index; given_is = g.given_is; replaces = g.replaces;
+    head = g.head;
+    others = g.others;
+    body = g.body;
+    decide = g.decide;
+    part = g.part;
+    acts = along (ScopeLead g.head g.others g.body) g.acts;
+    index = g.index;
+    given_is = g.given_is;
+    replaces = g.replaces;
   }
 
   module _ (i : Index) (r : Role) (name : List ℕ) (n : ℕ) where
@@ -111,7 +118,11 @@ module _ (me : Role) (s : Store) (a : Act) (given : Given) where
         → decide head ≡ what → begin_scope me head.index qs P what ≡ Does chose R → Begun (ScopeLead head qs P) i name n
     begun_scope head qs P decide Keeps is got decides h = cc
     begun_scope head qs P decide (Replaces name' n' part) is got decides h = record {
-      head = head; others = qs; body = P; decide = decide; part = part;
+      head = head;
+      others = qs;
+      body = P;
+      decide = decide;
+      part = part;
       acts = whole_acts me a head qs P is;
       index = cc;
       given_is = got;

@@ -79,13 +79,15 @@ module _ (b : Setting) (us : List Update) (N : Network) (truth : Truth b us N) (
       (sym (ap₂ (judged_by b M e) does acts ∙ cond-true (role_eq q q) (own_entry b M e a) (Some (others_entry b M e)) (role_itself q)) ∙ kept) in
       let d = own.0 in
       let P = own.1 in
-      let out : NextNetwork = record { entry = entry_of d; network = after_deed N q d P } in
-      (d, P,
-      stepped_is b N e ∙ (ap₂ (stepped_by b N e) does acts
-      ∙ (ap (network_after e) (act_outcome b N q a
-      ∙ ap (deed_outcome N q) (ap (step q (N.stores q) (N.processes q) a) (sym (given_alike b us N truth q a (take_doer e a q does acts))) ∙ own.2))
-      ∙ cond-true (entry_eq e (entry_of d)) (Some out.network) None own.3)),
-      entry_same e (entry_of d) own.3)
+      let out : NextNetwork = record { entry = entry_of d; network = after_deed N q d P } in (
+        d,
+        P,
+        stepped_is b N e ∙ (ap₂ (stepped_by b N e) does acts
+            ∙ (ap (network_after e) (act_outcome b N q a
+            ∙ ap (deed_outcome N q) (ap (step q (N.stores q) (N.processes q) a) (sym (given_alike b us N truth q a (take_doer e a q does acts))) ∙ own.2))
+            ∙ cond-true (entry_eq e (entry_of d)) (Some out.network) None own.3)),
+        entry_same e (entry_of d) own.3,
+      )
 
 -- a change that stands as the script says is a step of the network
 stands_some : (b : Setting) (e : Entry) (seen : ℕ) (o : Option Timed)
@@ -104,11 +106,13 @@ change_step_is b N e nobody stands =
     let found = stands_some b e N.visible (slice_get b.script N.changes) stands in
     let timed = found.0 in
     let shown_entry = that_some e (change_entry b.rules timed.change) (sym (shows_is b.rules e timed.change) ∙ found.2) in
-    let out : NextNetwork = record { entry = e; network = after_change b N timed } in
-    (timed, stepped_is b N e ∙ (ap (λ o. stepped_by b N e o (act_of e)) nobody
-    ∙ (ap (network_after e) (change_outcome b N ∙ (ap (script_outcome b N) found.1
-    ∙ (ap (entry_outcome b N timed) shown_entry ∙ cond-true (nat_le timed.after N.visible) (Some out) None found.3)))
-    ∙ cond-true (entry_eq e e) (Some out.network) None (entry_itself e))))
+    let out : NextNetwork = record { entry = e; network = after_change b N timed } in (
+      timed,
+      stepped_is b N e ∙ (ap (λ o. stepped_by b N e o (act_of e)) nobody
+          ∙ (ap (network_after e) (change_outcome b N ∙ (ap (script_outcome b N) found.1
+          ∙ (ap (entry_outcome b N timed) shown_entry ∙ cond-true (nat_le timed.after N.visible) (Some out) None found.3)))
+          ∙ cond-true (entry_eq e e) (Some out.network) None (entry_itself e))),
+    )
 
 -- an entry is a step of the network, and the changes behind it stand
 record Went (b : Setting) (N : Network) (e : Entry) (es : List Entry) : Type 0 where
@@ -134,9 +138,10 @@ module _ (b : PlainBundle) (sound : IsSound b) (unique : UniqueKeys) (extend : E
       let parts = then_some (λ next. run_from s next es) (network_step s N e) N' h in
       let M = parts.0 in
       let a = along before us N M e runs truth parts.1 in
-      let rest = goes_from es (before ++ e ∷ []) a.updates M N' (next_reached before N M e runs parts.1) a.truth parts.2 r (suc n) in
-      (ap (λ o. is_some (option_and_then (λ next. mon_from s next es) o)) (a.all r) ∙ rest.0,
-      ap (λ o. option_map_or (λ next. deviates_from s next (suc n) es) o (Some n)) (a.all r) ∙ rest.1)
+      let rest = goes_from es (before ++ e ∷ []) a.updates M N' (next_reached before N M e runs parts.1) a.truth parts.2 r (suc n) in (
+        ap (λ o. is_some (option_and_then (λ next. mon_from s next es) o)) (a.all r) ∙ rest.0,
+        ap (λ o. option_map_or (λ next. deviates_from s next (suc n) es) o (Some n)) (a.all r) ∙ rest.1,
+      )
 
   went_role : (us : List Update) (N : Network) (e : Entry) (es : List Entry) → Truth s us N → (q : Role) (a : Act) → doer e ≡ Some q → act_of e ≡ Some a → is_of_cast b.cast e ≡ true
       → ((r : Role) → member r b.cast ≡ true → IsSome (mon_from s (shown r us N) (e ∷ es))) → changes_stand s N.changes N.visible (e ∷ es) ≡ true → Went s N e es
