@@ -1,16 +1,16 @@
 -- A turn of a schedule: the move at the schedule's place, made without a fault.
-use Rattle.std.proofs.Common.{◌≡◌, ℕ, length, Option, Some, slice_get, ap, ◌∙◌, subst}
+use Rattle.std.proofs.Common.{ℕ, Option, ap, ◌∙◌}
 use Rattle.std.specs.Prelude.{option_and_then}
 use Rattle.dioc_terms.specs.declared.entries.Act.{Act}
 use Rattle.dioc_terms.specs.declared.names.Role.{Role}
 use Rattle.dioc_terms.specs.Plain.{setting}
 use Rattle.net_core.specs.declared.moves.Move.{Move}
 use Rattle.net_core.specs.declared.moves.Move.TheVariants as move
-use Rattle.net_core.specs.Schedule.{move_place, move_step, moves}
+use Rattle.net_core.specs.Schedule.{move_step}
 use Rattle.role_network.specs.Changes.{IsChangeOf}
 use Rattle.role_network.specs.Nets.{NetState, bundle_of, network_of}
 use Rattle.role_network.specs.Steps.{IsStepOf}
-use Rattle.schedule.specs.Turns.{Advances, IsMoveOf}
+use Rattle.schedule.specs.Turns.{Advances, IsMoveOf, IsScheduled}
 
 pub move_of_change : (old new : NetState) → IsChangeOf old new → IsMoveOf old move.Change new
 move_of_change old new made = record { outcome = made.outcome; steps = made.steps; goes = made.goes }
@@ -18,14 +18,10 @@ move_of_change old new made = record { outcome = made.outcome; steps = made.step
 pub move_of_step : (old new : NetState) (q : Role) (a : Act) → IsStepOf old q a new → IsMoveOf old (move.Act q a) new
 move_of_step old new q a made = record { outcome = made.outcome; steps = made.steps; goes = made.goes }
 
--- the move at the schedule's place is what the schedule takes
-pub advances : (old new : NetState) (seed : Option ℕ) (m : Move) (place : ℕ) → place ≡ move_place seed (length (moves (setting (bundle_of old)) (network_of old)))
-    → slice_get (moves (setting (bundle_of old)) (network_of old)) place ≡ Some m → IsMoveOf old m new → Advances old seed new
-advances old new seed m place is at made =
-    let first : slice_get (moves (setting (bundle_of old)) (network_of old)) (move_place seed (length (moves (setting (bundle_of old)) (network_of old)))) ≡ Some m =
-    subst (λ n. slice_get (moves (setting (bundle_of old)) (network_of old)) n ≡ Some m) is at in
-    record {
-      outcome = made.outcome;
-      takes = ap (option_and_then (move_step (setting (bundle_of old)) (network_of old))) first ∙ made.steps;
-      goes = made.goes;
-    }
+-- a move that is scheduled, once it is made, is what the schedule takes
+pub advances : (old new : NetState) (seed : Option ℕ) (m : Move) → IsScheduled old seed m → IsMoveOf old m new → Advances old seed new
+advances old new seed m next made = record {
+  outcome = made.outcome;
+  takes = ap (option_and_then (move_step (setting (bundle_of old)) (network_of old))) next ∙ made.steps;
+  goes = made.goes;
+}

@@ -1,2 +1,3 @@
+pub mod Agendas
 pub mod Runs
 pub mod Turns

@@ -1,10 +1,10 @@
 -- What a turn of a schedule is: a move that has no fault, and the net after it.
-use Rattle.std.specs.Prelude.{◌≡◌, ℕ, Bool, Option, Some, None}
+use Rattle.std.specs.Prelude.{◌≡◌, ℕ, Bool, Option, Some, None, length, slice_get}
 use Rattle.dioc_terms.specs.Plain.{setting}
 use Rattle.marked_laws.specs.Network.{NextNetwork, network_ended}
 use Rattle.net_core.specs.declared.moves.Move.{Move}
 use Rattle.net_core.specs.declared.moves.Move.TheVariants as move
-use Rattle.net_core.specs.Schedule.{move_step, scheduled}
+use Rattle.net_core.specs.Schedule.{move_place, move_step, moves, scheduled}
 use Rattle.role_network.specs.Changes.{change_fault}
 use Rattle.role_network.specs.Nets.{NetState, bundle_of, network_of}
 use Rattle.role_network.specs.Steps.{GoesOn, fault_of}
@@ -17,6 +17,12 @@ has_ended net = network_ended (bundle_of net).cast (network_of net)
 abbrev pub CanMake : NetState → Move → Type 0
 CanMake net move.Change = change_fault net ≡ None
 CanMake net (move.Act q a) = fault_of net q a ≡ None
+
+-- the move is the one that the schedule takes next
+abbrev pub IsScheduled : NetState → Option ℕ → Move → Type 0
+IsScheduled net seed next =
+    let listed = moves (setting (bundle_of net)) (network_of net) in
+    slice_get listed (move_place seed (length listed)) ≡ Some next
 
 -- the net has made this move
 pub record IsMoveOf (old : NetState) (m : Move) (new : NetState) : Type 0 where

@@ -26,13 +26,13 @@ pub(crate) fn next_seed(seed: Option<u64>) -> Option<u64>
 
 /// The place, among so many moves, of the one that a schedule takes: the first, or with a seed the
 /// one that the high bits of the next number say, modulo the number of moves.
-pub(crate) fn move_place(seed: Option<u64>, count: usize) -> usize
+pub(crate) fn move_place(seed: Option<u64>, count: u128) -> u128
     requires { 0 < count }
     ensures place { result ≡ move_place seed count }
     ensures below { result < count }
 {
     match seed {
         None => 0,
-        Some(number) => ((next_number(number) >> 33) % count as u64) as usize,
+        Some(number) => u128::from(next_number(number) >> 33) % count,
     }
 }

@@ -6,6 +6,7 @@ ghost use Rattle.role_network.specs.Nets.{IsSoundRun, bundle_of};
 ghost use Rattle.schedule.specs.Runs.{IsOnTheWay, finish_at};
 ghost use Rattle.schedule.specs.Turns.{has_ended};
 
+use crate::agenda::keep_up;
 use crate::numbers::next_seed;
 use crate::turns::take_next;
 use dioc_terms::Memory;
@@ -42,11 +43,14 @@ pub fn run_seeded<R: Runs>(net: &mut Net<R>, seed: Option<u64>) -> Result<Finish
     ensures same_limit { net.new.limit ≡ net.old.limit }
 {
     let mut numbers = seed;
+    let mut made = None;
+    let mut agenda = Vec::new(net.allocator());
     'turns: loop {
         if let Some(finish) = finish_of(net) {
             return Ok(finish);
         }
-        take_next(net, numbers)?;
+        keep_up(net, &made, &mut agenda)?;
+        made = Some(take_next(net, agenda.as_slice(), numbers)?);
         numbers = next_seed(numbers);
     }
 }

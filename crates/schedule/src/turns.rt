@@ -1,33 +1,72 @@
 //! One turn of a schedule: which move it takes, and how a net makes a move.
 
-ghost use Rattle.std.specs.Prelude.{◌≡◌, ◌<◌, ◌≤◌, false, None, OnErr, OnOk, length};
+ghost use Rattle.std.specs.Prelude.{◌≡◌, ◌<◌, ◌≤◌, ◌+◌, ◌∷◌, false, None, Some, IfOk, OnErr, OnOk, flat_map, length, map, slice_get};
+ghost use Rattle.dioc_terms.specs.Plain.{setting};
+ghost use Rattle.net_core.specs.Schedule.{moves};
 ghost use Rattle.role_network.specs.Changes.{change_fault};
-ghost use Rattle.role_network.specs.Nets.{IsSoundRun, network_of};
+ghost use Rattle.role_network.specs.Nets.{IsSoundRun, bundle_of, network_of};
 ghost use Rattle.role_network.specs.Steps.{fault_of};
-ghost use Rattle.schedule.specs.Turns.{Advances, CanMake, IsMoveOf, has_ended};
+ghost use Rattle.schedule.specs.Agendas.{IsStale, agenda_of, moves_of, ready_seen};
+ghost use Rattle.schedule.specs.Turns.{Advances, CanMake, IsMoveOf, IsScheduled, has_ended};
 
+use crate::agenda::{ReadyRole, count_acts, move_at};
 use crate::laws::known;
 use crate::numbers::move_place;
 use dioc_terms::{Act, Memory, Role};
 use dpoc_process::Runs;
 use net_core::{Move, StepFault};
 use role_network::{ChangeFault, Net};
+use std::alloc::Global;
 
-/// Takes the schedule's next move. After a refusal the net is unchanged.
-pub(crate) fn take_next<R: Runs>(net: &mut Net<R>, seed: Option<u64>) -> Result<(), Memory>
+/// Takes the schedule's next move, and tells which it was. After a refusal the net is unchanged.
+pub(crate) fn take_next<R: Runs>(
+    net: &mut Net<R>,
+    agenda: &[ReadyRole],
+    seed: Option<u64>,
+) -> Result<Move, Memory>
     requires run { IsSoundRun net.old }
     requires goes { has_ended net.old ≡ false }
     requires room { length net.old.history < net.old.limit }
     requires limit { net.old.limit ≤ 4294967295 }
+    requires agenda { map ready_seen agenda.now ≡ agenda_of net.old }
     ensures advanced { OnOk result (Advances net.old seed net.new) }
+    ensures stale { IfOk result (λ made. IsStale net.new (Some made) (map ready_seen agenda.now)) }
     ensures err { OnErr result (net.new ≡ net.old) }
 {
     known();
-    let moves = net.moves()?;
-    let place = move_place(seed, moves.len());
-    match moves.get(place) {
-        Some(next) => make(net, next),
-        None => unreachable!(),
+    let next = next_move(net, agenda, seed)?;
+    make(net, &next)?;
+    Ok(next)
+}
+
+/// The move that the schedule takes next: the script's next change has the number 0 where it is
+/// due, and the acts come after it.
+fn next_move<R: Runs>(net: &Net<R>, agenda: &[ReadyRole], seed: Option<u64>) -> Result<Move, Memory>
+    requires some { 0 < length (moves (setting (bundle_of net.now)) (network_of net.now)) }
+    requires agenda { map ready_seen agenda.now ≡ agenda_of net.now }
+    ensures { IfOk result (λ next. IsScheduled net.now seed next) }
+{
+    let alloc = net.allocator();
+    let acts = count_acts(agenda);
+    if net.is_change_due() {
+        let place = move_place(seed, acts + 1);
+        change_or_act(alloc, agenda, place)
+    } else {
+        let number = move_place(seed, acts);
+        move_at(alloc, agenda, number)
+    }
+}
+
+/// The move of that number, where the change comes before the acts.
+fn change_or_act(alloc: Global, agenda: &[ReadyRole], place: u128) -> Result<Move, Memory>
+    requires { place < length (flat_map moves_of (map ready_seen agenda.now)) + 1 }
+    ensures { IfOk result (λ next.
+        slice_get (Move.Change ∷ flat_map moves_of (map ready_seen agenda.now)) place ≡ Some next) }
+{
+    if place == 0 {
+        Ok(Move::Change)
+    } else {
+        move_at(alloc, agenda, place - 1)
     }
 }
 

@@ -1,0 +1,178 @@
+-- An agenda lists the acts of a net, and is brought up to date by listing anew what the last act touches.
+use Rattle.std.proofs.Common.{◌≡◌, ◌<◌, ◌+◌, ◌-◌, ℕ, zero, suc, List, [], ◌∷◌, ◌++◌, length, Bool, true, false, ◌&&◌, not, Option, Some, slice_get, refl, sym, ap, ap₂, ◌∙◌, subst, map, arith, take, drop, get_or}
+use Rattle.std.specs.Prelude.{flat_map, if◌then◌else◌, slice_set}
+use Rattle.std.specs.List.{list_all}
+use Rattle.std.proofs.lemmas.Bool.{and_from, both_ways, cond-false, cond-true, or_left, or_right}
+use Rattle.std.proofs.lemmas.List.{drop_more, get_or-map, get_or_at, length-map, length-take, map-set}
+use Rattle.std.proofs.lemmas.List.Edits.{map_over_more}
+use Rattle.std.proofs.lemmas.List.Folds.{flat_map-map, list_all_at}
+use Rattle.std.proofs.lemmas.Option.{slice_get_read}
+use Rattle.dioc_terms.specs.declared.bundles.Bundle.{Bundle}
+use Rattle.dioc_terms.specs.declared.entries.Act.{Act}
+use Rattle.dioc_terms.specs.declared.names.Role.{Role}
+use Rattle.dioc_terms.specs.Equality.{member, role_eq}
+use Rattle.dioc_terms.specs.Plain.{plain, setting}
+use Rattle.marked_laws.specs.Network.{Network}
+use Rattle.marked_laws.proofs.Equality.{role_itself}
+use Rattle.marked_laws.proofs.Premise.{Known}
+use Rattle.marked_laws.proofs.Shapes.{some_same}
+use Rattle.net_core.specs.declared.moves.Move.{Move}
+use Rattle.net_core.specs.declared.moves.Move.TheVariants as move
+use Rattle.net_core.specs.Schedule.{change_due, move_place, moves}
+use Rattle.role_network.specs.MovesIn.{ready_of}
+use Rattle.role_network.specs.Nets.{IsSoundRun, NetState, bundle_of, network_of}
+use Rattle.schedule.specs.declared.agenda.ReadyRole.{ReadyRole}
+use Rattle.schedule.proofs.TouchLemmas.{untouched, untouched_by_change}
+use Rattle.schedule.specs.Agendas.{IsStale, agenda_of, moves_of, ready_in, refreshed, ready_seen, touches}
+use Rattle.schedule.specs.Turns.{IsMoveOf, IsScheduled, has_ended}
+
+-- whether a change is listed
+abbrev pub is_due : NetState → Bool
+is_due net = change_due (bundle_of net).script (network_of net).changes (network_of net).visible && not (has_ended net)
+
+-- the moves are the change where it is due, and then the acts of the agenda
+pub moves_are : (net : NetState) → moves (setting (bundle_of net)) (network_of net) ≡ (if is_due net then move.Change ∷ [] else []) ++ flat_map moves_of (agenda_of net)
+moves_are net =
+    ap (λ l. (if is_due net then move.Change ∷ [] else []) ++ l) (sym (flat_map-map moves_of (ready_in (network_of net)) (bundle_of net).cast))
+
+moves_due : (net : NetState) (agenda : List (Role × List Act)) → agenda ≡ agenda_of net → true ≡ is_due net
+    → moves (setting (bundle_of net)) (network_of net) ≡ move.Change ∷ flat_map moves_of agenda
+moves_due net agenda is due =
+    moves_are net ∙ ap (λ (t : Bool). (if t then move.Change ∷ [] else []) ++ flat_map moves_of (agenda_of net)) (sym due)
+    ∙ ap (λ l. move.Change ∷ flat_map moves_of l) (sym is)
+
+moves_not_due : (net : NetState) (agenda : List (Role × List Act)) → agenda ≡ agenda_of net → false ≡ is_due net
+    → moves (setting (bundle_of net)) (network_of net) ≡ flat_map moves_of agenda
+moves_not_due net agenda is due =
+    moves_are net ∙ ap (λ (t : Bool). (if t then move.Change ∷ [] else []) ++ flat_map moves_of (agenda_of net)) (sym due)
+    ∙ ap (flat_map moves_of) (sym is)
+
+is_scheduled : (net : NetState) (seed : Option ℕ) (listed : List Move) (place : ℕ) (m : Move) → moves (setting (bundle_of net)) (network_of net) ≡ listed
+    → place ≡ move_place seed (length listed) → slice_get listed place ≡ Some m → IsScheduled net seed m
+is_scheduled net seed listed place m same is got =
+    let at : slice_get listed (move_place seed (length listed)) ≡ Some m = subst (λ n. slice_get listed n ≡ Some m) is got in
+    subst (λ (ms : List Move). slice_get ms (move_place seed (length ms)) ≡ Some m) (sym same) at
+
+-- what is scheduled where a change is due, and where none is
+pub scheduled_due : (net : NetState) (seed : Option ℕ) (agenda : List (Role × List Act)) (acts place : ℕ) (m : Move) → agenda ≡ agenda_of net → true ≡ is_due net
+    → acts ≡ length (flat_map moves_of agenda) → place ≡ move_place seed (acts + 1) → slice_get (move.Change ∷ flat_map moves_of agenda) place ≡ Some m → IsScheduled net seed m
+scheduled_due net seed agenda acts place m is due count at got =
+    let more : acts + 1 ≡ length (move.Change ∷ flat_map moves_of agenda) = omega (arith, count) in
+    is_scheduled net seed (move.Change ∷ flat_map moves_of agenda) place m (moves_due net agenda is due) (at ∙ ap (move_place seed) more) got
+
+pub scheduled_act : (net : NetState) (seed : Option ℕ) (agenda : List (Role × List Act)) (acts place : ℕ) (m : Move) → agenda ≡ agenda_of net → false ≡ is_due net
+    → acts ≡ length (flat_map moves_of agenda) → place ≡ move_place seed acts → slice_get (flat_map moves_of agenda) place ≡ Some m → IsScheduled net seed m
+scheduled_act net seed agenda acts place m is due count at got =
+    is_scheduled net seed (flat_map moves_of agenda) place m (moves_not_due net agenda is due) (at ∙ ap (move_place seed) count) got
+
+-- there is an act where no change is due
+pub some_act : (net : NetState) (agenda : List (Role × List Act)) (acts : ℕ) → agenda ≡ agenda_of net → false ≡ is_due net
+    → acts ≡ length (flat_map moves_of agenda) → 0 < length (moves (setting (bundle_of net)) (network_of net)) → 0 < acts
+some_act net agenda acts is due count some = omega (arith, some, count, ap length (moves_not_due net agenda is due))
+
+-- the second of two is the first of what is left
+pub got_later : (xs : List Move) (place : ℕ) (m : Move) → (place ≡ 0 → ⊥) → slice_get xs (place - 1) ≡ Some m → slice_get (move.Change ∷ xs) place ≡ Some m
+got_later xs zero m some h = absurd (some refl)
+got_later xs (suc place) m some h = ap (slice_get xs) (omega arith) ∙ h
+
+-- a role that stands in the cast
+member_got : (cast : List Role) (i : ℕ) (q : Role) → slice_get cast i ≡ Some q → member q cast ≡ true
+member_got [] i q h = cc
+member_got (r ∷ rs) zero q h = or_left (role_eq q r) (member q rs) (subst (λ x. role_eq q x ≡ true) (sym (some_same h)) (role_itself q))
+member_got (r ∷ rs) (suc i) q h = or_right (role_eq q r) (member q rs) (member_got rs i q h)
+
+-- a list made of another, whose members become what they are to be
+map_map_same : {A B : Type 0} (f h : A → B) (g : B → B) (xs : List A) → ((x : A) → g (f x) ≡ h x) → map g (map f xs) ≡ map h xs
+map_map_same f h g [] same = refl
+map_map_same f h g (x ∷ xs) same = ap₂ (λ y ys. y ∷ ys) (same x) (map_map_same f h g xs same)
+
+map_same : {A B : Type 0} (f h : A → B) (xs : List A) → ((x : A) → f x ≡ h x) → map f xs ≡ map h xs
+map_same f h [] same = refl
+map_same f h (x ∷ xs) same = ap₂ (λ y ys. y ∷ ys) (same x) (map_same f h xs same)
+
+refreshed_one : (N M : Network) (q : Role) (a : Act) (r : Role) → (touches q a r ≡ false → ready_of M r ≡ ready_of N r)
+    → (if touches q a r then ready_in M r else ready_in N r) ≡ ready_in M r
+refreshed_one N M q a r same = by_test (touches q a r) refl
+  where
+    by_test : (t : Bool) → touches q a r ≡ t → (if touches q a r then ready_in M r else ready_in N r) ≡ ready_in M r
+    by_test true is = cond-true (touches q a r) (ready_in M r) (ready_in N r) is
+    by_test false is = cond-false (touches q a r) (ready_in M r) (ready_in N r) is ∙ ap (λ acts. (r, acts)) (sym (same is))
+
+-- after a move the agenda from before it is one that is to be brought up to date
+pub stale_after : Known → (old new : NetState) (m : Move) (agenda : List (Role × List Act)) → IsSoundRun old → IsMoveOf old m new → agenda ≡ agenda_of old
+    → IsStale new (Some m) agenda
+stale_after known old new move.Change agenda run made is =
+    is ∙ map_same (ready_in (network_of old)) (ready_in (network_of new)) (bundle_of old).cast
+    (λ r. ap (λ acts. (r, acts)) (sym (ap (λ M. ready_of M r) made.goes.network ∙ untouched_by_change (setting (bundle_of old)) (network_of old) made.outcome made.steps r)))
+    ∙ ap (λ (b : Bundle). map (ready_in (network_of new)) (plain b).cast) (sym made.goes.bundle)
+stale_after known old new (move.Act q a) agenda run made is =
+    ap (refreshed (network_of new) q a) is
+    ∙ map_map_same (ready_in (network_of old)) (ready_in (network_of new)) (λ ready. if touches q a ready.0 then ready_in (network_of new) ready.0 else ready) (bundle_of old).cast
+    (λ r. refreshed_one (network_of old) (network_of new) q a r
+    (λ apart. ap (λ M. ready_of M r) made.goes.network
+    ∙ untouched known (bundle_of old) old.history (network_of old) run.sound run.runs q a made.outcome made.steps r apart))
+    ∙ ap (λ (b : Bundle). map (ready_in (network_of new)) (plain b).cast) (sym made.goes.bundle)
+
+-- the roles of an agenda stay when it is brought up to date
+roles_stay : (N : Network) (q : Role) (a : Act) (agenda : List (Role × List Act)) → map (λ ready. ready.0) (refreshed N q a agenda) ≡ map (λ ready. ready.0) agenda
+roles_stay N q a [] = refl
+roles_stay N q a (ready ∷ rest) = ap₂ (λ r rs. r ∷ rs) (by_test (touches q a ready.0)) (roles_stay N q a rest)
+  where
+    by_test : (t : Bool) → (if t then ready_in N ready.0 else ready).0 ≡ ready.0
+    by_test true = refl
+    by_test false = refl
+
+all_by_roles : (f : Role → Bool) (agenda : List (Role × List Act)) → list_all f (map (λ ready. ready.0) agenda) ≡ list_all (λ ready. f ready.0) agenda
+all_by_roles f [] = refl
+all_by_roles f (ready ∷ rest) = ap (λ t. f ready.0 && t) (all_by_roles f rest)
+
+roles_listed : (N : Network) (cast : List Role) → map (λ ready. ready.0) (map (ready_in N) cast) ≡ cast
+roles_listed N [] = refl
+roles_listed N (q ∷ qs) = ap (λ l. q ∷ l) (roles_listed N qs)
+
+all_among : (cast roles : List Role) → ((q : Role) → member q roles ≡ true → member q cast ≡ true) → list_all (λ q. member q cast) roles ≡ true
+all_among cast [] among = refl
+all_among cast (q ∷ qs) among =
+    and_from (member q cast) (list_all (λ r. member r cast) qs) (among q (or_left (role_eq q q) (member q qs) (role_itself q)))
+    (all_among cast qs (λ r h. among r (or_right (role_eq r q) (member r qs) h)))
+
+-- the roles of an agenda that is to be brought up to date are roles of the cast
+pub roles_of_cast : (net : NetState) (q : Role) (a : Act) (agenda : List (Role × List Act)) → IsStale net (Some (move.Act q a)) agenda
+    → list_all (λ ready. member ready.0 (bundle_of net).cast) agenda ≡ true
+roles_of_cast net q a agenda stale =
+    let cast = (bundle_of net).cast in
+    sym (all_by_roles (λ r. member r cast) agenda)
+    ∙ ap (list_all (λ r. member r cast)) (sym (roles_stay (network_of net) q a agenda) ∙ ap (map (λ ready. ready.0)) stale ∙ roles_listed (network_of net) cast)
+    ∙ all_among cast cast (λ r h. h)
+
+-- a role that an agenda lists at a place
+module _ (f : Role × List Act → Role × List Act) (old : List (Role × List Act)) (now : List ReadyRole) (i : ℕ) (ready : ReadyRole) (lt : i < length old) (lt' : i < length now)
+    (so_far : map ready_seen now ≡ map f (take i old) ++ drop i old) (is : ready ≡ get_or now i ready) where
+  here_now : ready_seen ready ≡ get_or (map ready_seen now) i (ready_seen ready)
+  here_now = ap ready_seen is ∙ sym (get_or-map ready_seen now i ready (ready_seen ready) lt')
+
+  here_before : ready_seen ready ≡ get_or old i (ready_seen ready)
+  here_before =
+      let front : List (Role × List Act) = map f (take i old) in
+      let long : length front ≡ i = length-map (take i old) f ∙ omega (arith, length-take i old) in
+      let parts : map ready_seen now ≡ front ++ get_or old i (ready_seen ready) ∷ drop (i + 1) old = so_far ∙ ap (λ l. front ++ l) (drop_more old i (ready_seen ready) lt) in
+      here_now ∙ ap (λ l. get_or l i (ready_seen ready)) parts ∙ get_or_at front (get_or old i (ready_seen ready)) (drop (i + 1) old) (ready_seen ready) i long
+
+  -- stands in the cast where all of them do
+  pub listed_at : (p : Role → Bool) → list_all (λ r. p r.0) old ≡ true → p ready.role ≡ true
+  listed_at p all = by_test (p ready.role) refl
+    where
+      by_test : (t : Bool) → p ready.role ≡ t → p ready.role ≡ true
+      by_test true e = e
+      by_test false e =
+          absurd (both_ways (list_all (λ r. p r.0) old)
+          (list_all_at (λ r. p r.0) old i (ready_seen ready) lt (ap (λ (r : Role × List Act). p r.0) (sym here_before) ∙ e)) all)
+
+  -- and is brought up to date with those before it
+  pub listed_more : (new : ReadyRole) → ready_seen new ≡ f (ready_seen (get_or now i ready)) → map ready_seen (slice_set now i new) ≡ map f (take (i + 1) old) ++ drop (i + 1) old
+  listed_more new same =
+      map-set ready_seen now i new ∙ ap (slice_set (map ready_seen now) i) (same ∙ ap (λ r. f (ready_seen r)) (sym is)) ∙ map_over_more f old (map ready_seen now) i (ready_seen ready) lt so_far here_now
+
+-- a role of the cast
+pub member_at : (cast : List Role) (i : ℕ) (q : Role) → i < length cast → q ≡ get_or cast i q → member q cast ≡ true
+member_at cast i q lt is = member_got cast i q (slice_get_read cast (length cast) i q refl lt is)

@@ -1,0 +1,157 @@
+-- What a role can do changes by its own act and by a message that is put to it, and by nothing else.
+use Rattle.std.proofs.Common.{◌≡◌, List, [], ◌∷◌, ◌++◌, Bool, true, false, Option, Some, None, slice_get, refl, sym, ap, ap₂, ◌∙◌, subst}
+use Rattle.std.specs.Prelude.{filter, if◌then◌else◌, is_some, nat_le}
+use Rattle.std.proofs.lemmas.Bool.{both_ways, cond-false, cond-true, false_from_ne_true, or_left, or_parts, or_right}
+use Rattle.dioc_terms.specs.declared.bundles.Timed.{Timed}
+use Rattle.dioc_terms.specs.declared.entries.Act.{Act}
+use Rattle.dioc_terms.specs.declared.entries.Act.TheVariants as act
+use Rattle.dioc_terms.specs.declared.entries.Entry.{Entry}
+use Rattle.dioc_terms.specs.declared.names.Role.{Role}
+use Rattle.dioc_terms.specs.declared.processes.Key.{Key}
+use Rattle.dioc_terms.specs.Attempts.{Attempt, Does, Stuck}
+use Rattle.dioc_terms.specs.Equality.{act_eq, key_eq, role_eq}
+use Rattle.dioc_terms.specs.Messages.{act_of, doer}
+use Rattle.dioc_terms.specs.Plain.{PlainBundle, Setting, setting}
+use Rattle.dioc_terms.specs.Processes.{Load, Process}
+use Rattle.global_steps.specs.Follow.{change_entry}
+use Rattle.marked_laws.specs.Laws.{IsSound}
+use Rattle.marked_laws.specs.Network.{Network, NextNetwork, act_step, change_step, given_at, network_run, pending_after, pending_at, without}
+use Rattle.marked_laws.proofs.Equality.{act_itself, key_same, role_itself}
+use Rattle.marked_laws.proofs.Networks.{after_change, after_deed, deed_outcome, entry_outcome, script_outcome}
+use Rattle.marked_laws.proofs.Plays.{entry_doer}
+use Rattle.marked_laws.proofs.Premise.{Known}
+use Rattle.marked_laws.proofs.Shapes.{if_some, none_some, some_same}
+use Rattle.net_core.specs.Schedule.{is_ready}
+use Rattle.net_core.proofs.MoveLemmas.{deed_of, reached}
+use Rattle.process_steps.specs.Steps.{Chooses, Deed, Inputs, Picks, Puts, Sets, Takes, entry_of, is_offered, offers, step}
+use Rattle.role_network.specs.MovesIn.{ready_of}
+use Rattle.schedule.proofs.OwnLemmas.{own_takes}
+use Rattle.schedule.specs.Agendas.{puts_to, touches}
+
+-- a put under another key
+pending_put : (j k : Key) (l : Load) (pending : List (Key × Load)) → key_eq j k ≡ false → pending_at j (pending ++ (k, l) ∷ []) ≡ pending_at j pending
+pending_put j k l [] apart = cond-false (key_eq j k) (Some l) None apart
+pending_put j k l (message ∷ rest) apart = ap (λ o. if key_eq j message.0 then Some message.1 else o) (pending_put j k l rest apart)
+
+-- a take of another key
+pending_take : (j k : Key) (pending : List (Key × Load)) → key_eq j k ≡ false → pending_at j (without k pending) ≡ pending_at j pending
+pending_take j k [] apart = refl
+pending_take j k (message ∷ rest) apart = by_test (key_eq k message.0) refl (pending_take j k rest apart)
+  where
+    by_test : (t : Bool) → key_eq k message.0 ≡ t → pending_at j (without k rest) ≡ pending_at j rest → pending_at j (without k (message ∷ rest)) ≡ pending_at j (message ∷ rest)
+    by_test true is more =
+        ap (pending_at j) (cond-true (key_eq k message.0) rest (message ∷ without k rest) is)
+        ∙ sym (cond-false (key_eq j message.0) (Some message.1) (pending_at j rest) (ap (key_eq j) (sym (key_same k message.0 is)) ∙ apart))
+    by_test false is more =
+        ap (pending_at j) (cond-false (key_eq k message.0) rest (message ∷ without k rest) is)
+        ∙ ap (λ o. if key_eq j message.0 then Some message.1 else o) more
+
+-- the deed is of no message of this key
+abbrev Apart : Key → Deed → Type 0
+Apart j (Puts k l) = key_eq j k ≡ false
+Apart j (Takes k x l) = key_eq j k ≡ false
+Apart j _ = Unit {0}
+
+still_pending : (j : Key) (d : Deed) (pending : List (Key × Load)) → Apart j d → pending_at j (pending_after d pending) ≡ pending_at j pending
+still_pending j (Puts k l) pending apart = pending_put j k l pending apart
+still_pending j (Takes k x l) pending apart = pending_take j k pending apart
+still_pending j (Sets i r x v) pending apart = refl
+still_pending j (Inputs i r x v) pending apart = refl
+still_pending j (Picks i r t) pending apart = refl
+still_pending j (Chooses i r c) pending apart = refl
+
+filter_same : (f g : Act → Bool) (acts : List Act) → ((a : Act) → is_offered a acts ≡ true → f a ≡ g a) → filter f acts ≡ filter g acts
+filter_same f g [] same = refl
+filter_same f g (a ∷ acts) same =
+    ap₂ (λ (t : Bool) l. if t then a ∷ l else l) (same a (or_left (act_eq a a) (is_offered a acts) (act_itself a))) refl
+    ∙ ap (λ l. if g a then a ∷ l else l) (filter_same f g acts (λ c h. same c (or_right (act_eq c a) (is_offered c acts) h)))
+
+-- a role that has the same process, and the same messages for what it takes
+ready_same : (N M : Network) (r : Role) → M.processes r ≡ N.processes r
+    → ((j : Key) → is_offered (act.Take j) (offers r (N.processes r)) ≡ true → pending_at j M.pending ≡ pending_at j N.pending) → ready_of M r ≡ ready_of N r
+ready_same N M r same pending =
+    ap (λ P. filter (is_ready M) (offers r P)) same ∙ filter_same (is_ready M) (is_ready N) (offers r (N.processes r)) alike
+  where
+    alike : (a : Act) → is_offered a (offers r (N.processes r)) ≡ true → is_ready M a ≡ is_ready N a
+    alike (act.Take j) h = ap is_some (pending j h)
+    alike (act.Put k) h = refl
+    alike (act.Set i) h = refl
+    alike (act.Input i) h = refl
+    alike (act.Pick i) h = refl
+    alike (act.Scope i) h = refl
+
+-- what a role did, and whose and what its entry is
+record Did (N : Network) (q : Role) (a : Act) (outcome : NextNetwork) : Type 0 where
+  deed : Deed
+  process : Process
+  network : outcome.network ≡ after_deed N q deed process
+  who : doer (entry_of deed) ≡ Some q
+  acts : act_of (entry_of deed) ≡ Some a
+
+outcome_deed : (N : Network) (q : Role) (m : Attempt Deed Process) (outcome : NextNetwork) → deed_outcome N q m ≡ Some outcome
+    → (d : Deed) × (P : Process) × (outcome.entry ≡ entry_of d) × (outcome.network ≡ after_deed N q d P)
+outcome_deed N q Stuck outcome h = absurd (none_some h)
+outcome_deed N q (Does d P) outcome h = (d, P, ap (λ (o : NextNetwork). o.entry) (sym (some_same h)), ap (λ (o : NextNetwork). o.network) (sym (some_same h)))
+
+did : Known → (b : PlainBundle) (H : List Entry) (N : Network) → IsSound b → network_run b H ≡ Some N → (q : Role) (a : Act) (outcome : NextNetwork)
+    → act_step (setting b) N q a ≡ Some outcome → Did N q a outcome
+did known b H N sound run q a outcome h =
+    let at = reached known b sound H N run in
+    let is = deed_of known b sound N at.0 at.1 q a outcome h in
+    let parts = outcome_deed N q (step q (N.stores q) (N.processes q) a (given_at (setting b) N q a)) outcome h in
+    record {
+      deed = parts.0;
+      process = parts.1;
+      network = parts.3;
+      who = ap doer (sym parts.2 ∙ is.entry) ∙ entry_doer is.deed ∙ ap Some is.who;
+      acts = ap act_of (sym parts.2 ∙ is.entry) ∙ is.act;
+    }
+
+module _ (q r : Role) (a : Act) (apart : touches q a r ≡ false) (j : Key) (own : j.to ≡ r) where
+  -- the role is neither who acts nor who receives, so no message for it comes or goes
+  other_role : role_eq r q ≡ false
+  other_role = (or_parts (role_eq r q) (puts_to a r) apart).0
+
+  not_put : (k : Key) → a ≡ act.Put k → key_eq j k ≡ false
+  not_put k is = false_from_ne_true (key_eq j k) (λ same.
+      both_ways (role_eq r k.to) (ap (λ x. puts_to x r) (sym is) ∙ (or_parts (role_eq r q) (puts_to a r) apart).1)
+      (subst (λ x. role_eq r x ≡ true) (sym own ∙ ap (λ (i : Key). i.to) (key_same j k same)) (role_itself r)))
+
+  not_taken : (k : Key) → k.to ≡ q → key_eq j k ≡ false
+  not_taken k of_q = false_from_ne_true (key_eq j k) (λ same.
+      both_ways (role_eq r q) other_role
+      (subst (λ x. role_eq r x ≡ true) (sym own ∙ ap (λ (i : Key). i.to) (key_same j k same) ∙ of_q) (role_itself r)))
+
+  of_none : (d : Deed) → doer (entry_of d) ≡ Some q → act_of (entry_of d) ≡ Some a → Apart j d
+  of_none (Puts k l) who acts = not_put k (sym (some_same acts))
+  of_none (Takes k x l) who acts = not_taken k (some_same who)
+  of_none (Sets i s x v) who acts = tt
+  of_none (Inputs i s x v) who acts = tt
+  of_none (Picks i s t) who acts = tt
+  of_none (Chooses i s c) who acts = tt
+
+-- what an act doesn't touch can do what it could before
+pub untouched : Known → (b : PlainBundle) (H : List Entry) (N : Network) → IsSound b → network_run b H ≡ Some N → (q : Role) (a : Act) (outcome : NextNetwork)
+    → act_step (setting b) N q a ≡ Some outcome → (r : Role) → touches q a r ≡ false → ready_of outcome.network r ≡ ready_of N r
+untouched known b H N sound run q a outcome h r apart =
+    let done = did known b H N sound run q a outcome h in
+    ap (λ M. ready_of M r) done.network
+    ∙ ready_same N (after_deed N q done.deed done.process) r
+    (cond-false (role_eq r q) done.process (N.processes r) (or_parts (role_eq r q) (puts_to a r) apart).0)
+    (λ j offered. still_pending j done.deed N.pending (of_none q r a apart j (own_takes known b H N sound run r j offered) done.deed done.who done.acts))
+
+outcome_entry : (b : Setting) (N : Network) (timed : Timed) (o : Option Entry) (outcome : NextNetwork) → entry_outcome b N timed o ≡ Some outcome
+    → outcome.network ≡ after_change b N timed
+outcome_entry b N timed None outcome h = absurd (none_some h)
+outcome_entry b N timed (Some e) outcome h =
+    ap (λ (o : NextNetwork). o.network) (if_some (nat_le timed.after N.visible) (record { entry = e; network = after_change b N timed }) h).1
+
+-- after a change of the script each role can do what it could before
+pub untouched_by_change : (b : Setting) (N : Network) (outcome : NextNetwork) → change_step b N ≡ Some outcome → (r : Role) → ready_of outcome.network r ≡ ready_of N r
+untouched_by_change b N outcome h r = by_script (slice_get b.script N.changes) h
+  where
+    by_script : (o : Option Timed) → script_outcome b N o ≡ Some outcome → ready_of outcome.network r ≡ ready_of N r
+    by_script None k = absurd (none_some k)
+    by_script (Some timed) k =
+        ap (λ M. ready_of M r) (outcome_entry b N timed (change_entry b.rules timed.change) outcome k)
+        ∙ ready_same N (after_change b N timed) r refl (λ j offered. refl)

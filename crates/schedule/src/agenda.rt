@@ -1,0 +1,176 @@
+//! The agenda: what each role of a net can do now, kept from turn to turn. An act changes only what
+//! the role that does it can do, and where it puts a message, what the receiver can do.
+
+ghost use Rattle.std.specs.Prelude.{◌≡◌, ◌<◌, ◌^◌, ◌-◌, true, Some, IfOk, OnOk, flat_map, length, map, slice_get};
+ghost use Rattle.std.specs.List.{list_all};
+ghost use Rattle.dioc_terms.specs.Equality.{member};
+ghost use Rattle.role_network.specs.Nets.{bundle_of, network_of};
+ghost use Rattle.schedule.specs.Agendas.{IsStale, again, agenda_of, moves_of, puts_to, refreshed, ready_seen, touches};
+
+use dioc_terms::{Act, Memory, Role};
+use dpoc_process::Runs;
+use net_core::Move;
+use role_network::Net;
+use std::alloc::Global;
+
+/// A role with the acts that it can do now.
+#[derive(Debug, Drop)]
+pub(crate) struct ReadyRole {
+    pub role: Role,
+    pub acts: Vec<Act>,
+}
+
+/// Brings an agenda up to date after a move. Before the first move it makes one.
+pub(crate) fn keep_up<R: Runs>(
+    net: &Net<R>,
+    made: &Option<Move>,
+    agenda: &mut Vec<ReadyRole>,
+) -> Result<(), Memory>
+    requires { IsStale net.now made.now (map ready_seen agenda.old.items) }
+    ensures { OnOk result (map ready_seen agenda.new.items ≡ agenda_of net.now) }
+{
+    match made {
+        None => start_agenda(net, agenda),
+        Some(made) => keep_up_with(net, made, agenda.as_mut_slice()),
+    }
+}
+
+/// Brings an agenda up to date after this move.
+fn keep_up_with<R: Runs>(net: &Net<R>, made: &Move, agenda: &mut [ReadyRole]) -> Result<(), Memory>
+    requires { IsStale net.now (Some made.now) (map ready_seen agenda.old) }
+    ensures { OnOk result (map ready_seen agenda.new ≡ agenda_of net.now) }
+{
+    match made {
+        Move::Change => Ok(()),
+        Move::Act(role, act) => refresh(net, role, act, agenda),
+    }
+}
+
+/// Makes the agenda of a net in place of another.
+fn start_agenda<R: Runs>(net: &Net<R>, agenda: &mut Vec<ReadyRole>) -> Result<(), Memory>
+    ensures { OnOk result (map ready_seen agenda.new.items ≡ agenda_of net.now) }
+{
+    *agenda = list_ready(net)?;
+    Ok(())
+}
+
+/// The acts that each role of a net can do now, in the cast's order.
+fn list_ready<R: Runs>(net: &Net<R>) -> Result<Vec<ReadyRole>, Memory>
+    ensures { IfOk result (λ agenda. map ready_seen agenda.items ≡ agenda_of net.now) }
+{
+    let alloc = net.allocator();
+    let cast = net.cast();
+    let mut agenda = Vec::new(alloc);
+    for role in cast {
+        let acts = net.ready_acts(role)?;
+        let role = role.copy(alloc)?;
+        agenda.push(ReadyRole { role, acts })?;
+    }
+    Ok(agenda)
+}
+
+/// Lists anew what the roles can do that an act of a role touches.
+fn refresh<R: Runs>(
+    net: &Net<R>,
+    role: &Role,
+    act: &Act,
+    agenda: &mut [ReadyRole],
+) -> Result<(), Memory>
+    requires { list_all (λ ready. member ready.0 (bundle_of net.now).cast)
+        (map ready_seen agenda.old) ≡ true }
+    ensures { OnOk result (map ready_seen agenda.new
+        ≡ refreshed (network_of net.now) role.now act.now (map ready_seen agenda.old)) }
+{
+    for ready in agenda.iter_mut() {
+        list_again(net, role, act, ready)?;
+    }
+    Ok(())
+}
+
+/// Lists anew what a role can do where an act of a role touches it.
+fn list_again<R: Runs>(
+    net: &Net<R>,
+    role: &Role,
+    act: &Act,
+    ready: &mut ReadyRole,
+) -> Result<(), Memory>
+    requires { member ready.old.role (bundle_of net.now).cast ≡ true }
+    ensures { OnOk result (ready_seen ready.new
+        ≡ again (network_of net.now) role.now act.now (ready_seen ready.old)) }
+{
+    if touches(role, act, &ready.role) {
+        ready.acts = net.ready_acts(&ready.role)?;
+    }
+    Ok(())
+}
+
+/// Whether an act of a role may change what another can do.
+fn touches(role: &Role, act: &Act, other: &Role) -> bool
+    ensures { result ≡ touches role.now act.now other.now }
+{
+    other == role || puts_to(act, other)
+}
+
+/// Whether the act puts a message to the role.
+fn puts_to(act: &Act, role: &Role) -> bool
+    ensures { result ≡ puts_to act.now role.now }
+{
+    match act {
+        Act::Put(key) => *role == key.to,
+        _ => false,
+    }
+}
+
+/// How many acts stand in an agenda. In 128 bits there is room for so many.
+pub(crate) fn count_acts(agenda: &[ReadyRole]) -> u128
+    ensures count { result ≡ length (flat_map moves_of (map ready_seen agenda.now)) }
+    ensures small { result < 2 ^ 128 - 1 }
+{
+    let mut count = 0;
+    for ready in agenda {
+        count += ready.acts.len() as u128;
+    }
+    count
+}
+
+/// The act of that number, of all in an agenda, as a move.
+pub(crate) fn move_at(alloc: Global, agenda: &[ReadyRole], place: u128) -> Result<Move, Memory>
+    requires { place < length (flat_map moves_of (map ready_seen agenda.now)) }
+    ensures { IfOk result
+        (λ next. slice_get (flat_map moves_of (map ready_seen agenda.now)) place ≡ Some next) }
+{
+    match agenda {
+        [] => unreachable!(),
+        [ready, later @ ..] => {
+            let count = ready.acts.len() as u128;
+            if place < count {
+                move_of(alloc, ready, place as usize)
+            } else {
+                move_at(alloc, later, place - count)
+            }
+        }
+    }
+}
+
+/// The act of that number of one role, as a move.
+fn move_of(alloc: Global, ready: &ReadyRole, place: usize) -> Result<Move, Memory>
+    requires { place < length ready.now.acts.items }
+    ensures { IfOk result (λ next. slice_get (moves_of (ready_seen ready.now)) place ≡ Some next) }
+{
+    let act = copy_of_act(alloc, &ready.acts[place])?;
+    let role = ready.role.copy(alloc)?;
+    Ok(Move::Act(role, act))
+}
+
+fn copy_of_act(alloc: Global, act: &Act) -> Result<Act, Memory>
+    ensures { IfOk result (λ copy. copy ≡ act.now) }
+{
+    match act {
+        Act::Put(key) => Ok(Act::Put(key.copy(alloc)?)),
+        Act::Take(key) => Ok(Act::Take(key.copy(alloc)?)),
+        Act::Set(index) => Ok(Act::Set(*index)),
+        Act::Input(index) => Ok(Act::Input(*index)),
+        Act::Pick(index) => Ok(Act::Pick(*index)),
+        Act::Scope(index) => Ok(Act::Scope(*index)),
+    }
+}
