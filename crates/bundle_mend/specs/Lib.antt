@@ -1,0 +1,5 @@
+pub mod Laws
+pub mod Mendable
+pub mod Numbers
+pub mod Refusals
+pub mod Texts
