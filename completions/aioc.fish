@@ -7,6 +7,7 @@ complete -c aioc -n __fish_use_subcommand -a check -d 'say whether a bundle is a
 complete -c aioc -n __fish_use_subcommand -a project -d 'print the process of each role'
 complete -c aioc -n __fish_use_subcommand -a replay -d 'judge the trace in a bundle'
 complete -c aioc -n __fish_use_subcommand -a upgrade -d 'write a bundle in version 2'
+complete -c aioc -n __fish_use_subcommand -a mend -d 'add messages until each sequence is linked'
 complete -c aioc -n __fish_use_subcommand -a gen -d 'make a bundle by a number and a size, run it, and print a summary'
 complete -c aioc -n '__fish_seen_subcommand_from step' -l seed -x -d 'take steps by the sequence of this number'
 complete -c aioc -n '__fish_seen_subcommand_from step' -l steps -x -d 'stop after so many entries'

@@ -10,6 +10,7 @@ _aioc() {
         'project:print the process of each role'
         'replay:judge the trace in a bundle'
         'upgrade:write a bundle in version 2'
+        'mend:add messages until each sequence is linked'
         'gen:make a bundle by a number and a size, run it, and print a summary'
     )
     if ((CURRENT == 2)); then

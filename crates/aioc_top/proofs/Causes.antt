@@ -5,9 +5,9 @@ use Rattle.dioc_terms.specs.Plain.{PlainBundle}
 use Rattle.bundle_text.specs.Grammar.{Spells}
 use Rattle.bundle_text.specs.Laws.{OneBundle}
 use Rattle.marked_laws.proofs.Shapes.{none_some}
-use Rattle.rule_checks.specs.declared.refusals.Refusal.{Refusal}
 use Rattle.command_words.specs.declared.commands.Command.{Command}
 use Rattle.command_words.specs.declared.commands.Command.TheVariants as command
+use Rattle.aioc_top.specs.Reasons.{Reason}
 use Rattle.aioc_top.specs.Replies.{Reply, Replies, refusal_of, unread_reply}
 use Rattle.aioc_top.specs.Verdicts.{Verdict, TooLong, Unspelled, Refused, Replied, Comes, ComesBy, ComesOfText, MayReply, Refuses, status_of, status_of_end}
 use Rattle.aioc_top.specs.Words.{is_built}
@@ -19,6 +19,7 @@ one_reply command.Check b reply other built h k = h ∙ sym k
 one_reply command.Project b reply other built h k = h ∙ sym k
 one_reply command.Replay b reply other built h k = h ∙ sym k
 one_reply command.Upgrade b reply other built h k = h ∙ sym k
+one_reply command.Mend b reply other built h k = h ∙ sym k
 one_reply (command.Gen number size) b reply other built h k = absurd h
 one_reply _ b reply other built h k = absurd (true≢false (sym built))
 
@@ -27,7 +28,7 @@ pub not_too_long : (bytes : List ℕ) (b : PlainBundle) → Spells bytes b → m
 not_too_long bytes b spells long = absurd (omega (arith, spells.small, long))
 
 module _ (one : OneBundle) (found : Command) (built : is_built found ≡ true) (bytes : List ℕ) where
-  both_judged : (reply : Reply) (why : Refusal) → MayReply found bytes reply → Refuses found bytes why → ⊥
+  both_judged : (reply : Reply) (why : Reason) → MayReply found bytes reply → Refuses found bytes why → ⊥
   both_judged reply why h k =
       none_some (sym h.accepted ∙ ap (refusal_of found) (one bytes h.bundle k.bundle h.spells k.spells) ∙ k.refused)
 

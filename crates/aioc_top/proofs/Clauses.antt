@@ -1,6 +1,6 @@
 -- What the table of calls says by each clause.
 use Rattle.std.proofs.Common.{◌≡◌, ◌⊎◌, ◌↔◌, ℕ, List, [], length, Bool, true, false, true≢false, Option, Some, None, IfSome, IsSome, refl, sym, ap, ◌∙◌, subst, inl, inr, ⊎_elim, arith}
-use Rattle.std.specs.Prelude.{if◌then◌else◌}
+use Rattle.std.specs.Prelude.{if◌then◌else◌, option_map}
 use Rattle.std.specs.Option.{option_map_or}
 use Rattle.std.specs.Io.KnownBytes.{Appends, IsAtEnd}
 use Rattle.aioc_io.specs.Faults.{Rose}
@@ -16,20 +16,23 @@ use Rattle.marked_laws.specs.Network.{Network, network_start, network_run, netwo
 use Rattle.net_core.specs.Headline.{EveryRun}
 use Rattle.marked_laws.specs.Versions.{RunsReadNoVersion, with_version}
 use Rattle.net_core.specs.Laws.{RunsAreSound, SchedulesReadNoVersion}
-use Rattle.rule_checks.specs.Refusals.{IsAccepted}
+use Rattle.rule_checks.specs.Refusals.{IsAccepted, refusal}
+use Rattle.mend.specs.Traces.{mended_bundle}
+use Rattle.bundle_mend.specs.Laws.{MendedAccepted}
+use Rattle.bundle_mend.specs.Refusals.{mend_refusal}
 use Rattle.command_words.specs.declared.commands.Options.{Options}
 use Rattle.command_words.specs.declared.commands.Command.{Command}
 use Rattle.command_words.specs.declared.commands.Command.TheVariants as command
 use Rattle.aioc_top.specs.Calls.{Call, Judges, Happens, IsRead, CommandReads, ReadsBy, ReadsNothing, ReadsTo, Says, Writes}
 use Rattle.aioc_top.specs.Replies.{Reply, Replies, is_finished, refusal_of, step_history, line_of_text, check_line, project_text as project_lines, upgrade_text as upgraded, unread_reply, gen_line, gen_reply, gen_history, updates_of}
-use Rattle.aioc_top.specs.Serve.{CheckText, ComesExactly, Complete, GenPrinted, GivesUp, AfterEnd, ReadsToEnd, IsComplete, IsUpgraded, ProjectText, ReadsAll, ReplayText, RunPrinted, SaysWhy, Silent, TextPrinted, UpgradeText, UsageComes, has_printed}
+use Rattle.aioc_top.specs.Serve.{CheckText, ComesExactly, Complete, GenPrinted, GivesUp, AfterEnd, ReadsToEnd, IsComplete, IsUpgraded, MendText, ProjectText, ReadsAll, ReplayText, RunPrinted, SaysWhy, Silent, TextPrinted, UpgradeText, UsageComes, has_printed}
 use Rattle.aioc_top.specs.Verdicts.{Verdict, TooLong, Unspelled, Refused, Replied, MayReply, Cause, Comes, ComesBy, ComesOfText, Refuses, status_of, status_of_end}
 use Rattle.aioc_top.specs.Words.{is_built, IsShort}
 use Rattle.command_words.specs.Commands.{usual_steps}
 use Rattle.command_words.specs.declared.commands.Verb.TheVariants.{Gen}
 use Rattle.load_gen.specs.Laws.{MadeAreAccepted}
 use Rattle.load_gen.specs.Made.{made}
-use Rattle.rule_checks.specs.declared.refusals.Refusal.{Refusal}
+use Rattle.aioc_top.specs.Reasons.{Reason, MayNotRun, CannotBeMended}
 use Rattle.aioc_top.specs.declared.replies.End.TheVariants as end
 use Rattle.aioc_top.specs.declared.status.Status.{Status}
 use Rattle.aioc_top.specs.declared.status.Status.TheVariants as status
@@ -203,7 +206,7 @@ abbrev is_reply : Verdict → Bool
 is_reply (Replied reply) = true
 is_reply _ = false
 
-refuses_by : (o : Option Reply) (c : Command) (bytes : List ℕ) (why : Refusal) → ComesBy o c bytes (Refused why) → Refuses c bytes why
+refuses_by : (o : Option Reply) (c : Command) (bytes : List ℕ) (why : Reason) → ComesBy o c bytes (Refused why) → Refuses c bytes why
 refuses_by (Some reply) c bytes why h = absurd (true≢false (sym (ap is_reply h)))
 refuses_by None c bytes why h = h
 
@@ -310,6 +313,11 @@ module _ (one : OneBundle) (call : Call) (all_built : (found : Command) → call
       by status.Syntax h = answered status.Syntax h
       by status.Refused h = answered status.Refused h
 
+-- a command that has no reason to refuse a bundle finds no refusal
+unrefused : {A : Type 0} (make : A → Reason) (o : Option A) → option_map make o ≡ None → o ≡ None
+unrefused make None h = refl
+unrefused make (Some why) h = absurd (none_some (sym h))
+
 -- a status that prints tells a verdict
 printing : (t : Status) → has_printed t ≡ true → tells_verdict t ≡ true
 printing status.Done e = refl
@@ -344,7 +352,7 @@ module _ (formed : SpelledIsFormed) (every : EveryRun) (sound : RunsAreSound) (o
   run_printed bytes source out out_after s reply read h is wrote =
       let b = h.bundle in
       let H = step_history options b in
-      let accepted : IsAccepted b = record { formed = formed bytes b h.spells; no_refusal = h.accepted } in
+      let accepted : IsAccepted b = record { formed = formed bytes b h.spells; no_refusal = unrefused MayNotRun (refusal b) h.accepted } in
       let arrives = sound b [] (network_start b) options.seed options.steps accepted refl (omega arith) in
       let N = arrives.network in
       let finished : is_finished b H ≡ network_ended b.cast N = end_is b H N arrives.runs in
@@ -380,7 +388,8 @@ module _ (formed : SpelledIsFormed) (every : EveryRun) (sound : RunsAreSound) (o
 
 -- what was printed is the text of an accepted bundle, where each reply of the command is that text
 module _ (formed : SpelledIsFormed) (wanted : Command) (text : unread_reply wanted ≡ None) (text_of : PlainBundle → List ℕ)
-    (only : (b : PlainBundle) (reply : Reply) → Replies wanted b reply → reply ≡ record { end = end.Done; text = text_of b }) where
+    (only : (b : PlainBundle) (reply : Reply) → Replies wanted b reply → reply ≡ record { end = end.Done; text = text_of b })
+    (runs : (b : PlainBundle) → refusal_of wanted b ≡ option_map MayNotRun (refusal b)) where
   pub text_printed : (call : Call) (s : Status) → Happens call s → call.asked ≡ Some wanted → has_printed s ≡ true
       → TextPrinted text_of s call.source call.out call.out_after
   text_printed call s h is prints =
@@ -394,16 +403,16 @@ module _ (formed : SpelledIsFormed) (wanted : Command) (text : unread_reply want
         read = (text_read (unread_reply wanted) (Replied its.0) its.1.bytes call.source call.source_after text (reads_by call (Replied its.0) its.1 wanted is)).0;
         bundle = b;
         spells = comes.spells;
-        accepted = record { formed = formed its.1.bytes b comes.spells; no_refusal = comes.accepted };
+        accepted = record { formed = formed its.1.bytes b comes.spells; no_refusal = unrefused MayNotRun (refusal b) (sym (runs b) ∙ comes.accepted) };
         printed = subst (λ (r : Reply). Appends call.out.taken call.out_after.taken r.text) replies its.3;
         done = its.2 ∙ ap (λ (r : Reply). status_of_end r.end) replies;
       }
 
 pub check_text : SpelledIsFormed → (call : Call) (s : Status) → Happens call s → CheckText call.asked s call.source call.out call.out_after
-check_text formed call s h is prints = text_printed formed command.Check refl (λ b. line_of_text (check_line b)) (λ b reply e. e) call s h is prints
+check_text formed call s h is prints = text_printed formed command.Check refl (λ b. line_of_text (check_line b)) (λ b reply e. e) (λ b. refl) call s h is prints
 
 pub project_text : SpelledIsFormed → (call : Call) (s : Status) → Happens call s → ProjectText call.asked s call.source call.out call.out_after
-project_text formed call s h is prints = text_printed formed command.Project refl project_lines (λ b reply e. e) call s h is prints
+project_text formed call s h is prints = text_printed formed command.Project refl project_lines (λ b reply e. e) (λ b. refl) call s h is prints
 
 -- ---- the judgement of a trace
 
@@ -419,7 +428,7 @@ replay_text formed call s h is prints =
       read = read.0;
       bundle = b;
       spells = comes.spells;
-      accepted = record { formed = formed its.1.bytes b comes.spells; no_refusal = comes.accepted };
+      accepted = record { formed = formed its.1.bytes b comes.spells; no_refusal = unrefused MayNotRun (refusal b) comes.accepted };
       printed = subst (λ (r : Reply). Appends call.out.taken call.out_after.taken r.text) comes.replies its.3;
       told = its.2 ∙ ap (λ (r : Reply). status_of_end r.end) comes.replies;
     }
@@ -454,8 +463,31 @@ module _ (written : WrittenIsSpelled) (runs : RunsReadNoVersion) (schedules : Sc
 
   pub upgrade_text : SpelledIsFormed → (call : Call) (s : Status) → Happens call s → UpgradeText call.asked s call.source call.out call.out_after
   upgrade_text formed call s h is prints =
-      let text : TextPrinted upgraded s call.source call.out call.out_after = text_printed formed command.Upgrade refl upgraded (λ b reply e. e) call s h is prints in
+      let text : TextPrinted upgraded s call.source call.out call.out_after = text_printed formed command.Upgrade refl upgraded (λ b reply e. e) (λ b. refl) call s h is prints in
       (text, upgraded_so text.bundle text.accepted)
+
+-- ---- the mended bundle
+
+pub mend_text : WrittenIsSpelled → MendedAccepted → SpelledIsFormed → (call : Call) (s : Status) → Happens call s → MendText call.asked s call.source call.out call.out_after
+mend_text written mends formed call s h is prints =
+    let its = reply_told call s prints (told call s (printing s prints) h) in
+    let same : its.1.command ≡ command.Mend = some_same (sym its.1.asked ∙ is) in
+    let comes : MayReply command.Mend its.1.bytes its.0 = subst (λ c. Comes c its.1.bytes (Replied its.0)) same its.1.comes in
+    let read : CommandReads command.Mend (Replied its.0) its.1.bytes call.source call.source_after = reads_by call (Replied its.0) its.1 command.Mend is in
+    let b = comes.bundle in
+    let free : mend_refusal b ≡ None = unrefused CannotBeMended (mend_refusal b) comes.accepted in
+    let accepted : IsAccepted (mended_bundle b) = mends b (formed its.1.bytes b comes.spells) free in
+    record {
+      bytes = its.1.bytes;
+      read = read.0;
+      bundle = b;
+      spells = comes.spells;
+      free = free;
+      printed = subst (λ (r : Reply). Appends call.out.taken call.out_after.taken r.text) comes.replies its.3;
+      accepted = accepted;
+      spelled = written (mended_bundle b) accepted.formed;
+      done = its.2 ∙ ap (λ (r : Reply). status_of_end r.end) comes.replies;
+    }
 
 -- ---- the line of a made bundle
 

@@ -1,21 +1,29 @@
 -- What comes of a command and the bytes that were read, from what its parts answered.
-use Rattle.std.proofs.Common.{◌≡◌, ◌<◌, ◌≤◌, ℕ, suc, List, length, Option, Some, None, IfSome, Result, Ok, Err, IfOk, IfErr, refl, sym, ap, ◌∙◌, subst, arith}
-use Rattle.std.specs.Prelude.{replicate}
+use Rattle.std.proofs.Common.{◌≡◌, ◌≢◌, ◌<◌, ◌≤◌, ℕ, suc, List, length, Option, Some, None, IfSome, Result, Ok, Err, IfOk, IfErr, refl, sym, ap, ◌∙◌, subst, arith}
+use Rattle.std.specs.Prelude.{option_map, replicate}
 use Rattle.std.proofs.lemmas.List.{length-replicate}
 use Rattle.std.specs.Io.KnownBytes.{IsAtEnd}
 use Rattle.aioc_io.specs.Source.{SourceState}
 use Rattle.limits.specs.Limits.{most_bytes}
 use Rattle.dioc_terms.specs.Plain.{PlainBundle}
 use Rattle.bundle_text.specs.Grammar.{Spells, SpellsNone}
+use Rattle.rule_checks.specs.Answers.{IsRefusalOf}
+use Rattle.rule_checks.specs.Refusals.{IsAccepted, refusal}
+use Rattle.rule_checks.specs.declared.refusals.Refusal.{Refusal}
+use Rattle.bundle_mend.specs.Refusals.{mend_refusal, IsMendRefusalOf}
+use Rattle.bundle_mend.specs.declared.refusals.MendRefusal.{MendRefusal}
 use Rattle.command_words.specs.declared.commands.Command.{Command}
+use Rattle.command_words.specs.declared.commands.Command.TheVariants as command
 use Rattle.marked_laws.proofs.Shapes.{none_some, some_same}
 use Rattle.aioc_top.specs.Calls.{IsRead, ReadsBy, ReadsNothing, ReadsTo}
-use Rattle.aioc_top.specs.Faults.{IsJudgedSo, IsRefusedSo, IsSyntaxFault, ReadSo, Stops}
-use Rattle.aioc_top.specs.Replies.{reply_of, unread_reply}
+use Rattle.aioc_top.specs.Faults.{IsJudgedSo, IsMendRefusalFault, IsRefusalFault, IsRefusedSo, IsSyntaxFault, ReadSo, Stops}
+use Rattle.aioc_top.specs.Reasons.{MayNotRun, CannotBeMended}
+use Rattle.aioc_top.specs.Replies.{Replies, refusal_of, reply_of, mend_text, unread_reply}
 use Rattle.aioc_top.specs.Verdicts.{Verdict, TooLong, Unspelled, Refused, Replied, IsReplied, ComesBy, ComesOfText}
 use Rattle.aioc_top.specs.declared.faults.Fault.{Fault}
 use Rattle.aioc_top.specs.declared.faults.Fault.TheVariants as fault
 use Rattle.aioc_top.specs.declared.replies.Written.{Written}
+use Rattle.aioc_top.specs.declared.replies.End.TheVariants as end
 use Rattle.aioc_top.proofs.Clauses.{mapped}
 
 pub mapped_fault : {A E : Type 0} {P Q : E → Type 0} → ((e : E) → P e → Q e) → (r : Result A E) → IfErr r P → IfErr r Q
@@ -34,6 +42,41 @@ syntax_is asked bytes byte fault.ReadFault small none h = absurd h
 syntax_is asked bytes byte fault.WriteFault small none h = absurd h
 syntax_is asked bytes byte fault.TooLong small none h = absurd h
 syntax_is asked bytes byte (fault.Refused line) small none h = absurd h
+
+-- each command but `mend` takes what is accepted
+of_others : (asked : Command) (b : PlainBundle) → asked ≢ command.Mend → refusal_of asked b ≡ option_map MayNotRun (refusal b)
+of_others command.Mend b other = absurd (other refl)
+of_others _ b other = refl
+
+pub accepted_so : (asked : Command) (b : PlainBundle) (written : Written) → asked ≢ command.Mend → IsAccepted b → Replies asked b (reply_of written) → IsReplied asked b written
+accepted_so asked b written other may replies = record {
+  accepted = of_others asked b other ∙ ap (option_map MayNotRun) may.no_refusal;
+  replies = replies;
+}
+
+pub refused_so : (asked : Command) (b : PlainBundle) (why : Refusal) (f : Fault) → asked ≢ command.Mend → IsRefusalOf (refusal b) why → IsRefusalFault why f → IsRefusedSo asked b f
+refused_so asked b why (fault.Refused line) other told h = (MayNotRun why, of_others asked b other ∙ ap (option_map MayNotRun) (told h.0), h.1)
+refused_so asked b why fault.Memory other told h = h
+refused_so asked b why fault.Usage other told h = absurd h
+refused_so asked b why fault.ReadFault other told h = absurd h
+refused_so asked b why fault.WriteFault other told h = absurd h
+refused_so asked b why fault.TooLong other told h = absurd h
+refused_so asked b why (fault.Syntax line) other told h = absurd h
+
+pub mended_so : (b : PlainBundle) (written : Written) → mend_refusal b ≡ None → reply_of written ≡ record { end = end.Done; text = mend_text b } → IsReplied command.Mend b written
+mended_so b written free replied = record {
+  accepted = ap (option_map CannotBeMended) free;
+  replies = replied;
+}
+
+pub unmended_so : (b : PlainBundle) (why : MendRefusal) (f : Fault) → IsMendRefusalOf (mend_refusal b) why → IsMendRefusalFault why f → IsRefusedSo command.Mend b f
+unmended_so b why (fault.Refused line) told h = (CannotBeMended why, ap (option_map CannotBeMended) (told h.0), h.1)
+unmended_so b why fault.Memory told h = h
+unmended_so b why fault.Usage told h = absurd h
+unmended_so b why fault.ReadFault told h = absurd h
+unmended_so b why fault.WriteFault told h = absurd h
+unmended_so b why fault.TooLong told h = absurd h
+unmended_so b why (fault.Syntax line) told h = absurd h
 
 pub refused_is : (asked : Command) (bytes : List ℕ) (b : PlainBundle) → Spells bytes b → (f : Fault) → IsRefusedSo asked b f → IsJudgedSo asked bytes f
 refused_is asked bytes b spells (fault.Refused line) h = (h.0, record { bundle = b; spells = spells; refused = h.1 }, h.2)

@@ -5,9 +5,12 @@ use Rattle.aioc_io.specs.Source.{SourceState}
 use Rattle.dioc_terms.specs.Plain.{PlainBundle}
 use Rattle.rule_checks.specs.declared.refusals.Refusal.{Refusal}
 use Rattle.rule_checks.specs.declared.refusals.Refusal.TheVariants as refused
+use Rattle.bundle_mend.specs.declared.refusals.MendRefusal.{MendRefusal}
+use Rattle.bundle_mend.specs.declared.refusals.MendRefusal.TheVariants as unmended
 use Rattle.command_words.specs.declared.commands.Command.{Command}
 use Rattle.aioc_top.specs.Calls.{CommandReads, ReadsNothing}
 use Rattle.aioc_top.specs.Messages.{memory_line, read_fault_line, refusal_line, syntax_line, too_long_line, usage_line, write_fault_line}
+use Rattle.aioc_top.specs.Reasons.{Reason, MayNotRun, CannotBeMended}
 use Rattle.aioc_top.specs.Replies.{refusal_of, unread_reply}
 use Rattle.aioc_top.specs.Verdicts.{Verdict, TooLong, Unspelled, Refused, Comes, ComesOfText}
 use Rattle.aioc_top.specs.declared.faults.Fault.{Fault}
@@ -41,14 +44,23 @@ IsSyntaxFault byte _ = ⊥
 
 -- the fault of this refusal, with its line; memory may run out
 abbrev pub IsRefusalFault : Refusal → Fault → Type 0
-IsRefusalFault why (fault.Refused line) = (why ≢ refused.Memory) × (line.items ≡ refusal_line why)
+IsRefusalFault why (fault.Refused line) =
+    (why ≢ refused.Memory) × (line.items ≡ refusal_line (MayNotRun why))
 IsRefusalFault why fault.Memory = Unit {0}
 IsRefusalFault why _ = ⊥
 
--- the fault of the first refusal of a bundle, with its line; memory may run out
+-- the same of why a bundle can't be mended
+abbrev pub IsMendRefusalFault : MendRefusal → Fault → Type 0
+IsMendRefusalFault why (fault.Refused line) =
+    (why ≢ unmended.Refused refused.Memory) × (line.items ≡ refusal_line (CannotBeMended why))
+IsMendRefusalFault why fault.Memory = Unit {0}
+IsMendRefusalFault why _ = ⊥
+
+-- the fault of the first reason for which the command refuses a bundle, with its line; memory may
+-- run out
 abbrev pub IsRefusedSo : Command → PlainBundle → Fault → Type 0
 IsRefusedSo asked b (fault.Refused line) =
-    (why : Refusal) × (refusal_of asked b ≡ Some why) × (line.items ≡ refusal_line why)
+    (why : Reason) × (refusal_of asked b ≡ Some why) × (line.items ≡ refusal_line why)
 IsRefusedSo asked b fault.Memory = Unit {0}
 IsRefusedSo asked b _ = ⊥
 
@@ -57,7 +69,7 @@ abbrev pub IsJudgedSo : Command → List ℕ → Fault → Type 0
 IsJudgedSo asked bytes (fault.Syntax line) =
     (byte : ℕ) × ComesOfText asked bytes (Unspelled byte) × (line.items ≡ syntax_line byte)
 IsJudgedSo asked bytes (fault.Refused line) =
-    (why : Refusal) × ComesOfText asked bytes (Refused why) × (line.items ≡ refusal_line why)
+    (why : Reason) × ComesOfText asked bytes (Refused why) × (line.items ≡ refusal_line why)
 IsJudgedSo asked bytes fault.Memory = Unit {0}
 IsJudgedSo asked bytes _ = ⊥
 
@@ -77,7 +89,7 @@ Stops asked source source_after (fault.Syntax line) =
     (byte : ℕ) × ReadSo asked source source_after (Unspelled byte)
     × (line.items ≡ syntax_line byte)
 Stops asked source source_after (fault.Refused line) =
-    (why : Refusal) × ReadSo asked source source_after (Refused why)
+    (why : Reason) × ReadSo asked source source_after (Refused why)
     × (line.items ≡ refusal_line why)
 Stops asked source source_after fault.Memory = ReadsNothing (Some asked) source source_after
 Stops asked source source_after fault.Usage = ⊥

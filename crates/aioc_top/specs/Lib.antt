@@ -3,6 +3,7 @@ pub mod Endings
 pub mod Faults
 pub mod Judging
 pub mod Messages
+pub mod Reasons
 pub mod Replies
 pub mod Serve
 pub mod Status

@@ -1,8 +1,7 @@
 -- The lines that tell a person why a command did not do its work.
 use Rattle.std.specs.Prelude.{ℕ, List, [], ◌∷◌, ◌++◌, codes, decimal}
 use Rattle.trace_text.specs.Lines.{line_end}
-use Rattle.rule_checks.specs.declared.refusals.Refusal.{Refusal}
-use Rattle.rule_checks.specs.Texts.{refusal_text}
+use Rattle.aioc_top.specs.Reasons.{Reason, reason_text}
 
 abbrev pub usage_line : List ℕ
 usage_line = codes "usage: aioc COMMAND [OPTIONS]" ++ line_end ∷ []
@@ -23,5 +22,5 @@ memory_line = codes "out of memory" ++ line_end ∷ []
 abbrev pub syntax_line : ℕ → List ℕ
 syntax_line byte = codes "syntax: byte " ++ decimal byte ++ line_end ∷ []
 
-abbrev pub refusal_line : Refusal → List ℕ
-refusal_line r = codes "refused: " ++ (refusal_text r ++ line_end ∷ [])
+abbrev pub refusal_line : Reason → List ℕ
+refusal_line why = codes "refused: " ++ (reason_text why ++ line_end ∷ [])

@@ -1,5 +1,5 @@
--- What each command may answer to an accepted bundle: how it ends, and its text.
-use Rattle.std.specs.Prelude.{◌≡◌, ◌⊎◌, ◌≤◌, ℕ, suc, List, ◌∷◌, [], ◌++◌, length, Bool, true, false, Option, Some, None, if◌then◌else◌, codes, decimal, flat_map}
+-- What each command may answer to a bundle that it takes: how it ends, and its text.
+use Rattle.std.specs.Prelude.{◌≡◌, ◌⊎◌, ◌≤◌, ℕ, suc, List, ◌∷◌, [], ◌++◌, length, Bool, true, false, Option, Some, None, if◌then◌else◌, codes, decimal, flat_map, option_map}
 use Rattle.std.specs.Option.{option_map_or}
 use Rattle.dioc_terms.specs.declared.names.Role.{Role}
 use Rattle.dioc_terms.specs.declared.entries.Entry.{Entry}
@@ -19,7 +19,8 @@ use Rattle.trace_text.specs.Process.{process_text}
 use Rattle.trace_text.specs.Runs.{run_text}
 use Rattle.net_core.specs.Schedule.{sched, IsPrompt}
 use Rattle.rule_checks.specs.Refusals.{refusal}
-use Rattle.rule_checks.specs.declared.refusals.Refusal.{Refusal}
+use Rattle.mend.specs.Traces.{mended_bundle}
+use Rattle.bundle_mend.specs.Refusals.{mend_refusal}
 use Rattle.command_words.specs.Commands.{usual_steps}
 use Rattle.command_words.specs.declared.commands.Options.{Options}
 use Rattle.command_words.specs.declared.commands.Verb.TheVariants.{Gen}
@@ -29,6 +30,7 @@ use Rattle.command_words.specs.declared.commands.Command.TheVariants as command
 use Rattle.aioc_top.specs.declared.replies.End.{End}
 use Rattle.aioc_top.specs.declared.replies.End.TheVariants as end
 use Rattle.aioc_top.specs.declared.replies.Written.{Written}
+use Rattle.aioc_top.specs.Reasons.{Reason, MayNotRun, CannotBeMended}
 
 -- how a command ends when it has written its text, and that text
 pub record Reply : Type 0 where
@@ -158,13 +160,19 @@ project_text b = flat_map (role_line b.cast b.choreo) b.cast
 abbrev pub upgrade_text : PlainBundle → List ℕ
 upgrade_text b = bundle_text (with_version 2 b)
 
+-- the bundle as it is written when it has been mended
+abbrev pub mend_text : PlainBundle → List ℕ
+mend_text b = bundle_text (mended_bundle b)
+
 -- ---- all commands
 
--- the first refusal of a command that reads one bundle
-abbrev pub refusal_of : Command → PlainBundle → Option Refusal
-refusal_of asked b = refusal b
+-- the first reason for which a command refuses a bundle
+abbrev pub refusal_of : Command → PlainBundle → Option Reason
+refusal_of command.Mend b = option_map CannotBeMended (mend_refusal b)
+refusal_of _ b = option_map MayNotRun (refusal b)
 
--- What a command may answer to an accepted bundle. A command without a row isn't defined yet.
+-- What a command may answer to a bundle that it doesn't refuse. A command without a row isn't
+-- defined yet.
 abbrev pub Replies : Command → PlainBundle → Reply → Type 0
 Replies (command.Step options) b reply = reply ≡ run_reply options b (step_history options b)
 Replies (command.Run options) b reply =
@@ -173,4 +181,5 @@ Replies command.Check b reply = reply ≡ done_reply (check_line b)
 Replies command.Project b reply = reply ≡ record { end = end.Done; text = project_text b }
 Replies command.Replay b reply = reply ≡ replay_reply b
 Replies command.Upgrade b reply = reply ≡ record { end = end.Done; text = upgrade_text b }
+Replies command.Mend b reply = reply ≡ record { end = end.Done; text = mend_text b }
 Replies _ b reply = ⊥

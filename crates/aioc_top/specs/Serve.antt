@@ -12,9 +12,10 @@ use Rattle.global_steps.specs.Follow.{play}
 use Rattle.marked_laws.specs.Network.{Network, network_ended, network_run}
 use Rattle.marked_laws.specs.Versions.{with_version}
 use Rattle.net_core.specs.Schedule.{sched}
-use Rattle.rule_checks.specs.declared.refusals.Refusal.{Refusal}
 use Rattle.net_core.specs.Headline.{Headline}
 use Rattle.rule_checks.specs.Refusals.{IsAccepted, refusal}
+use Rattle.mend.specs.Traces.{mended_bundle}
+use Rattle.bundle_mend.specs.Refusals.{mend_refusal}
 use Rattle.command_words.specs.Commands.{usual_steps}
 use Rattle.command_words.specs.declared.commands.Options.{Options}
 use Rattle.command_words.specs.declared.commands.Verb.TheVariants.{Gen}
@@ -23,7 +24,8 @@ use Rattle.command_words.specs.declared.commands.Command.{Command}
 use Rattle.command_words.specs.declared.commands.Command.TheVariants as command
 use Rattle.aioc_top.specs.Calls.{IsRead, ReadsNothing, SaysLine}
 use Rattle.aioc_top.specs.Messages.{usage_line, read_fault_line, write_fault_line, too_long_line, memory_line, syntax_line, refusal_line}
-use Rattle.aioc_top.specs.Replies.{Reply, Replies, refusal_of, run_reply, step_history, line_of_text, check_line, project_text, replay_reply, upgrade_text, unread_reply, gen_line, gen_history}
+use Rattle.aioc_top.specs.Reasons.{Reason}
+use Rattle.aioc_top.specs.Replies.{Reply, Replies, refusal_of, run_reply, step_history, line_of_text, check_line, project_text, replay_reply, upgrade_text, mend_text, unread_reply, gen_line, gen_history}
 use Rattle.aioc_top.specs.Verdicts.{Replied, Comes, Cause, Refuses, status_of_end}
 use Rattle.aioc_top.specs.declared.status.Status.{Status}
 use Rattle.aioc_top.specs.declared.status.Status.TheVariants as status
@@ -125,6 +127,28 @@ abbrev pub UpgradeText : Option Command → Status → SourceState → SinkState
 UpgradeText asked result source out out_after =
     asked ≡ Some command.Upgrade → has_printed result ≡ true
     → (text : TextPrinted upgrade_text result source out out_after) × IsUpgraded text.bundle
+
+-- The text of a mended bundle was printed: that of a bundle which the bytes spell, and these are
+-- the source's where it tells them. Nothing keeps it from being mended. The mended bundle is
+-- accepted, and that text spells it where it isn't too long.
+pub record MendedPrinted (result : Status) (source : SourceState) (out out_after : SinkState) :
+    Type 0 where
+  pub bytes : List ℕ
+  pub read : IsRead source bytes
+  pub bundle : PlainBundle
+  pub spells : Spells bytes bundle
+  pub free : mend_refusal bundle ≡ None
+  pub printed : Appends out.taken out_after.taken (mend_text bundle)
+  pub accepted : IsAccepted (mended_bundle bundle)
+  pub spelled : length (mend_text bundle) ≤ most_bytes
+      → Spells (mend_text bundle) (mended_bundle bundle)
+  pub done : result ≡ status.Done
+
+-- with `mend` it is the mended bundle
+abbrev pub MendText : Option Command → Status → SourceState → SinkState → SinkState → Type 0
+MendText asked result source out out_after =
+    asked ≡ Some command.Mend → has_printed result ≡ true
+    → MendedPrinted result source out out_after
 
 -- The line of the bundle that is made of these numbers was printed, and the status tells how its
 -- run ended. The bundle is accepted, and the headline holds of the very run that is counted there.
@@ -237,7 +261,7 @@ SaysWhy status.TooLong asked source err err_after = SaysLine err err_after too_l
 SaysWhy status.Syntax asked source err err_after =
     (byte : ℕ) × SaysLine err err_after (syntax_line byte)
 SaysWhy status.Refused asked source err err_after =
-    (found : Command) × (asked ≡ Some found) × ((why : Refusal)
+    (found : Command) × (asked ≡ Some found) × ((why : Reason)
     × SaysLine err err_after (refusal_line why)
     × IfSome source.left (λ bytes. Refuses found bytes why))
 SaysWhy status.Memory asked source err err_after = SaysLine err err_after memory_line

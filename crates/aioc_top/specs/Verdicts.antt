@@ -3,36 +3,36 @@ use Rattle.std.specs.Prelude.{◌≡◌, ◌<◌, ◌≤◌, ℕ, List, length, 
 use Rattle.limits.specs.Limits.{most_bytes}
 use Rattle.dioc_terms.specs.Plain.{PlainBundle}
 use Rattle.bundle_text.specs.Grammar.{Spells, SpellsNone}
-use Rattle.rule_checks.specs.declared.refusals.Refusal.{Refusal}
 use Rattle.command_words.specs.declared.commands.Command.{Command}
 use Rattle.aioc_top.specs.declared.replies.End.{End}
 use Rattle.aioc_top.specs.declared.replies.End.TheVariants as end
 use Rattle.aioc_top.specs.declared.replies.Written.{Written}
 use Rattle.aioc_top.specs.declared.status.Status.{Status}
 use Rattle.aioc_top.specs.declared.status.Status.TheVariants as status
+use Rattle.aioc_top.specs.Reasons.{Reason}
 use Rattle.aioc_top.specs.Replies.{Reply, Replies, refusal_of, reply_of, unread_reply}
 
 pub data Verdict : Type 0 where
   TooLong : Verdict
   -- the bytes spell no bundle; the byte is one near which the grammar wanted something else
   Unspelled : ℕ → Verdict
-  Refused : Refusal → Verdict
+  Refused : Reason → Verdict
   Replied : Reply → Verdict
 
 -- the bytes spell a bundle that is refused so
-pub record Refuses (asked : Command) (bytes : List ℕ) (why : Refusal) : Type 0 where
+pub record Refuses (asked : Command) (bytes : List ℕ) (why : Reason) : Type 0 where
   pub bundle : PlainBundle
   pub spells : Spells bytes bundle
   pub refused : refusal_of asked bundle ≡ Some why
 
--- the bytes spell an accepted bundle, to which the command may answer so
+-- the bytes spell a bundle that the command takes, and to which it may answer so
 pub record MayReply (asked : Command) (bytes : List ℕ) (reply : Reply) : Type 0 where
   pub bundle : PlainBundle
   pub spells : Spells bytes bundle
   pub accepted : refusal_of asked bundle ≡ None
   pub replies : Replies asked bundle reply
 
--- what was written is a reply of the command to an accepted bundle
+-- what was written is a reply of the command to a bundle that it takes
 pub record IsReplied (asked : Command) (bundle : PlainBundle) (written : Written) : Type 0 where
   pub accepted : refusal_of asked bundle ≡ None
   pub replies : Replies asked bundle (reply_of written)

@@ -12,6 +12,7 @@ is_built command.Check = true
 is_built command.Project = true
 is_built command.Replay = true
 is_built command.Upgrade = true
+is_built command.Mend = true
 is_built (command.Gen number size) = true
 is_built _ = false
 

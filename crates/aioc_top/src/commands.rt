@@ -1,7 +1,8 @@
-//! The commands: one module for each, from an accepted bundle to its text.
+//! The commands: one module for each, from a bundle to its text.
 
 pub mod check;
 pub mod generate;
+pub mod mend;
 pub mod project;
 pub mod replay;
 pub mod step;

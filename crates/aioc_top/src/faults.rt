@@ -3,8 +3,10 @@
 ghost use Rattle.std.specs.Prelude.{◌≡◌, IfOk};
 ghost use Rattle.aioc_top.specs.Faults.{line_of, status_of};
 ghost use Rattle.aioc_top.specs.Messages.{refusal_line, syntax_line};
+ghost use Rattle.aioc_top.specs.Reasons.{MayNotRun, CannotBeMended};
 
 use crate::status::Status;
+use bundle_mend::MendRefusal;
 use dioc_terms::Memory;
 use rule_checks::Refusal;
 use std::alloc::Global;
@@ -75,7 +77,15 @@ pub fn make_syntax_line(alloc: Global, byte: usize) -> Result<Vec<u8>, Memory>
 
 /// The line of a bundle that may not run.
 pub fn make_refusal_line(alloc: Global, refusal: &Refusal) -> Result<Vec<u8>, Memory>
-    ensures { IfOk result (λ line. line.items ≡ refusal_line refusal.now) }
+    ensures { IfOk result (λ line. line.items ≡ refusal_line (MayNotRun refusal.now)) }
+{
+    let line = format!(in alloc; "refused: {refusal}\n")?;
+    Ok(line.into_bytes())
+}
+
+/// The line of a bundle that can't be mended.
+pub fn make_mend_refusal_line(alloc: Global, refusal: &MendRefusal) -> Result<Vec<u8>, Memory>
+    ensures { IfOk result (λ line. line.items ≡ refusal_line (CannotBeMended refusal.now)) }
 {
     let line = format!(in alloc; "refused: {refusal}\n")?;
     Ok(line.into_bytes())

@@ -1,22 +1,24 @@
 //! From the bytes of a bundle to the reply of a command, or to why there is none.
 
-ghost use Rattle.std.specs.Prelude.{◌≡◌, ◌≤◌, length, None, IfErr, IfOk};
+ghost use Rattle.std.specs.Prelude.{◌≡◌, ◌≢◌, ◌≤◌, length, None, IfErr, IfOk};
 ghost use Rattle.dioc_terms.specs.Bundles.{IsFormed};
 ghost use Rattle.limits.specs.Limits.{most_bytes};
 ghost use Rattle.dioc_terms.specs.Plain.{plain};
 ghost use Rattle.rule_checks.specs.Refusals.{IsAccepted};
-ghost use Rattle.aioc_top.specs.Faults.{IsJudgedSo, IsRefusalFault, IsSyntaxFault, IsRefusedSo};
+ghost use Rattle.aioc_top.specs.Faults.{IsJudgedSo, IsMendRefusalFault, IsRefusalFault, IsSyntaxFault, IsRefusedSo};
 ghost use Rattle.aioc_top.specs.Replies.{Replies, reply_of, unread_reply};
 ghost use Rattle.aioc_top.specs.Verdicts.{ComesOfText, Replied, IsReplied};
 ghost use Rattle.aioc_top.specs.Words.{IsServed};
 
 use crate::commands::check::check;
+use crate::commands::mend::mend;
 use crate::commands::project::project;
 use crate::commands::replay::replay;
 use crate::commands::step::step;
 use crate::commands::upgrade::upgrade;
-use crate::faults::{Fault, make_refusal_line, make_syntax_line};
+use crate::faults::{Fault, make_mend_refusal_line, make_refusal_line, make_syntax_line};
 use crate::replies::Written;
+use bundle_mend::MendRefusal;
 use bundle_text::read_bundle;
 use command_words::Command;
 use dioc_terms::{Bundle, Memory, SyntaxFault};
@@ -48,10 +50,50 @@ fn syntax_fault(alloc: Global, byte: usize) -> Fault
     }
 }
 
-// What the command replies to a formed bundle, or the first refusal of the bundle.
+// What the command replies to a formed bundle, or the first reason for which it refuses it.
 fn reply_to(alloc: Global, command: &Command, bundle: &mut Bundle) -> Result<Written, Fault>
     requires served { IsServed command.now }
     requires reads { unread_reply command.now ≡ None }
+    requires formed { IsFormed (plain bundle.old) }
+    ensures reply { IfOk result (IsReplied command.now (plain bundle.old)) }
+    ensures fault { IfErr result (IsRefusedSo command.now (plain bundle.old)) }
+{
+    match command {
+        Command::Mend => reply_mended(alloc, bundle),
+        _ => reply_accepted(alloc, command, bundle),
+    }
+}
+
+// What `mend` replies to a formed bundle, or the first reason why it can't be mended.
+fn reply_mended(alloc: Global, bundle: &Bundle) -> Result<Written, Fault>
+    requires formed { IsFormed (plain bundle.now) }
+    ensures reply { IfOk result (IsReplied Command.Mend (plain bundle.now)) }
+    ensures fault { IfErr result (IsRefusedSo Command.Mend (plain bundle.now)) }
+{
+    match mend(alloc, bundle) {
+        Ok(written) => Ok(written),
+        Err(refusal) => Err(mend_refusal_fault(alloc, &refusal)),
+    }
+}
+
+fn mend_refusal_fault(alloc: Global, refusal: &MendRefusal) -> Fault
+    ensures { IsMendRefusalFault refusal.now result }
+{
+    match refusal {
+        MendRefusal::Refused(Refusal::Memory) => Fault::Memory,
+        _ => match make_mend_refusal_line(alloc, refusal) {
+            Ok(line) => Fault::Refused(line),
+            Err(Memory) => Fault::Memory,
+        },
+    }
+}
+
+// What a command that takes accepted bundles replies to a formed bundle, or the first refusal of
+// the bundle.
+fn reply_accepted(alloc: Global, command: &Command, bundle: &mut Bundle) -> Result<Written, Fault>
+    requires served { IsServed command.now }
+    requires reads { unread_reply command.now ≡ None }
+    requires other { command.now ≢ Command.Mend }
     requires formed { IsFormed (plain bundle.old) }
     ensures reply { IfOk result (IsReplied command.now (plain bundle.old)) }
     ensures fault { IfErr result (IsRefusedSo command.now (plain bundle.old)) }
@@ -81,6 +123,7 @@ fn refusal_fault(alloc: Global, refusal: &Refusal) -> Fault
 fn do_command(alloc: Global, command: &Command, bundle: &mut Bundle) -> Result<Written, Memory>
     requires served { IsServed command.now }
     requires reads { unread_reply command.now ≡ None }
+    requires other { command.now ≢ Command.Mend }
     requires accepted { IsAccepted (plain bundle.old) }
     ensures { IfOk result (λ written. Replies command.now (plain bundle.old) (reply_of written)) }
 {

@@ -1,9 +1,15 @@
 //! What a command wrote, and how it ended.
 
-ghost use Rattle.std.specs.Prelude.{◌≡◌};
+ghost use Rattle.std.specs.Prelude.{◌≡◌, IfOk};
+ghost use Rattle.dioc_terms.specs.Plain.{plain};
+ghost use Rattle.bundle_text.specs.Writing.{bundle_text};
+ghost use Rattle.aioc_top.specs.Replies.{reply_of};
 ghost use Rattle.aioc_top.specs.Verdicts.{status_of_end};
 
 use crate::status::Status;
+use bundle_text::write_bundle;
+use dioc_terms::{Bundle, Memory};
+use std::alloc::Global;
 
 /// How a command ended that has a text to write.
 #[derive(Clone, Copy, Debug, PartialEq, Eq)]
@@ -36,4 +42,17 @@ pub struct Written {
     pub end: End,
     /// What it prints.
     pub text: Vec<u8>,
+}
+
+/// The bundle as it is written, by a command that did its work.
+pub fn bundle_written(alloc: Global, bundle: &Bundle) -> Result<Written, Memory>
+    ensures { IfOk result (λ written. reply_of written
+        ≡ record { end = End.Done; text = bundle_text (plain bundle.now) }) }
+{
+    let mut text = Vec::new(alloc);
+    write_bundle(bundle, &mut text)?;
+    Ok(Written {
+        end: End::Done,
+        text,
+    })
 }

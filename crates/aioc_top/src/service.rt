@@ -2,6 +2,7 @@
 
 ghost use Rattle.std.specs.Prelude.{◌≡◌, Some, true};
 ghost use Rattle.aioc_io.specs.Faults.{Rose};
+ghost use Rattle.bundle_mend.specs.Laws.{MendedAccepted};
 ghost use Rattle.bundle_text.specs.Laws.{OneBundle, SpelledIsFormed, WrittenIsSpelled};
 ghost use Rattle.net_core.specs.Headline.{EveryRun};
 ghost use Rattle.load_gen.specs.Laws.{MadeAreAccepted};
@@ -10,7 +11,7 @@ ghost use Rattle.net_core.specs.Laws.{RunsAreSound, SchedulesReadNoVersion};
 ghost use Rattle.aioc_top.specs.Calls.{Happens, PrintsReply, SaysLine};
 ghost use Rattle.aioc_top.specs.Faults.{line_of, status_of};
 ghost use Rattle.aioc_top.specs.Replies.{reply_of};
-ghost use Rattle.aioc_top.specs.Serve.{CheckText, ComesExactly, Complete, GenText, HeadlineHolds, ProjectText, ReadsAll, ReplayText, SaysWhy, Silent, StepText, UpgradeText, UsageComes};
+ghost use Rattle.aioc_top.specs.Serve.{CheckText, ComesExactly, Complete, GenText, HeadlineHolds, MendText, ProjectText, ReadsAll, ReplayText, SaysWhy, Silent, StepText, UpgradeText, UsageComes};
 ghost use Rattle.aioc_top.specs.Words.{asked, IsServed};
 ghost use Rattle.command_words.specs.Commands.{word_texts};
 
@@ -20,6 +21,7 @@ use crate::replies::Written;
 use crate::status::Status;
 use crate::words::ask;
 use aioc_io::{Failed, Sink, Source, write_all};
+use bundle_mend::mended_accepted;
 use bundle_text::{one_bundle, spelled_is_formed, written_is_spelled};
 use command_words::Command;
 use dioc_terms::Memory;
@@ -48,7 +50,8 @@ pub fn serve_alone<S: Source, O: Sink, E: Sink>(
 
     // With `check` the line that says how large the bundle is, with `project` a line for each role,
     // with `replay` the judgement of the trace, with `upgrade` the bundle in its second version,
-    // with `gen` the line of the bundle that is made of its numbers.
+    // with `mend` the bundle connected by added messages, with `gen` the line of the bundle that is
+    // made of its numbers.
     ensures check_text { CheckText (asked (word_texts words.now)) result (S.state source.old)
         (O.state out.old) (O.state out.new) }
     ensures project_text { ProjectText (asked (word_texts words.now)) result (S.state source.old)
@@ -58,6 +61,8 @@ pub fn serve_alone<S: Source, O: Sink, E: Sink>(
     ensures gen_text { GenText (asked (word_texts words.now)) result (O.state out.old)
         (O.state out.new) }
     ensures upgrade_text { UpgradeText (asked (word_texts words.now)) result (S.state source.old)
+        (O.state out.old) (O.state out.new) }
+    ensures mend_text { MendText (asked (word_texts words.now)) result (S.state source.old)
         (O.state out.old) (O.state out.new) }
 
     // The headline of the history behind the text of `step`: the choreography itself plays it, with
@@ -104,6 +109,7 @@ fn know_laws()
     ensures one { OneBundle }
     ensures formed { SpelledIsFormed }
     ensures written { WrittenIsSpelled }
+    ensures mended { MendedAccepted }
     ensures made { MadeAreAccepted }
     ensures every_run { EveryRun }
     ensures sound { RunsAreSound }
@@ -113,6 +119,7 @@ fn know_laws()
     one_bundle();
     spelled_is_formed();
     written_is_spelled();
+    mended_accepted();
     made_are_accepted();
     every_run();
     runs_are_sound();

@@ -36,7 +36,8 @@ fn is_built(command: &Command) -> bool
 {
     match command {
         Command::Step(_) => true,
-        Command::Check | Command::Project | Command::Replay | Command::Upgrade => true,
+        Command::Check | Command::Project | Command::Replay => true,
+        Command::Upgrade | Command::Mend => true,
         Command::Gen { .. } => true,
         _ => false,
     }

@@ -5,8 +5,7 @@ ghost use Rattle.dioc_terms.specs.Plain.{plain};
 ghost use Rattle.aioc_top.specs.Replies.{reply_of, upgrade_text};
 ghost use Rattle.aioc_top.specs.declared.replies.End.TheVariants as end;
 
-use crate::replies::{End, Written};
-use bundle_text::write_bundle;
+use crate::replies::{Written, bundle_written};
 use dioc_terms::{Bundle, Memory};
 use std::alloc::Global;
 
@@ -16,10 +15,5 @@ pub fn upgrade(alloc: Global, bundle: &mut Bundle) -> Result<Written, Memory>
         ≡ record { end = end.Done; text = upgrade_text (plain bundle.old) }) }
 {
     bundle.version = 2;
-    let mut text = Vec::new(alloc);
-    write_bundle(bundle, &mut text)?;
-    Ok(Written {
-        end: End::Done,
-        text,
-    })
+    bundle_written(alloc, bundle)
 }

@@ -22,6 +22,10 @@ pub returns-clause-upgrade_text : goal.returns-clause-upgrade_text
 returns-clause-upgrade_text g c =
     clauses.upgrade_text c.know_laws.ensures.written c.know_laws.ensures.runs c.know_laws.ensures.schedules c.know_laws.ensures.formed _ c.do_words.result c.do_words.ensures
 
+pub returns-clause-mend_text : goal.returns-clause-mend_text
+returns-clause-mend_text g c =
+    clauses.mend_text c.know_laws.ensures.written c.know_laws.ensures.mended c.know_laws.ensures.formed _ c.do_words.result c.do_words.ensures
+
 pub returns-clause-gen_text : goal.returns-clause-gen_text
 returns-clause-gen_text g c number size is prints =
     clauses.gen_text c.know_laws.ensures.made c.know_laws.ensures.every_run c.know_laws.ensures.sound number size _ c.do_words.result
