@@ -2,7 +2,7 @@
 
 pub mod check;
 pub mod generate;
-pub mod mend;
+pub mod mending;
 pub mod project;
 pub mod replay;
 pub mod step;

@@ -11,7 +11,7 @@ ghost use Rattle.aioc_top.specs.Verdicts.{ComesOfText, Replied, IsReplied};
 ghost use Rattle.aioc_top.specs.Words.{IsServed};
 
 use crate::commands::check::check;
-use crate::commands::mend::mend;
+use crate::commands::mending::mend;
 use crate::commands::project::project;
 use crate::commands::replay::replay;
 use crate::commands::step::step;
