@@ -1,2 +1,6 @@
 pub mod Driven
+pub mod Faults
 pub mod Laws
+pub mod Redoing
+pub mod ResumeLaws
+pub mod Resumed

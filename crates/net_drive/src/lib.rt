@@ -1,7 +1,10 @@
 //! From a visible trace to a full one: what a settled trace of the choreography is as a run of the
-//! network.
+//! network. And on from a full one: a run that stopped is resumed.
 #![tactic(auto)]
 
+mod known;
 mod laws;
+mod resuming;
 
-pub use laws::{driven_exactly, driven_runs, same_traces, strays_are_exact};
+pub use laws::{driven_exactly, driven_runs, resumed_runs, same_traces, strays_are_exact};
+pub use resuming::{ResumeFault, resume};
