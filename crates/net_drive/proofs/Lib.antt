@@ -9,4 +9,4 @@ mod Examples
 pub mod Onward
 pub mod Redone
 pub mod Refused
-pub mod Strays
+pub mod RunStrays

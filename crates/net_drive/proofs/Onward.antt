@@ -10,7 +10,7 @@ use Rattle.net_core.specs.Headline.{EveryRun, Headline}
 use Rattle.net_core.specs.Laws.{RunsAreSound}
 use Rattle.net_core.specs.Schedule.{sched_from}
 use Rattle.net_core.proofs.MoveLemmas.{some_got}
-use Rattle.net_drive.specs.ResumeLaws.{IsRunTo, ResumedRuns}
+use Rattle.net_drive.specs.ResumedLaws.{IsRunTo, ResumedRuns}
 use Rattle.net_drive.specs.Resumed.{resumed_history}
 use Rattle.rule_checks.specs.Refusals.{IsAccepted}
 

@@ -15,7 +15,7 @@ use Rattle.role_network.specs.Nets.{IsSoundRun, NetState, bundle_of, network_of}
 use Rattle.net_drive.specs.declared.resuming.Redone.TheVariants as redone
 use Rattle.net_drive.specs.Redoing.{IsRedone, Makes, Redoes, shown_step}
 use Rattle.net_drive.specs.Resumed.{IsFirstStray, run_stray}
-use Rattle.net_drive.proofs.Strays.{first_counted, first_stray, first_within}
+use Rattle.net_drive.proofs.RunStrays.{first_counted, first_stray, first_within}
 
 -- an entry can be done where the step that it shows notes it
 step_shown : (b : Setting) (N : Network) (e : Entry) → network_step b N e ≡ network_after e (shown_step b N e)

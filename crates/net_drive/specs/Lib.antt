@@ -2,5 +2,5 @@ pub mod Driven
 pub mod Faults
 pub mod Laws
 pub mod Redoing
-pub mod ResumeLaws
 pub mod Resumed
+pub mod ResumedLaws

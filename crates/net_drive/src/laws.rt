@@ -6,7 +6,6 @@ ghost use Rattle.dioc_terms.specs.TermLaws.{MentionsAreRoles, CastsAreRoles, Sta
 ghost use Rattle.drive_laws.specs.Laws.{Readiness, AuxiliaryEnds};
 ghost use Rattle.marked_laws.specs.Laws.{Simulation, Settlement};
 ghost use Rattle.net_drive.specs.Laws.{DrivenRuns, SameTraces, DrivenExactly, StraysAreExact};
-ghost use Rattle.net_drive.specs.ResumeLaws.{ResumedRuns};
 ghost use Rattle.process_steps.specs.Laws.{OffersAreSteps};
 
 /// What the crates below prove, together.
@@ -64,15 +63,4 @@ pub fn strays_are_exact()
     ensures { StraysAreExact }
 {
     known();
-}
-
-/// A law: where the entries of an accepted bundle's trace, as many as the limit allows, are a run
-/// of its network, the history of the resumed run is one too, which has ended or is as long as
-/// allowed, and the headline holds of it. That history is the entries, continued by the schedule
-/// with the seed; or the first of them, where they are more than the limit. It does nothing.
-pub fn resumed_runs()
-    ensures { ResumedRuns }
-{
-    net_core::runs_are_sound();
-    net_core::every_run();
 }

@@ -11,7 +11,7 @@ ghost use Rattle.net_drive.specs.Resumed.{IsNetAfter};
 ghost use Rattle.role_network.specs.Nets.{IsSoundRun, bundle_of, network_of};
 ghost use Rattle.rule_checks.specs.Refusals.{IsAccepted};
 
-use crate::known::known;
+use crate::resumed_laws::known;
 use dioc_terms::{Act, Bundle, Entry, Memory, Role};
 use dpoc_process::Runs;
 use net_core::{StepFault, accepted_is_sound};

@@ -2,6 +2,7 @@
 use Rattle.std.proofs.Common.{◌≡◌, ◌≤◌, ◌<◌, ◌+◌, ◌-◌, ℕ, zero, suc, List, [], ◌∷◌, ◌++◌, length, take, Option, Some, None, IsSome, option_and_then, refl, sym, ap, ◌∙◌, subst, arith}
 use Rattle.std.specs.Prelude.{is_some}
 use Rattle.std.specs.Option.{option_map_or}
+use Rattle.std.proofs.lemmas.List.{append-nil}
 use Rattle.std.proofs.Math.Seq.{take-append-add}
 use Rattle.dioc_terms.specs.declared.entries.Entry.{Entry}
 use Rattle.dioc_terms.specs.Plain.{PlainBundle, Setting, setting}
@@ -9,6 +10,7 @@ use Rattle.marked_laws.specs.Network.{Network, network_run, network_start, netwo
 use Rattle.marked_laws.proofs.Extension.{extensions}
 use Rattle.marked_laws.proofs.Shapes.{none_some, some_same}
 use Rattle.net_core.proofs.MoveLemmas.{some_got}
+use Rattle.net_drive.specs.ResumedLaws.{RunStraysAreExact}
 use Rattle.net_drive.specs.Resumed.{IsFirstStray, run_stray, run_stray_from}
 
 -- the count goes on from the network after a run
@@ -77,3 +79,74 @@ first_within b entries n limit within first =
       runs = first.runs;
       strays = first.strays;
     }
+
+-- ---- what the count says of a run
+
+-- where no entry is counted, the entries are a run
+whole_from : (b : Setting) (N : Network) (n : ℕ) (es : List Entry) → run_stray_from b N n es ≡ None → IsSome (run_from b N es)
+whole_from b N n [] h = refl
+whole_from b N n (e ∷ es) h = by_step (network_step b N e) h (λ L k. whole_from b L (suc n) es k)
+  where
+    by_step : (o : Option Network) → option_map_or (λ next. run_stray_from b next (suc n) es) o (Some n) ≡ None
+        → ((L : Network) → run_stray_from b L (suc n) es ≡ None → IsSome (run_from b L es)) → IsSome (option_and_then (λ L. run_from b L es) o)
+    by_step None k rest = absurd (none_some (sym k))
+    by_step (Some L) k rest = rest L k
+
+-- where one is counted, those before it are a run, and it can't be done after them
+record Found (b : Setting) (N : Network) (n : ℕ) (es : List Entry) (m : ℕ) : Type 0 where
+  before : List Entry
+  entry : Entry
+  later : List Entry
+  splits : es ≡ before ++ entry ∷ later
+  number : m ≡ n + length before
+  network : Network
+  runs : run_from b N before ≡ Some network
+  strays : network_step b network entry ≡ None
+
+found_later : (b : Setting) (N L : Network) (n m : ℕ) (e : Entry) (es : List Entry) → network_step b N e ≡ Some L → Found b L (suc n) es m → Found b N n (e ∷ es) m
+found_later b N L n m e es step found = record {
+  before = e ∷ found.before;
+  entry = found.entry;
+  later = found.later;
+  splits = ap (λ xs. e ∷ xs) found.splits;
+  number = omega (arith, found.number);
+  network = found.network;
+  runs = ap (option_and_then (λ M. run_from b M found.before)) step ∙ found.runs;
+  strays = found.strays;
+}
+
+found_from : (b : Setting) (N : Network) (n : ℕ) (es : List Entry) (m : ℕ) → run_stray_from b N n es ≡ Some m → Found b N n es m
+found_from b N n [] m h = absurd (none_some h)
+found_from b N n (e ∷ es) m h = by_step (network_step b N e) refl h (λ L k. found_from b L (suc n) es m k)
+  where
+    by_step : (o : Option Network) → network_step b N e ≡ o → option_map_or (λ next. run_stray_from b next (suc n) es) o (Some n) ≡ Some m
+        → ((L : Network) → run_stray_from b L (suc n) es ≡ Some m → Found b L (suc n) es m) → Found b N n (e ∷ es) m
+    by_step None is k rest = record {
+      before = [];
+      entry = e;
+      later = es;
+      splits = refl;
+      number = omega (arith, some_same k);
+      network = N;
+      runs = refl;
+      strays = is;
+    }
+    by_step (Some L) is k rest = found_later b N L n m e es is (rest L k)
+
+none_counted : (b : PlainBundle) (es : List Entry) → IsSome (network_run b es) → run_stray b es ≡ None
+none_counted b es h =
+    let got = some_got (network_run b es) h in
+    ap (run_stray b) (sym (append-nil es)) ∙ stray_after (setting b) (network_start b) got.0 1 es [] got.1
+
+first_found : (b : PlainBundle) (es : List Entry) (n : ℕ) → run_stray b es ≡ Some n → IsFirstStray b es n
+first_found b es n h =
+    let found = found_from (setting b) (network_start b) 1 es n h in
+    let number : suc (length found.before) ≡ n = omega (arith, found.number) in
+    subst (IsFirstStray b es) number
+    (first_stray b found.before found.network found.entry found.later es found.runs found.strays (sym found.splits))
+
+pub run_strays_are_exact : RunStraysAreExact
+run_strays_are_exact = record {
+  none = λ b es. (whole_from (setting b) (network_start b) 1 es, none_counted b es);
+  some = λ b es n. (first_found b es n, first_counted b es n);
+}
