@@ -23,8 +23,8 @@ is_aux_move (move.Act q a) = is_aux_act a
 abbrev pub first_auxiliary : Setting → Network → Option NextNetwork
 first_auxiliary b N = option_and_then (move_step b N) (find is_aux_move (moves b N))
 
--- the act of a role may come: it is offered, and its message is pending where it is a take; a change
--- may come at any time
+-- the act of a role may come: it is offered, and its message is pending where it is a take; a
+-- change may come at any time
 abbrev pub act_may_come : Network → Option Role → Option Act → Bool
 act_may_come N None a = true
 act_may_come N (Some q) None = true

@@ -144,7 +144,8 @@ abbrev pub heard_update : List PlainRule → Book → List Update → Index → 
 heard_update rules book us i name zero = None
 heard_update rules book us i name (suc n) =
     if is_some (update_numbered (suc n) us) then None else
-    option_and_then (λ m. option_map (λ level. record { epoch = suc n; rule = m; level = suc level })
+    option_and_then (λ m.
+    option_map (λ level. record { epoch = suc n; rule = m; level = suc level })
     (epoch_level us i.epoch))
     (find (is_named rules name) book.order)
 

@@ -5,8 +5,8 @@
 //! `each_read WORD..: BUNDLE`: the K-th call of the source fails, K from 1 on. A call gives at most
 //! seven bytes.
 //!
-//! `each_write WORD..: BUNDLE`: the K-th call of `out` fails, K from 1 on. A call takes at most seven
-//! bytes.
+//! `each_write WORD..: BUNDLE`: the K-th call of `out` fails, K from 1 on. A call takes at most
+//! seven bytes.
 //!
 //! `each_front WORD..: BUNDLE`: the input is the first K bytes of the text, K from 0 on.
 
