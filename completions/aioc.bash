@@ -6,14 +6,14 @@ _aioc() {
     local before=" ${COMP_WORDS[*]:2:COMP_CWORD-2} "
     COMPREPLY=()
     if ((COMP_CWORD == 1)); then
-        COMPREPLY=($(compgen -W 'step check project replay upgrade mend gen' -- "$word"))
+        COMPREPLY=($(compgen -W 'step check project replay resume upgrade mend gen' -- "$word"))
         return
     fi
     case ${COMP_WORDS[COMP_CWORD - 1]} in
     --seed | --steps | =) return ;; # a number stands here
     esac
     case ${COMP_WORDS[1]} in
-    step) options='--seed --steps --aux --json' ;;
+    step | resume) options='--seed --steps --aux --json' ;;
     esac
     for it in $options; do
         [[ $before == *" $it "* ]] || left+=" $it"

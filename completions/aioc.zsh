@@ -9,6 +9,7 @@ _aioc() {
         'check:say whether a bundle is accepted, and how large it is'
         'project:print the process of each role'
         'replay:judge the trace in a bundle'
+        'resume:go on with the run whose entries stand in a bundle'
         'upgrade:write a bundle in version 2'
         'mend:add messages until each sequence is linked'
         'gen:make a bundle by a number and a size, run it, and print a summary'
@@ -21,6 +22,13 @@ _aioc() {
     ((CURRENT -= 1))
     case $words[1] in
     step)
+        _arguments \
+            '--seed=[take steps by the sequence of this number]:number: ' \
+            '--steps=[stop after so many entries]:number: ' \
+            '--aux[print auxiliary entries too]' \
+            '--json[print each entry as a JSON object]'
+        ;;
+    resume)
         _arguments \
             '--seed=[take steps by the sequence of this number]:number: ' \
             '--steps=[stop after so many entries]:number: ' \

@@ -1,5 +1,5 @@
 -- What the table of calls says by each clause.
-use Rattle.std.proofs.Common.{◌≡◌, ◌⊎◌, ◌↔◌, ℕ, List, [], length, Bool, true, false, true≢false, Option, Some, None, IfSome, IsSome, refl, sym, ap, ◌∙◌, subst, inl, inr, ⊎_elim, arith}
+use Rattle.std.proofs.Common.{◌≡◌, ◌⊎◌, ◌↔◌, ℕ, List, [], length, take, Bool, true, false, true≢false, Option, Some, None, IfSome, IsSome, refl, sym, ap, ◌∙◌, subst, inl, inr, ⊎_elim, arith}
 use Rattle.std.specs.Prelude.{if◌then◌else◌, option_map}
 use Rattle.std.specs.Option.{option_map_or}
 use Rattle.std.specs.Io.KnownBytes.{Appends, IsAtEnd}
@@ -16,6 +16,7 @@ use Rattle.marked_laws.specs.Network.{Network, network_start, network_run, netwo
 use Rattle.net_core.specs.Headline.{EveryRun}
 use Rattle.marked_laws.specs.Versions.{RunsReadNoVersion, with_version}
 use Rattle.net_core.specs.Laws.{RunsAreSound, SchedulesReadNoVersion}
+use Rattle.net_drive.specs.ResumedLaws.{ResumedRuns, RunStraysAreExact}
 use Rattle.rule_checks.specs.Refusals.{IsAccepted, refusal}
 use Rattle.mend.specs.Traces.{mended_bundle}
 use Rattle.bundle_mend.specs.Laws.{MendedAccepted}
@@ -24,8 +25,8 @@ use Rattle.command_words.specs.declared.commands.Options.{Options}
 use Rattle.command_words.specs.declared.commands.Command.{Command}
 use Rattle.command_words.specs.declared.commands.Command.TheVariants as command
 use Rattle.aioc_top.specs.Calls.{Call, Judges, Happens, IsRead, CommandReads, ReadsBy, ReadsNothing, ReadsTo, Says, Writes}
-use Rattle.aioc_top.specs.Replies.{Reply, Replies, is_finished, refusal_of, step_history, line_of_text, check_line, project_text as project_lines, upgrade_text as upgraded, unread_reply, gen_line, gen_reply, gen_history, updates_of}
-use Rattle.aioc_top.specs.Serve.{CheckText, ComesExactly, Complete, GenPrinted, GivesUp, AfterEnd, ReadsToEnd, IsComplete, IsUpgraded, MendText, ProjectText, ReadsAll, ReplayText, RunPrinted, SaysWhy, Silent, TextPrinted, UpgradeText, UsageComes, has_printed}
+use Rattle.aioc_top.specs.Replies.{Reply, Replies, is_finished, refusal_of, run_reply, step_history, resume_history, resume_reply, resume_stray, resumed_or_no, replay_reply, line_of_text, check_line, project_text as project_lines, upgrade_text as upgraded, unread_reply, gen_line, gen_reply, gen_history, updates_of}
+use Rattle.aioc_top.specs.Serve.{CheckText, ComesExactly, Complete, GenPrinted, GivesUp, AfterEnd, ReadsToEnd, IsComplete, IsUpgraded, JudgementPrinted, MendText, ProjectText, ReadsAll, ReplayText, ResumePrinted, RunPrinted, SaysWhy, Silent, TextPrinted, UpgradeText, UsageComes, has_printed}
 use Rattle.aioc_top.specs.Verdicts.{Verdict, TooLong, Unspelled, Refused, Replied, MayReply, Cause, Comes, ComesBy, ComesOfText, Refuses, status_of, status_of_end}
 use Rattle.aioc_top.specs.Words.{is_built, IsShort}
 use Rattle.command_words.specs.Commands.{usual_steps}
@@ -416,22 +417,75 @@ project_text formed call s h is prints = text_printed formed command.Project ref
 
 -- ---- the judgement of a trace
 
+-- what was printed is the judgement of an accepted bundle's trace, where the command has this reply alone
+module _ (formed : SpelledIsFormed) (wanted : Command) (text : unread_reply wanted ≡ None) (judge : PlainBundle → Reply)
+    (only : (b : PlainBundle) (reply : Reply) → Replies wanted b reply → reply ≡ judge b)
+    (runs : (b : PlainBundle) → refusal_of wanted b ≡ option_map MayNotRun (refusal b)) where
+  pub judged_text : (call : Call) (s : Status) → Happens call s → call.asked ≡ Some wanted → has_printed s ≡ true
+      → JudgementPrinted judge s call.source call.out call.out_after
+  judged_text call s h is prints =
+      let its = reply_told call s prints (told call s (printing s prints) h) in
+      let same : its.1.command ≡ wanted = some_same (sym its.1.asked ∙ is) in
+      let comes : MayReply wanted its.1.bytes its.0 = subst (λ o. ComesBy o wanted its.1.bytes (Replied its.0)) text (subst (λ c. Comes c its.1.bytes (Replied its.0)) same its.1.comes) in
+      let b = comes.bundle in
+      let replies : its.0 ≡ judge b = only b its.0 comes.replies in
+      record {
+        bytes = its.1.bytes;
+        read = (text_read (unread_reply wanted) (Replied its.0) its.1.bytes call.source call.source_after text (reads_by call (Replied its.0) its.1 wanted is)).0;
+        bundle = b;
+        spells = comes.spells;
+        accepted = record { formed = formed its.1.bytes b comes.spells; no_refusal = unrefused MayNotRun (refusal b) (sym (runs b) ∙ comes.accepted) };
+        printed = subst (λ (r : Reply). Appends call.out.taken call.out_after.taken r.text) replies its.3;
+        told = its.2 ∙ ap (λ (r : Reply). status_of_end r.end) replies;
+      }
+
 pub replay_text : SpelledIsFormed → (call : Call) (s : Status) → Happens call s → ReplayText call.asked s call.source call.out call.out_after
-replay_text formed call s h is prints =
-    let its = reply_told call s prints (told call s (printing s prints) h) in
-    let same : its.1.command ≡ command.Replay = some_same (sym its.1.asked ∙ is) in
-    let comes : MayReply command.Replay its.1.bytes its.0 = subst (λ c. Comes c its.1.bytes (Replied its.0)) same its.1.comes in
-    let read : CommandReads command.Replay (Replied its.0) its.1.bytes call.source call.source_after = reads_by call (Replied its.0) its.1 command.Replay is in
-    let b = comes.bundle in
-    record {
-      bytes = its.1.bytes;
-      read = read.0;
-      bundle = b;
-      spells = comes.spells;
-      accepted = record { formed = formed its.1.bytes b comes.spells; no_refusal = unrefused MayNotRun (refusal b) comes.accepted };
-      printed = subst (λ (r : Reply). Appends call.out.taken call.out_after.taken r.text) comes.replies its.3;
-      told = its.2 ∙ ap (λ (r : Reply). status_of_end r.end) comes.replies;
-    }
+replay_text formed call s h is prints = judged_text formed command.Replay refl replay_reply (λ b reply e. e) (λ b. refl) call s h is prints
+
+-- ---- a resumed run
+
+module _ (resumed : ResumedRuns) (strays : RunStraysAreExact) (options : Options) where
+  -- where no entry strays, what was printed is a run with its headline
+  run_resumed : (s : Status) (source : SourceState) (out out_after : SinkState) (judged : JudgementPrinted (resume_reply options) s source out out_after)
+      → resume_stray options judged.bundle ≡ None → (run : RunPrinted options s source out out_after) × (run.history ≡ resume_history options run.bundle)
+  run_resumed s source out out_after judged none =
+      let b = judged.bundle in
+      let H = resume_history options b in
+      let arrives = resumed b b.trace.entries options.seed options.steps judged.accepted ((strays.none b (take options.steps b.trace.entries)).0 none) in
+      let N = arrives.network in
+      let reply : resume_reply options b ≡ run_reply options b H = ap (resumed_or_no options b) none in
+      let finished : is_finished b H ≡ network_ended b.cast N = end_is b H N arrives.headline.runs in
+      let status_is : s ≡ status_of_end (if network_ended b.cast N then end.Done else end.Limit) =
+      judged.told ∙ ap (λ (r : Reply). status_of_end r.end) reply ∙ ap (λ t. status_of_end (if t then end.Done else end.Limit)) finished in (
+        record {
+          bytes = judged.bytes;
+          read = judged.read;
+          bundle = b;
+          spells = judged.spells;
+          accepted = judged.accepted;
+          history = H;
+          network = N;
+          printed = subst (λ (r : Reply). Appends out.taken out_after.taken r.text) reply judged.printed;
+          headline = arrives.headline;
+          within = arrives.within;
+          done = subst (λ t. (t ≡ status.Done) ↔ (network_ended b.cast N ≡ true)) (sym status_is) (ends_done (network_ended b.cast N));
+          limit = subst (λ t. (t ≡ status.Limit) ↔ ((length H ≡ options.steps) × (network_ended b.cast N ≡ false))) (sym status_is)
+              (ends_limit (network_ended b.cast N) arrives.finished);
+        },
+        refl,
+      )
+
+  by_stray : (s : Status) (source : SourceState) (out out_after : SinkState) (judged : JudgementPrinted (resume_reply options) s source out out_after)
+      (o : Option ℕ) → resume_stray options judged.bundle ≡ o → ResumePrinted options s source out out_after
+  by_stray s source out out_after judged None is = inl (run_resumed s source out out_after judged is)
+  by_stray s source out out_after judged (Some n) is = inr (judged, n, is)
+
+pub resume_text : ResumedRuns → RunStraysAreExact → SpelledIsFormed → (options : Options) (call : Call) (s : Status) → Happens call s
+    → call.asked ≡ Some (command.Resume options) → has_printed s ≡ true → ResumePrinted options s call.source call.out call.out_after
+resume_text resumed strays formed options call s h is prints =
+    let judged : JudgementPrinted (resume_reply options) s call.source call.out call.out_after =
+    judged_text formed (command.Resume options) refl (resume_reply options) (λ b reply e. e) (λ b. refl) call s h is prints in
+    by_stray resumed strays options s call.source call.out call.out_after judged (resume_stray options judged.bundle) refl
 
 -- ---- the bundle in its second version
 

@@ -72,7 +72,7 @@ module _ (goes : PlaysGoOn) (b : Setting) (S T : State) (e : Entry) where
 
 -- ---- what is replied
 
-with_reply : (r : Result Written Memory) (x y : Reply) → x ≡ y → IfOk r (λ written. reply_of written ≡ x) → IfOk r (λ written. reply_of written ≡ y)
+pub with_reply : (r : Result Written Memory) (x y : Reply) → x ≡ y → IfOk r (λ written. reply_of written ≡ x) → IfOk r (λ written. reply_of written ≡ y)
 with_reply r x y same h = subst (λ reply. IfOk r (λ written. reply_of written ≡ reply)) same h
 
 module _ (b : PlainBundle) (r : Result Written Memory) (entries : List Entry) (same : entries ≡ b.trace.entries) where

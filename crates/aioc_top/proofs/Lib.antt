@@ -5,5 +5,6 @@ mod Examples
 pub mod FaultLemmas
 pub mod Judged
 pub mod Printing
+pub mod Resuming
 pub mod Projected
 pub mod Table

@@ -1,5 +1,5 @@
 -- What each command may answer to a bundle that it takes: how it ends, and its text.
-use Rattle.std.specs.Prelude.{◌≡◌, ◌⊎◌, ◌≤◌, ℕ, suc, List, ◌∷◌, [], ◌++◌, length, Bool, true, false, Option, Some, None, if◌then◌else◌, codes, decimal, flat_map, option_map}
+use Rattle.std.specs.Prelude.{◌≡◌, ◌⊎◌, ◌≤◌, ℕ, suc, List, ◌∷◌, [], ◌++◌, length, take, Bool, true, false, Option, Some, None, if◌then◌else◌, codes, decimal, flat_map, option_map}
 use Rattle.std.specs.Option.{option_map_or}
 use Rattle.dioc_terms.specs.declared.names.Role.{Role}
 use Rattle.dioc_terms.specs.declared.entries.Entry.{Entry}
@@ -18,6 +18,7 @@ use Rattle.trace_text.specs.Lines.{line_end}
 use Rattle.trace_text.specs.Process.{process_text}
 use Rattle.trace_text.specs.Runs.{run_text}
 use Rattle.net_core.specs.Schedule.{sched, IsPrompt}
+use Rattle.net_drive.specs.Resumed.{resumed_history, run_stray}
 use Rattle.rule_checks.specs.Refusals.{refusal}
 use Rattle.mend.specs.Traces.{mended_bundle}
 use Rattle.bundle_mend.specs.Refusals.{mend_refusal}
@@ -112,6 +113,28 @@ judgement b None = if is_too_short b b.trace.last (visible b.trace.entries)
 abbrev pub replay_reply : PlainBundle → Reply
 replay_reply b = judgement b (stray b b.trace.entries)
 
+-- ---- resumed runs
+
+-- the history of `resume`: the entries of the trace section, continued by the schedule; or the
+-- first of them, where they are more than a run may have
+abbrev pub resume_history : Options → PlainBundle → List Entry
+resume_history options b = resumed_history b b.trace.entries options.seed options.steps
+
+-- the number of the first entry that the network can't do, of as many as a run may have
+abbrev pub resume_stray : Options → PlainBundle → Option ℕ
+resume_stray options b = run_stray b (take options.steps b.trace.entries)
+
+abbrev pub resumed_or_no : Options → PlainBundle → Option ℕ → Reply
+resumed_or_no options b (Some n) = no n
+resumed_or_no options b None = run_reply options b (resume_history options b)
+
+-- the run that goes on from the entries of the trace section, whose last line isn't judged; `no`
+-- with the number of the first entry that the network can't do
+abbrev pub resume_reply : Options → PlainBundle → Reply
+resume_reply options b = resumed_or_no options b (resume_stray options b)
+
+-- ---- made bundles
+
 -- the line of `gen`, for the made bundle and its run: the follower never refuses, so the words at
 -- its end are always true
 abbrev pub gen_line : ℕ → ℕ → PlainBundle → List Entry → ℕ → List ℕ
@@ -180,6 +203,7 @@ Replies (command.Run options) b reply =
 Replies command.Check b reply = reply ≡ done_reply (check_line b)
 Replies command.Project b reply = reply ≡ record { end = end.Done; text = project_text b }
 Replies command.Replay b reply = reply ≡ replay_reply b
+Replies (command.Resume options) b reply = reply ≡ resume_reply options b
 Replies command.Upgrade b reply = reply ≡ record { end = end.Done; text = upgrade_text b }
 Replies command.Mend b reply = reply ≡ record { end = end.Done; text = mend_text b }
 Replies _ b reply = ⊥

@@ -25,7 +25,7 @@ use Rattle.command_words.specs.declared.commands.Command.TheVariants as command
 use Rattle.aioc_top.specs.Calls.{IsRead, ReadsNothing, SaysLine}
 use Rattle.aioc_top.specs.Messages.{usage_line, read_fault_line, write_fault_line, too_long_line, memory_line, syntax_line, refusal_line}
 use Rattle.aioc_top.specs.Reasons.{Reason}
-use Rattle.aioc_top.specs.Replies.{Reply, Replies, refusal_of, run_reply, step_history, line_of_text, check_line, project_text, replay_reply, upgrade_text, mend_text, unread_reply, gen_line, gen_history}
+use Rattle.aioc_top.specs.Replies.{Reply, Replies, refusal_of, run_reply, step_history, resume_history, resume_reply, resume_stray, line_of_text, check_line, project_text, replay_reply, upgrade_text, mend_text, unread_reply, gen_line, gen_history}
 use Rattle.aioc_top.specs.Verdicts.{Replied, Comes, Cause, Refuses, status_of_end}
 use Rattle.aioc_top.specs.declared.status.Status.{Status}
 use Rattle.aioc_top.specs.declared.status.Status.TheVariants as status
@@ -95,21 +95,36 @@ ProjectText asked result source out out_after =
 
 -- The judgement of the trace of an accepted bundle was printed, and the status tells it: `Done`
 -- where it is `yes`, `No` where it is `no`. The bytes that were read spell this bundle.
-pub record JudgementPrinted (result : Status) (source : SourceState) (out out_after : SinkState) :
-    Type 0 where
+pub record JudgementPrinted (judge : PlainBundle → Reply) (result : Status) (source : SourceState)
+    (out out_after : SinkState) : Type 0 where
   pub bytes : List ℕ
   pub read : IsRead source bytes
   pub bundle : PlainBundle
   pub spells : Spells bytes bundle
   pub accepted : IsAccepted bundle
-  pub printed : Appends out.taken out_after.taken (replay_reply bundle).text
-  pub told : result ≡ status_of_end (replay_reply bundle).end
+  pub printed : Appends out.taken out_after.taken (judge bundle).text
+  pub told : result ≡ status_of_end (judge bundle).end
 
 -- with `replay` it is the judgement of the trace section
 abbrev pub ReplayText : Option Command → Status → SourceState → SinkState → SinkState → Type 0
 ReplayText asked result source out out_after =
     asked ≡ Some command.Replay → has_printed result ≡ true
-    → JudgementPrinted result source out out_after
+    → JudgementPrinted replay_reply result source out out_after
+
+-- the run was printed that goes on from the entries of the trace section, with its headline; or
+-- `no` with the number of the first of them that the network can't do
+abbrev pub ResumePrinted : Options → Status → SourceState → SinkState → SinkState → Type 0
+ResumePrinted options result source out out_after =
+    ((run : RunPrinted options result source out out_after)
+    × (run.history ≡ resume_history options run.bundle))
+    ⊎ ((judged : JudgementPrinted (resume_reply options) result source out out_after) × (n : ℕ)
+    × (resume_stray options judged.bundle ≡ Some n))
+
+-- so it is with `resume`
+abbrev pub ResumeText : Option Command → Status → SourceState → SinkState → SinkState → Type 0
+ResumeText asked result source out out_after =
+    (options : Options) → asked ≡ Some (command.Resume options) → has_printed result ≡ true
+    → ResumePrinted options result source out out_after
 
 -- A bundle with version 2: it is accepted, and its text spells it where it isn't too long. It has
 -- the same first refusal, plays, runs and schedules as before.

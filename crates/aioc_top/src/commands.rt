@@ -5,5 +5,6 @@ pub mod generate;
 pub mod mending;
 pub mod project;
 pub mod replay;
+pub mod resume;
 pub mod step;
 pub mod upgrade;

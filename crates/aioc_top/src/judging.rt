@@ -14,6 +14,7 @@ use crate::commands::check::check;
 use crate::commands::mending::mend;
 use crate::commands::project::project;
 use crate::commands::replay::replay;
+use crate::commands::resume::resume;
 use crate::commands::step::step;
 use crate::commands::upgrade::upgrade;
 use crate::faults::{Fault, make_mend_refusal_line, make_refusal_line, make_syntax_line};
@@ -132,6 +133,7 @@ fn do_command(alloc: Global, command: &Command, bundle: &mut Bundle) -> Result<W
         Command::Check => check(alloc, bundle),
         Command::Project => project(alloc, bundle),
         Command::Replay => replay(alloc, bundle),
+        Command::Resume(options) => resume(alloc, options, bundle),
         Command::Upgrade => upgrade(alloc, bundle),
         _ => unreachable!(),
     }

@@ -3,13 +3,14 @@
 ghost use Rattle.std.specs.Prelude.{◌≡◌, IfOk};
 ghost use Rattle.dioc_terms.specs.Plain.{plain};
 ghost use Rattle.bundle_text.specs.Writing.{bundle_text};
-ghost use Rattle.aioc_top.specs.Replies.{reply_of};
+ghost use Rattle.aioc_top.specs.Replies.{no, reply_of, yes};
 ghost use Rattle.aioc_top.specs.Verdicts.{status_of_end};
 
 use crate::status::Status;
 use bundle_text::write_bundle;
 use dioc_terms::{Bundle, Memory};
 use std::alloc::Global;
+use text_pieces::{write_bytes, write_number};
 
 /// How a command ended that has a text to write.
 #[derive(Clone, Copy, Debug, PartialEq, Eq)]
@@ -55,4 +56,29 @@ pub fn bundle_written(alloc: Global, bundle: &Bundle) -> Result<Written, Memory>
         end: End::Done,
         text,
     })
+}
+
+/// `yes` and how many entries were judged.
+pub fn say_yes(alloc: Global, count: u64) -> Result<Written, Memory>
+    ensures { IfOk result (λ written. reply_of written ≡ yes count) }
+{
+    let mut text = Vec::new(alloc);
+    write_bytes(b"yes ", &mut text)?;
+    write_number(count, &mut text)?;
+    write_bytes(b"\n", &mut text)?;
+    Ok(Written {
+        end: End::Done,
+        text,
+    })
+}
+
+/// `no` and the number of an entry, counted from 1.
+pub fn say_no(alloc: Global, number: u64) -> Result<Written, Memory>
+    ensures { IfOk result (λ written. reply_of written ≡ no number) }
+{
+    let mut text = Vec::new(alloc);
+    write_bytes(b"no ", &mut text)?;
+    write_number(number, &mut text)?;
+    write_bytes(b"\n", &mut text)?;
+    Ok(Written { end: End::No, text })
 }

@@ -8,10 +8,11 @@ ghost use Rattle.net_core.specs.Headline.{EveryRun};
 ghost use Rattle.load_gen.specs.Laws.{MadeAreAccepted};
 ghost use Rattle.marked_laws.specs.Versions.{RunsReadNoVersion};
 ghost use Rattle.net_core.specs.Laws.{RunsAreSound, SchedulesReadNoVersion};
+ghost use Rattle.net_drive.specs.ResumedLaws.{ResumedRuns, RunStraysAreExact};
 ghost use Rattle.aioc_top.specs.Calls.{Happens, PrintsReply, SaysLine};
 ghost use Rattle.aioc_top.specs.Faults.{line_of, status_of};
 ghost use Rattle.aioc_top.specs.Replies.{reply_of};
-ghost use Rattle.aioc_top.specs.Serve.{CheckText, ComesExactly, Complete, GenText, HeadlineHolds, MendText, ProjectText, ReadsAll, ReplayText, SaysWhy, Silent, StepText, UpgradeText, UsageComes};
+ghost use Rattle.aioc_top.specs.Serve.{CheckText, ComesExactly, Complete, GenText, HeadlineHolds, MendText, ProjectText, ReadsAll, ReplayText, ResumeText, SaysWhy, Silent, StepText, UpgradeText, UsageComes};
 ghost use Rattle.aioc_top.specs.Words.{asked, IsServed};
 ghost use Rattle.command_words.specs.Commands.{word_texts};
 
@@ -28,6 +29,7 @@ use dioc_terms::Memory;
 use load_gen::made_are_accepted;
 use marked_laws::runs_read_no_version;
 use net_core::{every_run, runs_are_sound, schedules_read_no_version};
+use net_drive::{resumed_runs, run_strays_are_exact};
 use std::alloc::Global;
 
 /// Does what the words after the program's name say: reads a bundle from the source, and writes the
@@ -49,7 +51,7 @@ pub fn serve_alone<S: Source, O: Sink, E: Sink>(
         (O.state out.old) (O.state out.new) }
 
     // With `check` the line that says how large the bundle is, with `project` a line for each role,
-    // with `replay` the judgement of the trace, with `upgrade` the bundle in its second version,
+    // with `replay` the judgement of the trace, with `resume` the run that goes on from it, with `upgrade` the bundle in its second version,
     // with `mend` the bundle connected by added messages, with `gen` the line of the bundle that is
     // made of its numbers.
     ensures check_text { CheckText (asked (word_texts words.now)) result (S.state source.old)
@@ -57,6 +59,8 @@ pub fn serve_alone<S: Source, O: Sink, E: Sink>(
     ensures project_text { ProjectText (asked (word_texts words.now)) result (S.state source.old)
         (O.state out.old) (O.state out.new) }
     ensures replay_text { ReplayText (asked (word_texts words.now)) result (S.state source.old)
+        (O.state out.old) (O.state out.new) }
+    ensures resume_text { ResumeText (asked (word_texts words.now)) result (S.state source.old)
         (O.state out.old) (O.state out.new) }
     ensures gen_text { GenText (asked (word_texts words.now)) result (O.state out.old)
         (O.state out.new) }
@@ -111,6 +115,8 @@ fn know_laws()
     ensures written { WrittenIsSpelled }
     ensures mended { MendedAccepted }
     ensures made { MadeAreAccepted }
+    ensures resumed { ResumedRuns }
+    ensures strays { RunStraysAreExact }
     ensures every_run { EveryRun }
     ensures sound { RunsAreSound }
     ensures runs { RunsReadNoVersion }
@@ -121,6 +127,8 @@ fn know_laws()
     written_is_spelled();
     mended_accepted();
     made_are_accepted();
+    resumed_runs();
+    run_strays_are_exact();
     every_run();
     runs_are_sound();
     runs_read_no_version();

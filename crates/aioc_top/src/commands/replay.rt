@@ -10,13 +10,12 @@ ghost use Rattle.global_steps.specs.Running.{ended};
 ghost use Rattle.aioc_top.specs.Judging.{PlaysOn, is_cut_short};
 ghost use Rattle.aioc_top.specs.Replies.{replay_reply, reply_of, yes, no};
 
-use crate::replies::{End, Written};
+use crate::replies::{Written, say_no, say_yes};
 use aux_messages::is_aux;
 use dioc_terms::{Bundle, Entry, Last, Memory};
 use global_follower::{FollowFault, Follower};
 use global_steps::plays_go_on;
 use std::alloc::Global;
-use text_pieces::{write_bytes, write_number};
 
 /// The judgement of the entries of the trace section by the choreography: `yes` with how many were
 /// judged, where each of them is played; else `no` with the number of the first that isn't, counted
@@ -118,27 +117,4 @@ fn visible_len(entries: &[Entry]) -> u64
         }
     }
     count
-}
-
-fn say_yes(alloc: Global, count: u64) -> Result<Written, Memory>
-    ensures { IfOk result (λ written. reply_of written ≡ yes count) }
-{
-    let mut text = Vec::new(alloc);
-    write_bytes(b"yes ", &mut text)?;
-    write_number(count, &mut text)?;
-    write_bytes(b"\n", &mut text)?;
-    Ok(Written {
-        end: End::Done,
-        text,
-    })
-}
-
-fn say_no(alloc: Global, number: u64) -> Result<Written, Memory>
-    ensures { IfOk result (λ written. reply_of written ≡ no number) }
-{
-    let mut text = Vec::new(alloc);
-    write_bytes(b"no ", &mut text)?;
-    write_number(number, &mut text)?;
-    write_bytes(b"\n", &mut text)?;
-    Ok(Written { end: End::No, text })
 }

@@ -26,6 +26,10 @@ pub returns-clause-mend_text : goal.returns-clause-mend_text
 returns-clause-mend_text g c =
     clauses.mend_text c.know_laws.ensures.written c.know_laws.ensures.mended c.know_laws.ensures.formed _ c.do_words.result c.do_words.ensures
 
+pub returns-clause-resume_text : goal.returns-clause-resume_text
+returns-clause-resume_text g c options is prints =
+    clauses.resume_text c.know_laws.ensures.resumed c.know_laws.ensures.strays c.know_laws.ensures.formed options _ c.do_words.result c.do_words.ensures is prints
+
 pub returns-clause-gen_text : goal.returns-clause-gen_text
 returns-clause-gen_text g c number size is prints =
     clauses.gen_text c.know_laws.ensures.made c.know_laws.ensures.every_run c.know_laws.ensures.sound number size _ c.do_words.result

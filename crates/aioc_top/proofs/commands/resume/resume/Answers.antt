@@ -1,0 +1,40 @@
+-- The reply is that of the resumed run, or of the first entry that the network can't do.
+use Rattle.std.proofs.Common.{◌≡◌, ◌<◌, List, length, take, Some, sym, ap, ◌∙◌, subst}
+use Rattle.dioc_terms.specs.declared.entries.Entry.{Entry}
+use Rattle.dioc_terms.specs.Plain.{plain}
+use Rattle.marked_laws.specs.Network.{network_run}
+use Rattle.net_core.specs.Schedule.{sched_from}
+use Rattle.net_drive.specs.Faults.{FullAt}
+use Rattle.role_network.specs.Nets.{network_of}
+use Rattle.aioc_top.specs.Replies.{run_reply}
+use Rattle.aioc_top.proofs.Judged.{with_reply}
+use Rattle.aioc_top.proofs.Resuming.{cut, whole}
+use Rattle.aioc_top.proofs.commands.resume.resume.Goals as goal
+
+pub returns-in-Ok : goal.returns-in-Ok
+returns-in-Ok c =
+    let b = plain c.args.bundle.now in
+    let options = c.args.options.now in
+    let net = c.in-Ok.net in
+    let at = c.in-Ok.ensures.resumed in
+    let es = c.as_slice-entries.result.now in
+    let runs : network_run b es ≡ Some (network_of net) = (λ j. network_run (plain (sym at.bundle j)) (sym at.history j)) ∙ at.run.runs in
+    let same : run_reply options (plain net.bundle) (sched_from (plain net.bundle) net.history options.seed net.limit) ≡ run_reply options b (sched_from b es options.seed options.steps) =
+    (λ j. run_reply options (plain (at.bundle j)) (sched_from (plain (at.bundle j)) (at.history j) options.seed (at.limit j))) in
+    whole c.run_strays_are_exact.ensures options b c.go_on.result es (network_of net) runs c.as_slice-entries.ensures c.in-Ok.ensures.within
+    (with_reply c.go_on.result _ _ same c.go_on.ensures)
+
+pub returns-in-Err-Full : goal.returns-in-Err-Full
+returns-in-Err-Full c =
+    let b = plain c.args.bundle.now in
+    let options = c.args.options.now in
+    let net = c.in-Err-Full.net in
+    let entries = c.as_slice-entries.result.now in
+    let full = subst (λ f. FullAt c.args.bundle.now entries options.steps f) c.in-Err-Full.field-0-is c.in-Err-Full.ensures.full in
+    let at = full.1 in
+    let es = take options.steps entries in
+    let runs : network_run b es ≡ Some (network_of net) = (λ j. network_run (plain (sym at.bundle j)) (sym at.history j)) ∙ at.run.runs in
+    let same : run_reply options (plain net.bundle) net.history ≡ run_reply options b es = (λ j. run_reply options (plain (at.bundle j)) (at.history j)) in
+    let long : options.steps < length b.trace.entries = subst (λ (xs : List Entry). options.steps < length xs) c.as_slice-entries.ensures full.0 in
+    cut c.run_strays_are_exact.ensures options b c.say_run.result es (network_of net) runs (ap (take options.steps) c.as_slice-entries.ensures) long
+    (with_reply c.say_run.result _ _ same c.say_run.ensures)

@@ -1,0 +1,81 @@
+//! `resume`: a run that stopped goes on from the entries of a bundle's trace.
+
+ghost use Rattle.std.specs.Prelude.{◌≡◌, ◌≤◌, IfOk};
+ghost use Rattle.dioc_terms.specs.Plain.{plain};
+ghost use Rattle.net_core.specs.Schedule.{sched_from};
+ghost use Rattle.role_network.specs.Nets.{IsSoundRun, bundle_of};
+ghost use Rattle.rule_checks.specs.Refusals.{IsAccepted};
+ghost use Rattle.command_words.specs.Commands.{most_steps};
+ghost use Rattle.command_words.specs.declared.commands.Verb.{Verb};
+ghost use Rattle.aioc_top.specs.Replies.{last_of, reply_of, resume_reply, run_reply};
+
+use crate::replies::{End, Written, say_no};
+use command_words::Options;
+use dioc_terms::{Bundle, Last, Memory};
+use dpoc_process::RoleState;
+use net_drive::{ResumeFault, run_strays_are_exact};
+use role_network::Net;
+use schedule::run_seeded;
+use std::alloc::Global;
+use trace_text::write_text;
+
+/// The text of the run that goes on from the entries of the trace section, by the schedule and to
+/// at most as many entries as the options say, those of the section included; where these are more,
+/// it is that of the first of them. `no` with the number of the first entry that the network can't
+/// do. What the section says in its last line isn't judged.
+pub fn resume(alloc: Global, options: &Options, bundle: &Bundle) -> Result<Written, Memory>
+    requires accepted { IsAccepted (plain bundle.now) }
+    requires short { options.now.steps ≤ most_steps Verb.Resume }
+    ensures { IfOk result (λ written. reply_of written
+        ≡ resume_reply options.now (plain bundle.now)) }
+{
+    run_strays_are_exact();
+    let entries = bundle.trace.entries.as_slice();
+    match net_drive::resume(alloc, bundle, entries, options.steps) {
+        Ok(net) => go_on(alloc, options, net),
+        Err(ResumeFault::Full(net)) => say_run(alloc, options, &net),
+        Err(ResumeFault::Stray(number)) => say_no(alloc, number),
+        Err(ResumeFault::Memory) => Err(Memory),
+    }
+}
+
+// The text of the run that goes on from a net by the schedule.
+fn go_on(alloc: Global, options: &Options, net: Net<RoleState>) -> Result<Written, Memory>
+    requires limit { net.limit ≤ 4294967295 }
+    ensures { IfOk result (λ written. reply_of written ≡ run_reply options.now (bundle_of net)
+        (sched_from (bundle_of net) net.history options.now.seed net.limit)) }
+{
+    let mut going = net;
+    run_seeded(&mut going, options.seed)?;
+    say_run(alloc, options, &going)
+}
+
+// The text of the run that a net has made, and whether it has ended.
+fn say_run(alloc: Global, options: &Options, net: &Net<RoleState>) -> Result<Written, Memory>
+    requires run { IsSoundRun net.now }
+    ensures { IfOk result (λ written. reply_of written
+        ≡ run_reply options.now (bundle_of net.now) net.now.history) }
+{
+    let is_over = net.is_ended();
+    let last = last_line(is_over, net.history().len());
+    let mut text = Vec::new(alloc);
+    write_text(
+        net.history().as_slice(),
+        options.aux,
+        &last,
+        options.json,
+        &mut text,
+    )?;
+    let end = if is_over { End::Done } else { End::Limit };
+    Ok(Written { end, text })
+}
+
+fn last_line(is_over: bool, entries: u64) -> Last
+    ensures { result ≡ last_of is_over entries }
+{
+    if is_over {
+        Last::Ended(entries)
+    } else {
+        Last::Stopped(entries)
+    }
+}
