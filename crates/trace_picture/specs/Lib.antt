@@ -1,0 +1,13 @@
+pub mod Calls
+pub mod Fragments
+pub mod Labels
+pub mod Lanes
+pub mod Laws
+pub mod Mermaid
+pub mod Pictures
+pub mod Reading
+pub mod Runs
+pub mod Shapes
+pub mod Strokes
+pub mod Svg
+pub mod Terminal

@@ -1,0 +1,187 @@
+-- The picture of a trace as an SVG that stands alone. Lengths are in pixels.
+use Rattle.std.specs.Prelude.{ℕ, ◌+◌, ◌-◌, ◌*◌, List, [], ◌∷◌, ◌++◌, length, min, max, Option, Some, None, codes, decimal, nat_le, if◌then◌else◌}
+use Rattle.std.specs.List.{fold}
+use Rattle.dioc_terms.specs.declared.names.Role.{Role}
+use Rattle.dioc_terms.specs.declared.entries.Entry.{Entry}
+use Rattle.dioc_terms.specs.declared.bundles.Last.{Last}
+use Rattle.dioc_terms.specs.Messages.{is_aux}
+use Rattle.trace_text.specs.Lines.{line, last_line}
+use Rattle.trace_picture.specs.declared.shapes.Sign.{Sign}
+use Rattle.trace_picture.specs.declared.shapes.Sign.TheVariants as sign
+use Rattle.trace_picture.specs.declared.shapes.Shape.{Shape}
+use Rattle.trace_picture.specs.declared.shapes.Shape.TheVariants as shape
+use Rattle.trace_picture.specs.Fragments.{xml_words}
+use Rattle.trace_picture.specs.Labels.{label}
+use Rattle.trace_picture.specs.Lanes.{longest_name}
+use Rattle.trace_picture.specs.Runs.{shortened, pieces_from, end_to_end}
+use Rattle.trace_picture.specs.Shapes.{shape_of}
+
+-- how many bytes of a label may stand between two lanes: as many as the longest has, within bounds
+abbrev pub most_columns : List Role → ℕ
+most_columns lanes = if nat_le (length lanes) 4 then 34
+    else (if nat_le (length lanes) 8 then 28 else 20)
+
+abbrev pub longest_label : ℕ → List Entry → ℕ
+longest_label least entries = fold (λ most e. max most (length (label e))) least entries
+
+abbrev pub columns_of : List Role → List Entry → ℕ
+columns_of lanes entries =
+    max 10 (min (most_columns lanes) (longest_label (longest_name 0 lanes) entries))
+
+-- half of what is between two lanes, and where a lane stands
+abbrev pub half_gap : ℕ → ℕ
+half_gap columns = 4 * columns + 12
+
+abbrev pub lane_x : ℕ → ℕ → ℕ
+lane_x columns lane = half_gap columns * (lane + lane + 1)
+
+-- how wide the picture is
+abbrev pub width : ℕ → List Role → ℕ
+width columns lanes = half_gap columns * (max 1 (length lanes) + max 1 (length lanes) + 1)
+
+-- where the row of an entry stands
+abbrev pub row_y : ℕ → ℕ
+row_y row = 30 * row + 70
+
+abbrev pub sign_class : Sign → List ℕ
+sign_class sign.Take = codes "take"
+sign_class sign.Set = codes "set"
+sign_class sign.Input = codes "input"
+sign_class sign.Pick = codes "pick"
+sign_class sign.Keep = codes "keep"
+sign_class sign.Replace = codes "replace"
+sign_class sign.Own = codes "put"
+
+abbrev pub shape_class : Shape → List ℕ
+shape_class (shape.Arrow from to) = codes "put"
+shape_class (shape.Mark s at) = sign_class s
+shape_class shape.Band = codes "change"
+
+abbrev pub entry_class : Shape → Entry → List ℕ
+entry_class s e = if is_aux e then codes "aux" else shape_class s
+
+-- a sign on a lane: a dot, and of a scope the paper of a note
+unfoldable pub dot : ℕ → ℕ → List ℕ
+dot x y =
+    end_to_end (codes "<circle cx=\"" ∷ decimal x ∷ codes "\" cy=\"" ∷ decimal y ∷
+    codes "\" r=\"4\"/>" ∷ [])
+
+unfoldable pub paper : ℕ → ℕ → ℕ → List ℕ
+paper x y wide =
+    end_to_end (codes "<rect x=\"" ∷ decimal x ∷ codes "\" y=\"" ∷ decimal (y - 11) ∷
+    codes "\" width=\"" ∷ decimal wide ∷ codes "\" height=\"22\"/>" ∷ [])
+
+unfoldable pub sign_mark : Sign → ℕ → ℕ → ℕ → List ℕ
+sign_mark sign.Keep x y wide = paper x y wide
+sign_mark sign.Replace x y wide = paper x y wide
+sign_mark _ x y wide = dot x y
+
+unfoldable pub arrow_line : ℕ → ℕ → ℕ → List ℕ
+arrow_line start end y =
+    end_to_end (codes "<line x1=\"" ∷ decimal start ∷ codes "\" y1=\"" ∷ decimal y ∷
+    codes "\" x2=\"" ∷ decimal end ∷ codes "\" y2=\"" ∷ decimal y ∷
+    codes "\" marker-end=\"url(#tip)\"/>" ∷ [])
+
+-- words at a place
+unfoldable pub words : ℕ → ℕ → List ℕ → List ℕ
+words x y bytes =
+    end_to_end (codes "<text x=\"" ∷ decimal x ∷ codes "\" y=\"" ∷ decimal y ∷ codes "\">" ∷
+    xml_words bytes ∷ codes "</text>" ∷ [])
+
+-- the shape of an entry with its label
+unfoldable pub drawing : ℕ → List Role → ℕ → Shape → List ℕ → List ℕ
+drawing columns lanes y (shape.Arrow from to) said =
+    arrow_line (lane_x columns from) (lane_x columns to) y
+    ++ words (half_gap columns * (from + to + 1)) (y - 5) said
+drawing columns lanes y (shape.Mark s at) said =
+    sign_mark s (lane_x columns at) y (8 * columns + 14)
+    ++ words (lane_x columns at + 9) (y + 4) said
+drawing columns lanes y shape.Band said = paper 0 y (width columns lanes) ++ words 12 (y + 4) said
+
+-- the front of a group of this class, with a title that a reader may see
+unfoldable pub group_front : List ℕ → List ℕ → List ℕ
+group_front class title =
+    end_to_end (codes "<g class=\"" ∷ class ∷ codes "\"><title>" ∷ xml_words title ∷
+    codes "</title>" ∷ [])
+
+-- an entry: its class, its whole line as a title, and its shape with the label
+unfoldable pub svg_entry : ℕ → List Role → ℕ → Entry → List ℕ
+svg_entry columns lanes row e = group_front (entry_class (shape_of lanes e) e) (line e)
+    ++ drawing columns lanes (row_y row) (shape_of lanes e) (shortened columns (label e))
+    ++ codes "</g>\n"
+
+-- the box with a role's name
+unfoldable pub box_paper : ℕ → ℕ → ℕ → List ℕ
+box_paper x y wide =
+    end_to_end (codes "<rect x=\"" ∷ decimal x ∷ codes "\" y=\"" ∷ decimal y ∷
+    codes "\" width=\"" ∷ decimal wide ∷ codes "\" height=\"26\"/>" ∷ [])
+
+unfoldable pub name_box : ℕ → ℕ → ℕ → Role → List ℕ
+name_box columns y lane r = group_front (codes "role") r.0
+    ++ box_paper (half_gap columns * (lane + lane) + 8) y (8 * columns + 8)
+    ++ words (lane_x columns lane) (y + 17) (shortened columns r.0) ++ codes "</g>\n"
+
+-- the line of a lane, and its box at the top
+unfoldable pub lane_line : ℕ → ℕ → List ℕ
+lane_line x floor =
+    end_to_end (codes "<line class=\"lane\" x1=\"" ∷ decimal x ∷ codes "\" y1=\"38\" x2=\"" ∷
+    decimal x ∷ codes "\" y2=\"" ∷ decimal floor ∷ codes "\"/>\n" ∷ [])
+
+unfoldable pub svg_lane : ℕ → ℕ → ℕ → Role → List ℕ
+svg_lane columns floor lane r =
+    lane_line (lane_x columns lane) floor ++ name_box columns 12 lane r
+
+unfoldable pub style_text : List ℕ
+style_text = codes "<style>text{font:12px monospace;fill:#222}"
+    ++ codes ".lane{stroke:#b8b8b8;stroke-dasharray:5 4}.role rect{fill:#e8eef8;stroke:#42659c}"
+    ++ codes ".role text,line+text{text-anchor:middle}.role text{font-weight:bold}"
+    ++ codes ".put line{stroke:#1d4f91;stroke-width:1.6}"
+    ++ codes ".aux line{stroke:#999;stroke-dasharray:3 3}"
+    ++ codes "g text{paint-order:stroke;stroke:#fff;stroke-width:4px}"
+    ++ codes ".take circle{fill:#1d4f91}.set circle{fill:#fff;stroke:#1d4f91;stroke-width:2}"
+    ++ codes ".input circle{fill:#2e8540}.pick circle{fill:#8a3ab9}.aux circle{fill:#999}"
+    ++ codes ".keep rect{fill:#f4f4f4;stroke:#999}.replace rect{fill:#ffe2b8;stroke:#c77700}"
+    ++ codes ".change rect{fill:#ddf1dd;stroke:#2e8540}"
+    ++ codes ".role text,.keep text,.replace text,.change text{stroke:none}</style>\n"
+
+unfoldable pub tip_text : List ℕ
+tip_text = codes "<defs><marker id=\"tip\" viewBox=\"0 0 10 8\" refX=\"10\" refY=\"4\" "
+    ++ codes "markerWidth=\"10\" markerHeight=\"8\" "
+    ++ codes "markerUnits=\"userSpaceOnUse\" orient=\"auto\">"
+    ++ codes "<path d=\"M0 0L10 4L0 8z\" fill=\"#1d4f91\"/></marker></defs>\n"
+
+-- how high the picture is: the rows, the boxes under them, and the last line
+abbrev pub height : ℕ → ℕ
+height rows = row_y rows + 62
+
+unfoldable pub svg_tag : ℕ → ℕ → List ℕ
+svg_tag wide high =
+    end_to_end (codes "<svg xmlns=\"http://www.w3.org/2000/svg\" width=\"" ∷ decimal wide ∷
+    codes "\" height=\"" ∷ decimal high ∷ codes "\" viewBox=\"0 0 " ∷ decimal wide ∷
+    codes " " ∷ decimal high ∷ codes "\">\n" ∷ [])
+
+unfoldable pub ground_text : ℕ → ℕ → List ℕ
+ground_text wide high =
+    end_to_end (codes "<rect width=\"" ∷ decimal wide ∷ codes "\" height=\"" ∷ decimal high ∷
+    codes "\" fill=\"#fff\"/>\n" ∷ [])
+
+unfoldable pub svg_open : ℕ → ℕ → List ℕ
+svg_open wide high = svg_tag wide high ++ style_text ++ tip_text ++ ground_text wide high
+
+abbrev pub svg_head : ℕ → List Role → ℕ → List ℕ
+svg_head columns lanes rows = svg_open (width columns lanes) (height rows)
+    ++ pieces_from (svg_lane columns (row_y rows)) 0 lanes
+
+unfoldable pub svg_last : ℕ → Option Last → List ℕ
+svg_last floor None = []
+svg_last floor (Some end) = words 12 (floor + 48) (last_line end) ++ codes "\n"
+
+abbrev pub svg_tail : ℕ → List Role → ℕ → Option Last → List ℕ
+svg_tail columns lanes rows end = pieces_from (name_box columns (row_y rows)) 0 lanes
+    ++ svg_last (row_y rows) end ++ codes "</svg>\n"
+
+abbrev pub svg_picture : List Role → List Entry → Option Last → List ℕ
+svg_picture lanes entries end =
+    svg_head (columns_of lanes entries) lanes (length entries)
+    ++ pieces_from (svg_entry (columns_of lanes entries) lanes) 0 entries
+    ++ svg_tail (columns_of lanes entries) lanes (length entries) end

@@ -1,0 +1,127 @@
+//! The picture of a trace.
+
+ghost use Rattle.std.specs.Prelude.{◌≡◌, ◌≤◌, ◌<◌, ◌^◌, ◌++◌, length, OnOk, OnErr, IsErrOf};
+ghost use Rattle.limits.specs.Limits.{most_roles};
+ghost use Rattle.text_pieces.specs.Pieces.{KeepsFront};
+ghost use Rattle.trace_picture.specs.Lanes.{lanes_of};
+ghost use Rattle.trace_picture.specs.Pictures.{most_entries, picture, picture_of};
+ghost use Rattle.trace_picture.specs.declared.drawing.PictureFault.TheVariants.{Memory as picture_memory};
+
+use crate::lanes::lanes_of;
+use crate::mermaid::write_mermaid;
+use crate::svg::write_svg;
+use crate::terminal::write_terminal;
+use dioc_terms::{Entry, Last, Memory, Role};
+use limits::MOST_ROLES;
+use std::alloc::Global;
+use text_pieces::cut_back;
+use thiserror::Error;
+
+/// The most entries of a picture.
+pub const MOST_ENTRIES: usize = 1_000_000;
+
+/// How a picture is written.
+#[derive(Clone, Copy, Debug, PartialEq, Eq)]
+pub enum Style {
+    /// In letters, for a terminal.
+    Terminal,
+    /// As a Mermaid sequence diagram.
+    Mermaid,
+    /// As an SVG that stands alone.
+    Svg,
+}
+
+/// Why a trace has no picture.
+#[derive(Clone, Copy, Debug, PartialEq, Eq, Error)]
+pub enum PictureFault {
+    /// It has more than 1,000,000 entries.
+    #[error("too many entries")]
+    TooManyEntries,
+    /// It names more than 32 roles.
+    #[error("too many roles")]
+    TooManyRoles,
+    /// Memory ran out.
+    #[error("out of memory")]
+    Memory,
+}
+
+fn write_any(
+    alloc: Global,
+    style: Style,
+    lanes: &[Role],
+    entries: &[Entry],
+    last: &Option<Last>,
+    out: &mut Vec<u8>,
+) -> Result<(), Memory>
+    requires lanes { length lanes.now ≤ most_roles }
+    requires entries { length entries.now < 2 ^ 32 }
+    ensures ok { OnOk result (out.new.items ≡ out.old.items
+        ++ picture_of style lanes.now entries.now last.now) }
+    ensures memory { OnErr result (KeepsFront out.old.items out.new.items) }
+{
+    match style {
+        Style::Terminal => write_terminal(alloc, lanes, entries, last, out),
+        Style::Mermaid => write_mermaid(alloc, lanes, entries, last, out),
+        Style::Svg => write_svg(alloc, lanes, entries, last, out),
+    }
+}
+
+fn write_whole(
+    alloc: Global,
+    style: Style,
+    lanes: &[Role],
+    entries: &[Entry],
+    last: &Option<Last>,
+    out: &mut Vec<u8>,
+) -> Result<(), Memory>
+    requires lanes { length lanes.now ≤ most_roles }
+    requires entries { length entries.now < 2 ^ 32 }
+    ensures ok { OnOk result (out.new.items ≡ out.old.items
+        ++ picture_of style lanes.now entries.now last.now) }
+    ensures memory { OnErr result (out.new.items ≡ out.old.items) }
+{
+    let start = out.len();
+    let written = write_any(alloc, style, lanes, entries, last, out);
+    cut_back(written, start, out)
+}
+
+impl From<Memory> for PictureFault {
+    ghost from_gives = { λ _ fault. fault ≡ picture_memory };
+
+    fn from(_error: Memory) -> PictureFault {
+        PictureFault::Memory
+    }
+}
+
+/// Appends the picture of a trace.
+///
+/// It goes over the entries three times at most, in time linear in their text. The error is
+/// `TooManyEntries` exactly where there are more than 1,000,000, else `TooManyRoles` exactly where
+/// they name more than 32 roles, and `Memory` where memory runs out; `out` is then as it was.
+pub fn write_picture(
+    alloc: Global,
+    style: Style,
+    entries: &[Entry],
+    last: &Option<Last>,
+    out: &mut Vec<u8>,
+) -> Result<(), PictureFault>
+    ensures ok { OnOk result (out.new.items ≡ out.old.items
+        ++ picture style entries.now last.now) }
+    ensures unchanged { OnErr result (out.new.items ≡ out.old.items) }
+    ensures fits { OnOk result ((length entries.now ≤ most_entries)
+        × (length (lanes_of entries.now) ≤ most_roles)) }
+    ensures long { IsErrOf result PictureFault.TooManyEntries
+        → most_entries < length entries.now }
+    ensures many { IsErrOf result PictureFault.TooManyRoles
+        → most_roles < length (lanes_of entries.now) }
+{
+    if entries.len() > MOST_ENTRIES {
+        return Err(PictureFault::TooManyEntries);
+    }
+    let lanes = lanes_of(alloc, entries)?;
+    if lanes.len() > MOST_ROLES {
+        return Err(PictureFault::TooManyRoles);
+    }
+    write_whole(alloc, style, &lanes, entries, last, out)?;
+    Ok(())
+}

@@ -1,0 +1,136 @@
+//! What a picture says of an entry.
+
+ghost use Rattle.std.specs.Prelude.{◌≡◌, ◌++◌, codes, OnOk, OnErr};
+ghost use Rattle.text_pieces.specs.Pieces.{KeepsFront};
+ghost use Rattle.trace_text.specs.Lines.{value_text, tag_text, note_text, choice_text};
+ghost use Rattle.trace_picture.specs.Labels.{ended_text, kept_text, label};
+
+use dioc_terms::{Chosen, Entry, Last, Memory, Name, Note, Tag, Value};
+use text_pieces::{Minus, write_bytes, write_number, write_truth, write_value};
+use trace_text::{write_index, write_last};
+
+/// Appends the last line of a trace with its end.
+#[tactic(auto, using(text_pieces::proofs::KeptFronts::front_of_front))]
+pub fn write_last_line(last: &Last, out: &mut Vec<u8>) -> Result<(), Memory>
+    ensures ok { OnOk result (out.new.items ≡ out.old.items ++ ended_text last.now) }
+    ensures memory { OnErr result (KeepsFront out.old.items out.new.items) }
+{
+    write_last(last, false, out)?;
+    write_bytes(b"\n", out)
+}
+
+/// Appends what the entry did, without its roles.
+pub fn write_label(entry: &Entry, out: &mut Vec<u8>) -> Result<(), Memory>
+    ensures ok { OnOk result (out.new.items ≡ out.old.items ++ label entry.now) }
+    ensures memory { OnErr result (KeepsFront out.old.items out.new.items) }
+{
+    match entry {
+        Entry::Put { key, note } => write_sent(&key.tag, note, out),
+        Entry::Take { key, var } => write_taken(&key.tag, var, out),
+        Entry::Set { var, value, .. } => write_binding(b"", var, value, out),
+        Entry::Input { var, value, .. } => write_binding(b"input ", var, value, out),
+        Entry::Pick { flag, .. } => {
+            write_bytes(b"pick ", out)?;
+            write_truth(*flag, out)
+        }
+        Entry::Scope { index, chosen, .. } => {
+            write_bytes(b"scope ", out)?;
+            write_index(*index, out)?;
+            write_bytes(b" ", out)?;
+            write_choice(chosen, out)
+        }
+        Entry::Add { name } => write_named(b"add ", name, out),
+        Entry::Drop { name } => write_named(b"drop ", name, out),
+        Entry::Env { key, value } => write_binding(b"env ", key, value, out),
+    }
+}
+
+fn write_named(word: &[u8], name: &Name, out: &mut Vec<u8>) -> Result<(), Memory>
+    ensures ok { OnOk result (out.new.items ≡ out.old.items ++ (word.now ++ name.now)) }
+    ensures memory { OnErr result (KeepsFront out.old.items out.new.items) }
+{
+    write_bytes(word, out)?;
+    write_bytes(name.bytes(), out)
+}
+
+/// As `x = 5` behind a word.
+fn write_binding(word: &[u8], name: &Name, value: &Value, out: &mut Vec<u8>) -> Result<(), Memory>
+    ensures ok { OnOk result (out.new.items ≡ out.old.items
+        ++ (word.now ++ name.now ++ codes " = " ++ value_text value.now)) }
+    ensures memory { OnErr result (KeepsFront out.old.items out.new.items) }
+{
+    write_bytes(word, out)?;
+    write_bytes(name.bytes(), out)?;
+    write_bytes(b" = ", out)?;
+    write_value(value, Minus::Close, out)
+}
+
+/// As `ask = 5`.
+fn write_sent(tag: &Tag, note: &Note, out: &mut Vec<u8>) -> Result<(), Memory>
+    ensures ok { OnOk result (out.new.items ≡ out.old.items
+        ++ (tag_text tag.now ++ codes " = " ++ note_text note.now)) }
+    ensures memory { OnErr result (KeepsFront out.old.items out.new.items) }
+{
+    write_tag(tag, out)?;
+    write_bytes(b" = ", out)?;
+    write_note(note, out)
+}
+
+/// As `take ask as x`.
+fn write_taken(tag: &Tag, variable: &Option<Name>, out: &mut Vec<u8>) -> Result<(), Memory>
+    ensures ok { OnOk result (out.new.items ≡ out.old.items
+        ++ (codes "take " ++ tag_text tag.now ++ kept_text variable.now)) }
+    ensures memory { OnErr result (KeepsFront out.old.items out.new.items) }
+{
+    write_bytes(b"take ", out)?;
+    write_tag(tag, out)?;
+    match variable {
+        None => Ok(()),
+        Some(name) => write_named(b" as ", name, out),
+    }
+}
+
+fn write_tag(tag: &Tag, out: &mut Vec<u8>) -> Result<(), Memory>
+    ensures ok { OnOk result (out.new.items ≡ out.old.items ++ tag_text tag.now) }
+    ensures memory { OnErr result (KeepsFront out.old.items out.new.items) }
+{
+    match tag {
+        Tag::Op(name) => write_bytes(name.bytes(), out),
+        Tag::Choice => write_bytes(b"!choice", out),
+        Tag::Go => write_bytes(b"!go", out),
+        Tag::Turn => write_bytes(b"!turn", out),
+        Tag::Begin => write_bytes(b"!begin", out),
+        Tag::End => write_bytes(b"!end", out),
+        Tag::Out => write_bytes(b"!out", out),
+    }
+}
+
+fn write_note(note: &Note, out: &mut Vec<u8>) -> Result<(), Memory>
+    ensures ok { OnOk result (out.new.items ≡ out.old.items ++ note_text note.now) }
+    ensures memory { OnErr result (KeepsFront out.old.items out.new.items) }
+{
+    match note {
+        Note::Val(value) => write_value(value, Minus::Close, out),
+        Note::Flag(flag) => write_truth(*flag, out),
+        Note::Keep => write_bytes(b"keep", out),
+        Note::Part(epoch) => {
+            write_bytes(b"part ", out)?;
+            write_number(u64::from(*epoch), out)
+        }
+        Note::Done => write_bytes(b"done", out),
+    }
+}
+
+fn write_choice(chosen: &Chosen, out: &mut Vec<u8>) -> Result<(), Memory>
+    ensures ok { OnOk result (out.new.items ≡ out.old.items ++ choice_text chosen.now) }
+    ensures memory { OnErr result (KeepsFront out.old.items out.new.items) }
+{
+    match chosen {
+        Chosen::Keep => write_bytes(b"keep", out),
+        Chosen::Rule { name, epoch } => {
+            write_named(b"rule ", name, out)?;
+            write_bytes(b" as ", out)?;
+            write_number(u64::from(*epoch), out)
+        }
+    }
+}

@@ -1,0 +1,433 @@
+//! The picture of a trace as an SVG. Lengths are in pixels.
+
+ghost use Rattle.std.specs.Prelude.{◌≡◌, ◌*◌, ◌≤◌, ◌<◌, ◌^◌, ◌++◌, length, IfOk, OnOk, OnErr};
+ghost use Rattle.limits.specs.Limits.{most_roles};
+ghost use Rattle.text_pieces.specs.Pieces.{KeepsFront};
+ghost use Rattle.trace_picture.specs.Runs.{pieces_from};
+ghost use Rattle.trace_picture.specs.Shapes.{IsWithin};
+ghost use Rattle.trace_picture.specs.Svg.{most_columns, longest_label, columns_of, half_gap, lane_x, width, row_y, sign_class, shape_class, entry_class, drawing, group_front, svg_entry, box_paper, name_box, lane_line, svg_lane, svg_head, svg_last, svg_tail, svg_picture};
+
+use crate::fragments::Fragment::{Marked, Number, Plain};
+use crate::fragments::write_fragments;
+use crate::labels::write_label;
+use crate::lanes::longest_name;
+use crate::runs::write_shortened;
+use crate::shapes::{Shape, Sign, shape_of};
+use crate::svg_parts::{write_arrow, write_open, write_paper, write_sign, write_words};
+use dioc_terms::{Entry, Last, Memory, Role};
+use std::alloc::Global;
+use text_pieces::write_bytes;
+use trace_text::{write_last, write_line};
+
+/// How long the longest label is, and `least` at least.
+fn longest_label(alloc: Global, least: usize, entries: &[Entry]) -> Result<usize, Memory>
+    ensures { IfOk result (λ most. most ≡ longest_label least entries.now) }
+{
+    let mut most = least;
+    for entry in entries {
+        let mut label = Vec::new(alloc);
+        write_label(entry, &mut label)?;
+        most = most.max(label.len());
+    }
+    Ok(most)
+}
+
+fn most_columns(lanes: &[Role]) -> usize
+    ensures { result ≡ most_columns lanes.now }
+{
+    match lanes.len() {
+        0..=4 => 34,
+        5..=8 => 28,
+        _ => 20,
+    }
+}
+
+/// How many bytes of a label may stand between two lanes.
+fn columns_of(alloc: Global, lanes: &[Role], entries: &[Entry]) -> Result<usize, Memory>
+    ensures value { IfOk result (λ columns. columns ≡ columns_of lanes.now entries.now) }
+    ensures within { IfOk result (λ columns. (10 ≤ columns) × (columns ≤ 34)) }
+{
+    let longest = longest_label(alloc, longest_name(lanes), entries)?;
+    Ok(longest.min(most_columns(lanes)).max(10))
+}
+
+/// Half of what is between two lanes.
+fn half_gap(columns: usize) -> u64
+    requires columns { columns ≤ 34 }
+    ensures value { result ≡ half_gap columns }
+    ensures small { result ≤ 148 }
+{
+    4 * columns as u64 + 12
+}
+
+/// Where a lane stands.
+fn lane_x(columns: usize, lane: usize) -> u64
+    requires columns { columns ≤ 34 }
+    requires lane { lane ≤ most_roles }
+    ensures value { result ≡ lane_x columns lane }
+    ensures small { result ≤ 148 * 65 }
+{
+    half_gap(columns) * (2 * lane as u64 + 1)
+}
+
+/// How wide the picture is.
+fn width(columns: usize, lanes: &[Role]) -> u64
+    requires columns { columns ≤ 34 }
+    requires lanes { length lanes.now ≤ most_roles }
+    ensures { result ≡ width columns lanes.now }
+{
+    half_gap(columns) * (2 * lanes.len().max(1) as u64 + 1)
+}
+
+/// Where the row of an entry stands.
+fn row_y(row: usize) -> u64
+    requires row { row < 2 ^ 32 }
+    ensures value { result ≡ row_y row }
+    ensures small { result < 2 ^ 40 }
+    ensures below { 70 ≤ result }
+{
+    30 * row as u64 + 70
+}
+
+fn sign_class(sign: Sign) -> &'static [u8]
+    ensures { result.now ≡ sign_class sign }
+{
+    match sign {
+        Sign::Take => b"take",
+        Sign::Set => b"set",
+        Sign::Input => b"input",
+        Sign::Pick => b"pick",
+        Sign::Keep => b"keep",
+        Sign::Replace => b"replace",
+        Sign::Own => b"put",
+    }
+}
+
+fn shape_class(shape: Shape) -> &'static [u8]
+    ensures { result.now ≡ shape_class shape }
+{
+    match shape {
+        Shape::Arrow { .. } => b"put",
+        Shape::Mark { sign, .. } => sign_class(sign),
+        Shape::Band => b"change",
+    }
+}
+
+fn entry_class(shape: Shape, entry: &Entry) -> &'static [u8]
+    ensures { result.now ≡ entry_class shape entry.now }
+{
+    if entry.is_aux() {
+        b"aux"
+    } else {
+        shape_class(shape)
+    }
+}
+
+/// Appends the shape of an entry with its label.
+#[tactic(auto, unfolding(crate::specs::Svg::drawing))]
+fn write_drawing(
+    columns: usize,
+    lanes: &[Role],
+    y: u64,
+    shape: Shape,
+    said: &[u8],
+    out: &mut Vec<u8>,
+) -> Result<(), Memory>
+    requires columns { columns ≤ 34 }
+    requires lanes { length lanes.now ≤ most_roles }
+    requires shape { IsWithin most_roles shape }
+    requires low { (11 ≤ y) × (y < 2 ^ 40) }
+    ensures ok { OnOk result (out.new.items ≡ out.old.items
+        ++ drawing columns lanes.now y shape said.now) }
+    ensures memory { OnErr result (KeepsFront out.old.items out.new.items) }
+{
+    match shape {
+        Shape::Arrow { from, to } => {
+            write_arrow(lane_x(columns, from), lane_x(columns, to), y, out)?;
+            let middle = half_gap(columns) * (from as u64 + to as u64 + 1);
+            write_words(middle, y - 5, said, out)
+        }
+        Shape::Mark { sign, at } => {
+            let x = lane_x(columns, at);
+            write_sign(sign, x, y, 8 * columns as u64 + 14, out)?;
+            write_words(x + 9, y + 4, said, out)
+        }
+        Shape::Band => {
+            write_paper(0, y, width(columns, lanes), out)?;
+            write_words(12, y + 4, said, out)
+        }
+    }
+}
+
+/// Appends the tag of a group, and its title.
+#[tactic(auto, unfolding(crate::specs::Svg::group_front))]
+fn write_title<'a>(class: &'a [u8], title: &'a [u8], out: &mut Vec<u8>) -> Result<(), Memory>
+    ensures ok { OnOk result (out.new.items ≡ out.old.items
+        ++ group_front class.now title.now) }
+    ensures memory { OnErr result (KeepsFront out.old.items out.new.items) }
+{
+    let fragments = [
+        Plain(b"<g class=\""),
+        Plain(class),
+        Plain(b"\"><title>"),
+        Marked(title),
+        Plain(b"</title>"),
+    ];
+    write_fragments(&fragments, out)
+}
+
+/// Appends an entry: its class, its whole line as a title, and its shape with the label.
+#[tactic(auto, unfolding(crate::specs::Svg::svg_entry))]
+fn write_entry(
+    alloc: Global,
+    columns: usize,
+    lanes: &[Role],
+    row: usize,
+    entry: &Entry,
+    out: &mut Vec<u8>,
+) -> Result<(), Memory>
+    requires columns { (3 ≤ columns) × (columns ≤ 34) }
+    requires lanes { length lanes.now ≤ most_roles }
+    requires row { row < 2 ^ 32 }
+    ensures ok { OnOk result (out.new.items ≡ out.old.items
+        ++ svg_entry columns lanes.now row entry.now) }
+    ensures memory { OnErr result (KeepsFront out.old.items out.new.items) }
+{
+    let mut line = Vec::new(alloc);
+    write_line(entry, &mut line)?;
+    let mut label = Vec::new(alloc);
+    write_label(entry, &mut label)?;
+    let mut shown = Vec::new(alloc);
+    write_shortened(&label, columns, &mut shown)?;
+    let shape = shape_of(lanes, entry);
+    write_title(entry_class(shape, entry), &line, out)?;
+    write_drawing(columns, lanes, row_y(row), shape, &shown, out)?;
+    write_bytes(b"</g>\n", out)
+}
+
+/// Appends the paper of the box with a role's name.
+#[tactic(auto, unfolding(crate::specs::Svg::box_paper))]
+fn write_box_paper(x: u64, y: u64, wide: u64, out: &mut Vec<u8>) -> Result<(), Memory>
+    ensures ok { OnOk result (out.new.items ≡ out.old.items ++ box_paper x y wide) }
+    ensures memory { OnErr result (KeepsFront out.old.items out.new.items) }
+{
+    let fragments = [
+        Plain(b"<rect x=\""),
+        Number(x),
+        Plain(b"\" y=\""),
+        Number(y),
+        Plain(b"\" width=\""),
+        Number(wide),
+        Plain(b"\" height=\"26\"/>"),
+    ];
+    write_fragments(&fragments, out)
+}
+
+/// Appends the box with a role's name.
+#[tactic(auto, unfolding(crate::specs::Svg::name_box))]
+fn write_box(
+    alloc: Global,
+    columns: usize,
+    y: u64,
+    lane: usize,
+    role: &Role,
+    out: &mut Vec<u8>,
+) -> Result<(), Memory>
+    requires columns { (3 ≤ columns) × (columns ≤ 34) }
+    requires lane { lane ≤ most_roles }
+    requires low { y < 2 ^ 40 }
+    ensures ok { OnOk result (out.new.items ≡ out.old.items
+        ++ name_box columns y lane role.now) }
+    ensures memory { OnErr result (KeepsFront out.old.items out.new.items) }
+{
+    let mut shown = Vec::new(alloc);
+    write_shortened(role.0.bytes(), columns, &mut shown)?;
+    write_title(b"role", role.0.bytes(), out)?;
+    let x = half_gap(columns) * (lane as u64 + lane as u64) + 8;
+    write_box_paper(x, y, 8 * columns as u64 + 8, out)?;
+    write_words(lane_x(columns, lane), y + 17, &shown, out)?;
+    write_bytes(b"</g>\n", out)
+}
+
+/// Appends the line of a lane at `x`, down to `floor`.
+#[tactic(auto, unfolding(crate::specs::Svg::lane_line))]
+fn write_lane_line(x: u64, floor: u64, out: &mut Vec<u8>) -> Result<(), Memory>
+    ensures ok { OnOk result (out.new.items ≡ out.old.items ++ lane_line x floor) }
+    ensures memory { OnErr result (KeepsFront out.old.items out.new.items) }
+{
+    let fragments = [
+        Plain(b"<line class=\"lane\" x1=\""),
+        Number(x),
+        Plain(b"\" y1=\"38\" x2=\""),
+        Number(x),
+        Plain(b"\" y2=\""),
+        Number(floor),
+        Plain(b"\"/>\n"),
+    ];
+    write_fragments(&fragments, out)
+}
+
+/// Appends the line of a lane, down to `floor`, and its box at the top.
+#[tactic(auto, unfolding(crate::specs::Svg::svg_lane))]
+fn write_lane(
+    alloc: Global,
+    columns: usize,
+    floor: u64,
+    lane: usize,
+    role: &Role,
+    out: &mut Vec<u8>,
+) -> Result<(), Memory>
+    requires columns { (3 ≤ columns) × (columns ≤ 34) }
+    requires lane { lane ≤ most_roles }
+    ensures ok { OnOk result (out.new.items ≡ out.old.items
+        ++ svg_lane columns floor lane role.now) }
+    ensures memory { OnErr result (KeepsFront out.old.items out.new.items) }
+{
+    write_lane_line(lane_x(columns, lane), floor, out)?;
+    write_box(alloc, columns, 12, lane, role, out)
+}
+
+/// Appends the lanes, down to `floor`.
+#[tactic(auto, using(text_pieces::proofs::KeptFronts::front_of_front))]
+fn write_lanes(
+    alloc: Global,
+    columns: usize,
+    floor: u64,
+    lanes: &[Role],
+    out: &mut Vec<u8>,
+) -> Result<(), Memory>
+    requires columns { (3 ≤ columns) × (columns ≤ 34) }
+    requires lanes { length lanes.now ≤ most_roles }
+    ensures ok { OnOk result (out.new.items ≡ out.old.items
+        ++ pieces_from (svg_lane columns floor) 0 lanes.now) }
+    ensures memory { OnErr result (KeepsFront out.old.items out.new.items) }
+{
+    for (lane, role) in lanes.iter().enumerate() {
+        write_lane(alloc, columns, floor, lane, role, out)?;
+    }
+    Ok(())
+}
+
+/// Appends the boxes of the lanes at `y`.
+#[tactic(auto, using(text_pieces::proofs::KeptFronts::front_of_front))]
+fn write_boxes(
+    alloc: Global,
+    columns: usize,
+    y: u64,
+    lanes: &[Role],
+    out: &mut Vec<u8>,
+) -> Result<(), Memory>
+    requires columns { (3 ≤ columns) × (columns ≤ 34) }
+    requires lanes { length lanes.now ≤ most_roles }
+    requires low { y < 2 ^ 40 }
+    ensures ok { OnOk result (out.new.items ≡ out.old.items
+        ++ pieces_from (name_box columns y) 0 lanes.now) }
+    ensures memory { OnErr result (KeepsFront out.old.items out.new.items) }
+{
+    for (lane, role) in lanes.iter().enumerate() {
+        write_box(alloc, columns, y, lane, role, out)?;
+    }
+    Ok(())
+}
+
+fn write_head(
+    alloc: Global,
+    columns: usize,
+    lanes: &[Role],
+    rows: usize,
+    out: &mut Vec<u8>,
+) -> Result<(), Memory>
+    requires columns { (3 ≤ columns) × (columns ≤ 34) }
+    requires lanes { length lanes.now ≤ most_roles }
+    requires rows { rows < 2 ^ 32 }
+    ensures ok { OnOk result (out.new.items ≡ out.old.items ++ svg_head columns lanes.now rows) }
+    ensures memory { OnErr result (KeepsFront out.old.items out.new.items) }
+{
+    let floor = row_y(rows);
+    write_open(width(columns, lanes), floor + 62, out)?;
+    write_lanes(alloc, columns, floor, lanes, out)
+}
+
+#[tactic(auto, unfolding(crate::specs::Svg::svg_last))]
+fn write_end(
+    alloc: Global,
+    floor: u64,
+    last: &Option<Last>,
+    out: &mut Vec<u8>,
+) -> Result<(), Memory>
+    requires low { floor < 2 ^ 40 }
+    ensures ok { OnOk result (out.new.items ≡ out.old.items ++ svg_last floor last.now) }
+    ensures memory { OnErr result (KeepsFront out.old.items out.new.items) }
+{
+    match last {
+        None => Ok(()),
+        Some(end) => {
+            let mut said = Vec::new(alloc);
+            write_last(end, false, &mut said)?;
+            write_words(12, floor + 48, &said, out)?;
+            write_bytes(b"\n", out)
+        }
+    }
+}
+
+fn write_tail(
+    alloc: Global,
+    columns: usize,
+    lanes: &[Role],
+    rows: usize,
+    last: &Option<Last>,
+    out: &mut Vec<u8>,
+) -> Result<(), Memory>
+    requires columns { (3 ≤ columns) × (columns ≤ 34) }
+    requires lanes { length lanes.now ≤ most_roles }
+    requires rows { rows < 2 ^ 32 }
+    ensures ok { OnOk result (out.new.items ≡ out.old.items
+        ++ svg_tail columns lanes.now rows last.now) }
+    ensures memory { OnErr result (KeepsFront out.old.items out.new.items) }
+{
+    let floor = row_y(rows);
+    write_boxes(alloc, columns, floor, lanes, out)?;
+    write_end(alloc, floor, last, out)?;
+    write_bytes(b"</svg>\n", out)
+}
+
+#[tactic(auto, using(text_pieces::proofs::KeptFronts::front_of_front))]
+fn write_entries(
+    alloc: Global,
+    columns: usize,
+    lanes: &[Role],
+    entries: &[Entry],
+    out: &mut Vec<u8>,
+) -> Result<(), Memory>
+    requires columns { (3 ≤ columns) × (columns ≤ 34) }
+    requires lanes { length lanes.now ≤ most_roles }
+    requires entries { length entries.now < 2 ^ 32 }
+    ensures ok { OnOk result (out.new.items ≡ out.old.items
+        ++ pieces_from (svg_entry columns lanes.now) 0 entries.now) }
+    ensures memory { OnErr result (KeepsFront out.old.items out.new.items) }
+{
+    for (row, entry) in entries.iter().enumerate() {
+        write_entry(alloc, columns, lanes, row, entry, out)?;
+    }
+    Ok(())
+}
+
+/// Appends the SVG of a trace with these lanes.
+pub fn write_svg(
+    alloc: Global,
+    lanes: &[Role],
+    entries: &[Entry],
+    last: &Option<Last>,
+    out: &mut Vec<u8>,
+) -> Result<(), Memory>
+    requires lanes { length lanes.now ≤ most_roles }
+    requires entries { length entries.now < 2 ^ 32 }
+    ensures ok { OnOk result (out.new.items ≡ out.old.items
+        ++ svg_picture lanes.now entries.now last.now) }
+    ensures memory { OnErr result (KeepsFront out.old.items out.new.items) }
+{
+    let columns = columns_of(alloc, lanes, entries)?;
+    write_head(alloc, columns, lanes, entries.len(), out)?;
+    write_entries(alloc, columns, lanes, entries, out)?;
+    write_tail(alloc, columns, lanes, entries.len(), last, out)
+}
