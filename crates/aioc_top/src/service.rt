@@ -51,9 +51,9 @@ pub fn serve_alone<S: Source, O: Sink, E: Sink>(
         (O.state out.old) (O.state out.new) }
 
     // With `check` the line that says how large the bundle is, with `project` a line for each role,
-    // with `replay` the judgement of the trace, with `resume` the run that goes on from it, with `upgrade` the bundle in its second version,
-    // with `mend` the bundle connected by added messages, with `gen` the line of the bundle that is
-    // made of its numbers.
+    // with `replay` the judgement of the trace, with `resume` the run that goes on from its
+    // entries, with `upgrade` the bundle in its second version, with `mend` the bundle connected by
+    // added messages, with `gen` the line of the bundle that is made of its numbers.
     ensures check_text { CheckText (asked (word_texts words.now)) result (S.state source.old)
         (O.state out.old) (O.state out.new) }
     ensures project_text { ProjectText (asked (word_texts words.now)) result (S.state source.old)
