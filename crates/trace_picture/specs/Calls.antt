@@ -10,7 +10,7 @@ use Rattle.trace_picture.specs.declared.calls.DrawFault.TheVariants as fault
 use Rattle.trace_picture.specs.declared.drawing.Style.{Style}
 use Rattle.trace_picture.specs.declared.drawing.Style.TheVariants as style
 use Rattle.trace_picture.specs.Pictures.{picture}
-use Rattle.trace_picture.specs.Reading.{Reads}
+use Rattle.trace_picture.specs.Reading.{Reads, StopsAt}
 
 -- the exit code of a fault
 abbrev pub fault_code : DrawFault → ℕ
@@ -54,3 +54,9 @@ pub record Draws (words : List (List ℕ)) (left before after : Option (List ℕ
   pub drawn : List ℕ
   pub makes : Made wanted text drawn
   pub takes : Appends before after drawn
+
+-- the line of this number of the text that the source's bytes say may not stand where it stands
+pub record Stops (left : Option (List ℕ)) (number : ℕ) : Type 0 where
+  pub text : List ℕ
+  pub told : IfSome left (λ bytes. text ≡ bytes)
+  pub line : StopsAt text number

@@ -1,9 +1,11 @@
 //! The call of the program: from the words of a command line and the bytes of a source to a
 //! picture in a sink, or one line of why not.
 
-ghost use Rattle.std.specs.Prelude.{◌≡◌, ◌≢◌, ◌≤◌, IfErr, IfOk, OnOk, OnErr, MatchOption, vec_len};
+ghost use Rattle.std.specs.Prelude.{◌≡◌, ◌≢◌, ◌≤◌, ℕ, Err, IfErr, IfOk, OnOk, OnErr, MatchOption, vec_len};
 ghost use Rattle.aioc_io.specs.Faults.{Rose};
-ghost use Rattle.trace_picture.specs.Calls.{style_named, style_of, bytes_of_words, fault_code, Made, Draws};
+ghost use Rattle.trace_picture.specs.Calls.{style_named, style_of, bytes_of_words, fault_code, Made, Draws, Stops};
+ghost use Rattle.trace_picture.specs.Reading.{StopsAt};
+ghost use Rattle.trace_picture.specs.declared.calls.DrawFault.TheVariants as draw_fault;
 
 use crate::drawing::{PictureFault, Style, write_picture};
 use crate::reading::{ReadFault, read_trace_text};
@@ -83,7 +85,8 @@ fn style_of(words: &[Vec<u8>]) -> Option<Style>
 }
 
 fn read_fault(fault: ReadAllFault) -> DrawFault
-    ensures { result ≢ DrawFault.Write }
+    ensures other { result ≢ DrawFault.Write }
+    ensures no_line { (n : ℕ) → result ≢ draw_fault.BadLine n }
 {
     match fault {
         ReadAllFault::Fault => DrawFault::Read,
@@ -93,7 +96,8 @@ fn read_fault(fault: ReadAllFault) -> DrawFault
 }
 
 fn picture_fault(fault: PictureFault) -> DrawFault
-    ensures { result ≢ DrawFault.Write }
+    ensures other { result ≢ DrawFault.Write }
+    ensures no_line { (n : ℕ) → result ≢ draw_fault.BadLine n }
 {
     match fault {
         PictureFault::TooManyEntries => DrawFault::TooLong,
@@ -106,6 +110,7 @@ fn picture_fault(fault: PictureFault) -> DrawFault
 fn made(alloc: Global, style: Style, text: &[u8]) -> Result<Vec<u8>, DrawFault>
     ensures ok { IfOk result (λ drawn. Made style text.now drawn.items) }
     ensures other { IfErr result (λ fault. fault ≢ DrawFault.Write) }
+    ensures bad { (n : ℕ) → result ≡ Err (draw_fault.BadLine n) → StopsAt text.now n }
 {
     let trace = match read_trace_text(alloc, text) {
         Ok(trace) => trace,
@@ -128,7 +133,8 @@ fn made(alloc: Global, style: Style, text: &[u8]) -> Result<Vec<u8>, DrawFault>
 /// Reads a trace from the source, and writes its picture into the sink.
 ///
 /// Words are none for a picture in letters, or one: `--mermaid` or `--svg`. Where the answer is an
-/// error but `Write`, nothing was written.
+/// error but `Write`, nothing was written. `BadLine(n)` comes only where line n of the source's
+/// text may not stand where it stands.
 pub fn draw<S: Source, O: Sink>(
     alloc: Global,
     words: &[Vec<u8>],
@@ -139,6 +145,8 @@ pub fn draw<S: Source, O: Sink>(
         (O.state out.old).taken (O.state out.new).taken) }
     ensures silent { IfErr result (λ fault. fault ≢ DrawFault.Write
         → O.state out.new ≡ O.state out.old) }
+    ensures bad { (n : ℕ) → result ≡ Err (draw_fault.BadLine n)
+        → Stops (S.state source.old).left n }
 {
     let style = match style_of(words) {
         Some(style) => style,
