@@ -13,7 +13,7 @@ use Rattle.dioc_terms.specs.Expressions.{Const}
 use Rattle.dioc_terms.specs.Names.{is_letter, is_digit, is_word, is_name, is_reserved, reserved_words}
 use Rattle.dioc_terms.specs.Terms.{Term, Skip, Com, Set, Input, Seq, Par, If, While, Scope, empty, is_in, mentions, first_appearances, cast_of, constructs, index_at, indexed_from, indexed, nodes}
 use Rattle.connectedness.specs.Connected.{starters, linked}
-use Rattle.mend.specs.Mended.{message, told, asked, closed, opened, first_starter, through, join, joined, added, numbered, mended}
+use Rattle.mend.specs.Mended.{message, told, led_in, closed, opened, first_starter, through, join, relinked, added, with_numbers, mended}
 use Rattle.mend.specs.Names.{begins_sq, sq_name}
 use Rattle.bundle_mend.proofs.Sizes.{added-within}
 
@@ -44,7 +44,7 @@ indexed_twice n (While i r g I) = ap (λ s. While (index_at n) r g s) (indexed_t
 indexed_twice n (Scope i r I extra props level) = ap (λ s. Scope (index_at n) r s extra props 0) (indexed_twice (suc n) I)
 
 pub mended-marks : (cast : List Role) (I : Term) → mended cast I ≡ indexed (mended cast I)
-mended-marks cast I = sym (indexed_twice 0 (numbered 0 (joined cast I)))
+mended-marks cast I = sym (indexed_twice 0 (with_numbers 0 (relinked cast I)))
 
 -- The names of added messages
 digit-is_word : (n : ℕ) → n < 10 → is_word (48 + n) ≡ true
@@ -92,7 +92,7 @@ told-formed true W r k h f g = h
 told-formed false W r k h f g = and_from (has_formed_parts W) (has_formed_parts (message r k)) h (message-formed r k f g)
 
 asked-formed : (t : Bool) (W : Term) (r k : Role) → has_formed_parts W ≡ true → is_formed_role r ≡ true → is_formed_role k ≡ true
-    → has_formed_parts (asked t W r k) ≡ true
+    → has_formed_parts (led_in t W r k) ≡ true
 asked-formed true W r k h f g = h
 asked-formed false W r k h f g = and_from (has_formed_parts (message k r)) (has_formed_parts W) (message-formed k r g f) h
 
@@ -192,33 +192,33 @@ module _ (cast : List Role) (formed : list_all is_formed_role cast ≡ true) whe
       (λ yes. and_from (has_formed_parts I) (has_formed_parts J) h j)
       (λ no. through-formed (first_starter cast J) I J (found-formed (λ q. member q (starters J)) cast formed) h j)
 
-  joined-formed : (I : Term) → has_formed_parts I ≡ true → has_formed_parts (joined cast I) ≡ true
+  joined-formed : (I : Term) → has_formed_parts I ≡ true → has_formed_parts (relinked cast I) ≡ true
   joined-formed Skip h = h
   joined-formed (Com i o a e b x) h = h
   joined-formed (Set i x r e) h = h
   joined-formed (Input i x r) h = h
   joined-formed (Seq I J) h =
       let parts = and_parts (has_formed_parts I) (has_formed_parts J) h in
-      join-formed (joined cast I) (joined cast J) (joined-formed I parts.0) (joined-formed J parts.1)
+      join-formed (relinked cast I) (relinked cast J) (joined-formed I parts.0) (joined-formed J parts.1)
   joined-formed (Par I J) h =
       let parts = and_parts (has_formed_parts I) (has_formed_parts J) h in
-      and_from (has_formed_parts (joined cast I)) (has_formed_parts (joined cast J)) (joined-formed I parts.0) (joined-formed J parts.1)
+      and_from (has_formed_parts (relinked cast I)) (has_formed_parts (relinked cast J)) (joined-formed I parts.0) (joined-formed J parts.1)
   joined-formed (If i r g I J) h =
       let parts = and_parts (is_formed_role r && is_formed_step g && has_formed_parts I) (has_formed_parts J) h in
       let front = and_parts (is_formed_role r && is_formed_step g) (has_formed_parts I) parts.0 in
-      and_from (is_formed_role r && is_formed_step g && has_formed_parts (joined cast I)) (has_formed_parts (joined cast J))
-      (and_from (is_formed_role r && is_formed_step g) (has_formed_parts (joined cast I)) front.0 (joined-formed I front.1))
+      and_from (is_formed_role r && is_formed_step g && has_formed_parts (relinked cast I)) (has_formed_parts (relinked cast J))
+      (and_from (is_formed_role r && is_formed_step g) (has_formed_parts (relinked cast I)) front.0 (joined-formed I front.1))
       (joined-formed J parts.1)
   joined-formed (While i r g I) h =
       let parts = and_parts (is_formed_role r && is_formed_step g) (has_formed_parts I) h in
-      and_from (is_formed_role r && is_formed_step g) (has_formed_parts (joined cast I)) parts.0 (joined-formed I parts.1)
+      and_from (is_formed_role r && is_formed_step g) (has_formed_parts (relinked cast I)) parts.0 (joined-formed I parts.1)
   joined-formed (Scope i r I extra props level) h =
       let parts = and_parts (is_formed_role r && has_formed_parts I && list_all is_formed_role extra) (list_all is_formed_binding props) h in
       let front = and_parts (is_formed_role r && has_formed_parts I) (list_all is_formed_role extra) parts.0 in
       let first = and_parts (is_formed_role r) (has_formed_parts I) front.0 in
-      and_from (is_formed_role r && has_formed_parts (joined cast I) && list_all is_formed_role extra) (list_all is_formed_binding props)
-      (and_from (is_formed_role r && has_formed_parts (joined cast I)) (list_all is_formed_role extra)
-      (and_from (is_formed_role r) (has_formed_parts (joined cast I)) first.0 (joined-formed I first.1)) front.1) parts.1
+      and_from (is_formed_role r && has_formed_parts (relinked cast I) && list_all is_formed_role extra) (list_all is_formed_binding props)
+      (and_from (is_formed_role r && has_formed_parts (relinked cast I)) (list_all is_formed_role extra)
+      (and_from (is_formed_role r) (has_formed_parts (relinked cast I)) first.0 (joined-formed I first.1)) front.1) parts.1
 
 -- Numbers
 op-formed : (t : Bool) (n : ℕ) (o : List ℕ) → n + (if t then 1 else 0) ≤ 4294967296 → is_identifier o ≡ true → is_identifier (if t then sq_name n else o) ≡ true
@@ -235,7 +235,7 @@ other_first p c q r s t h k =
 first_of_five : (p q r s t : Bool) → (p && q && r && s && t) ≡ true → p ≡ true
 first_of_five p q r s t h = first_of_four p q r s (and_parts (p && q && r && s) t h).0
 
-numbered-formed : (n : ℕ) (I : Term) → n + added I ≤ 4294967296 → has_formed_parts I ≡ true → has_formed_parts (numbered n I) ≡ true
+numbered-formed : (n : ℕ) (I : Term) → n + added I ≤ 4294967296 → has_formed_parts I ≡ true → has_formed_parts (with_numbers n I) ≡ true
 numbered-formed n Skip few h = h
 numbered-formed n (Com i o a e b x) few h =
     other_first (is_identifier o) (is_identifier (if begins_sq o then sq_name n else o)) (is_formed_role a) (is_formed_step e) (is_formed_role b) (is_identifier x) h
@@ -244,28 +244,28 @@ numbered-formed n (Set i x r e) few h = h
 numbered-formed n (Input i x r) few h = h
 numbered-formed n (Seq I J) few h =
     let parts = and_parts (has_formed_parts I) (has_formed_parts J) h in
-    and_from (has_formed_parts (numbered n I)) (has_formed_parts (numbered (n + added I) J)) (numbered-formed n I (omega (arith, few)) parts.0)
+    and_from (has_formed_parts (with_numbers n I)) (has_formed_parts (with_numbers (n + added I) J)) (numbered-formed n I (omega (arith, few)) parts.0)
     (numbered-formed (n + added I) J (omega (arith, few)) parts.1)
 numbered-formed n (Par I J) few h =
     let parts = and_parts (has_formed_parts I) (has_formed_parts J) h in
-    and_from (has_formed_parts (numbered n I)) (has_formed_parts (numbered (n + added I) J)) (numbered-formed n I (omega (arith, few)) parts.0)
+    and_from (has_formed_parts (with_numbers n I)) (has_formed_parts (with_numbers (n + added I) J)) (numbered-formed n I (omega (arith, few)) parts.0)
     (numbered-formed (n + added I) J (omega (arith, few)) parts.1)
 numbered-formed n (If i r g I J) few h =
     let parts = and_parts (is_formed_role r && is_formed_step g && has_formed_parts I) (has_formed_parts J) h in
     let front = and_parts (is_formed_role r && is_formed_step g) (has_formed_parts I) parts.0 in
-    and_from (is_formed_role r && is_formed_step g && has_formed_parts (numbered n I)) (has_formed_parts (numbered (n + added I) J))
-    (and_from (is_formed_role r && is_formed_step g) (has_formed_parts (numbered n I)) front.0 (numbered-formed n I (omega (arith, few)) front.1))
+    and_from (is_formed_role r && is_formed_step g && has_formed_parts (with_numbers n I)) (has_formed_parts (with_numbers (n + added I) J))
+    (and_from (is_formed_role r && is_formed_step g) (has_formed_parts (with_numbers n I)) front.0 (numbered-formed n I (omega (arith, few)) front.1))
     (numbered-formed (n + added I) J (omega (arith, few)) parts.1)
 numbered-formed n (While i r g I) few h =
     let parts = and_parts (is_formed_role r && is_formed_step g) (has_formed_parts I) h in
-    and_from (is_formed_role r && is_formed_step g) (has_formed_parts (numbered n I)) parts.0 (numbered-formed n I few parts.1)
+    and_from (is_formed_role r && is_formed_step g) (has_formed_parts (with_numbers n I)) parts.0 (numbered-formed n I few parts.1)
 numbered-formed n (Scope i r I extra props level) few h =
     let parts = and_parts (is_formed_role r && has_formed_parts I && list_all is_formed_role extra) (list_all is_formed_binding props) h in
     let front = and_parts (is_formed_role r && has_formed_parts I) (list_all is_formed_role extra) parts.0 in
     let first = and_parts (is_formed_role r) (has_formed_parts I) front.0 in
-    and_from (is_formed_role r && has_formed_parts (numbered n I) && list_all is_formed_role extra) (list_all is_formed_binding props)
-    (and_from (is_formed_role r && has_formed_parts (numbered n I)) (list_all is_formed_role extra)
-    (and_from (is_formed_role r) (has_formed_parts (numbered n I)) first.0 (numbered-formed n I few first.1)) front.1) parts.1
+    and_from (is_formed_role r && has_formed_parts (with_numbers n I) && list_all is_formed_role extra) (list_all is_formed_binding props)
+    (and_from (is_formed_role r && has_formed_parts (with_numbers n I)) (list_all is_formed_role extra)
+    (and_from (is_formed_role r) (has_formed_parts (with_numbers n I)) first.0 (numbered-formed n I few first.1)) front.1) parts.1
 
 -- Marks
 indexed-formed : (n : ℕ) (I : Term) → has_formed_parts (indexed_from n I) ≡ has_formed_parts I
@@ -284,8 +284,8 @@ indexed-formed n (Scope i r I extra props level) =
 pub mended-formed : (cast : List Role) (I : Term) → list_all is_formed_role cast ≡ true → has_formed_parts I ≡ true → nodes (mended cast I) ≤ 4294967295
     → has_formed_parts (mended cast I) ≡ true
 mended-formed cast I formed h small =
-    let few : added (joined cast I) ≤ nodes (mended cast I) = added-within cast I in
-    indexed-formed 0 (numbered 0 (joined cast I)) ∙ numbered-formed 0 (joined cast I) (omega (arith, few, small)) (joined-formed cast formed I h)
+    let few : added (relinked cast I) ≤ nodes (mended cast I) = added-within cast I in
+    indexed-formed 0 (with_numbers 0 (relinked cast I)) ∙ numbered-formed 0 (relinked cast I) (omega (arith, few, small)) (joined-formed cast formed I h)
 
 -- The roles of a formed text are formed, and so is its cast
 both_formed : (xs ys : List Role) → list_all is_formed_role xs ≡ true → list_all is_formed_role ys ≡ true → list_all is_formed_role (xs ++ ys) ≡ true
@@ -341,7 +341,7 @@ told-plain : (t : Bool) (W : Term) (r k : Role) → names_no_roles W ≡ true �
 told-plain true W r k h = h
 told-plain false W r k h = and_from (names_no_roles W) true h refl
 
-asked-plain : (t : Bool) (W : Term) (r k : Role) → names_no_roles W ≡ true → names_no_roles (asked t W r k) ≡ true
+asked-plain : (t : Bool) (W : Term) (r k : Role) → names_no_roles W ≡ true → names_no_roles (led_in t W r k) ≡ true
 asked-plain true W r k h = h
 asked-plain false W r k h = h
 
@@ -389,30 +389,30 @@ through-plain None I J h j = and_from (names_no_roles I) (names_no_roles J) h j
 through-plain (Some k) I J h j = and_from (names_no_roles (closed k I)) (names_no_roles (opened k J)) (closed-plain k I h) (opened-plain k J j)
 
 module _ (cast : List Role) where
-  joined-plain : (I : Term) → names_no_roles I ≡ true → names_no_roles (joined cast I) ≡ true
+  joined-plain : (I : Term) → names_no_roles I ≡ true → names_no_roles (relinked cast I) ≡ true
   joined-plain Skip h = h
   joined-plain (Com i o a e b x) h = h
   joined-plain (Set i x r e) h = h
   joined-plain (Input i x r) h = h
   joined-plain (Seq I J) h =
       let parts = and_parts (names_no_roles I) (names_no_roles J) h in
-      let one : names_no_roles (joined cast I) ≡ true = joined-plain I parts.0 in
-      let other : names_no_roles (joined cast J) ≡ true = joined-plain J parts.1 in
-      cond_both (linked (joined cast I) (joined cast J)) (Seq (joined cast I) (joined cast J))
-      (through (first_starter cast (joined cast J)) (joined cast I) (joined cast J)) (λ T. names_no_roles T ≡ true)
-      (λ yes. and_from (names_no_roles (joined cast I)) (names_no_roles (joined cast J)) one other)
-      (λ no. through-plain (first_starter cast (joined cast J)) (joined cast I) (joined cast J) one other)
+      let one : names_no_roles (relinked cast I) ≡ true = joined-plain I parts.0 in
+      let other : names_no_roles (relinked cast J) ≡ true = joined-plain J parts.1 in
+      cond_both (linked (relinked cast I) (relinked cast J)) (Seq (relinked cast I) (relinked cast J))
+      (through (first_starter cast (relinked cast J)) (relinked cast I) (relinked cast J)) (λ T. names_no_roles T ≡ true)
+      (λ yes. and_from (names_no_roles (relinked cast I)) (names_no_roles (relinked cast J)) one other)
+      (λ no. through-plain (first_starter cast (relinked cast J)) (relinked cast I) (relinked cast J) one other)
   joined-plain (Par I J) h =
       let parts = and_parts (names_no_roles I) (names_no_roles J) h in
-      and_from (names_no_roles (joined cast I)) (names_no_roles (joined cast J)) (joined-plain I parts.0) (joined-plain J parts.1)
+      and_from (names_no_roles (relinked cast I)) (names_no_roles (relinked cast J)) (joined-plain I parts.0) (joined-plain J parts.1)
   joined-plain (If i r g I J) h =
       let parts = and_parts (names_no_roles I) (names_no_roles J) h in
-      and_from (names_no_roles (joined cast I)) (names_no_roles (joined cast J)) (joined-plain I parts.0) (joined-plain J parts.1)
+      and_from (names_no_roles (relinked cast I)) (names_no_roles (relinked cast J)) (joined-plain I parts.0) (joined-plain J parts.1)
   joined-plain (While i r g I) h = joined-plain I h
   joined-plain (Scope i r I [] props level) h = joined-plain I h
   joined-plain (Scope i r I (q ∷ qs) props level) h = h
 
-numbered-plain : (n : ℕ) (I : Term) → names_no_roles (numbered n I) ≡ names_no_roles I
+numbered-plain : (n : ℕ) (I : Term) → names_no_roles (with_numbers n I) ≡ names_no_roles I
 numbered-plain n Skip = refl
 numbered-plain n (Com i o a e b x) = refl
 numbered-plain n (Set i x r e) = refl
@@ -438,4 +438,4 @@ indexed-plain n (Scope i r I (q ∷ qs) props level) = refl
 
 pub mended-plain : (cast : List Role) (I : Term) → names_no_roles I ≡ true → names_no_roles (mended cast I) ≡ true
 mended-plain cast I h =
-    indexed-plain 0 (numbered 0 (joined cast I)) ∙ (numbered-plain 0 (joined cast I) ∙ joined-plain cast I h)
+    indexed-plain 0 (with_numbers 0 (relinked cast I)) ∙ (numbered-plain 0 (relinked cast I) ∙ joined-plain cast I h)

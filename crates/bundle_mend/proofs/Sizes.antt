@@ -5,7 +5,7 @@ use Rattle.dioc_terms.specs.declared.names.Role.{Role}
 use Rattle.dioc_terms.specs.Equality.{role_eq, member}
 use Rattle.dioc_terms.specs.EqualityLemmas.{equality-decides}
 use Rattle.dioc_terms.specs.Terms.{Term, Skip, Com, Set, Input, Seq, Par, If, While, Scope, distinct_roles, constructs, indexed_from, nodes}
-use Rattle.mend.specs.Mended.{added, numbered, joined, mended}
+use Rattle.mend.specs.Mended.{added, with_numbers, relinked, mended}
 use Rattle.mend.specs.Names.{begins_sq}
 
 -- A list of roles without one of them
@@ -75,7 +75,7 @@ no_more (r ∷ rs) qs h among =
         (cases_Bool (role_eq q r))
 
 -- Numbers and marks leave the size
-nodes-numbered : (n : ℕ) (I : Term) → nodes (numbered n I) ≡ nodes I
+nodes-numbered : (n : ℕ) (I : Term) → nodes (with_numbers n I) ≡ nodes I
 nodes-numbered n Skip = refl
 nodes-numbered n (Com i o a e b x) = refl
 nodes-numbered n (Set i x r e) = refl
@@ -97,8 +97,8 @@ nodes-indexed n (If i r g I J) = ap₂ (λ s t. suc (s + t)) (nodes-indexed (suc
 nodes-indexed n (While i r g I) = ap suc (nodes-indexed (suc n) I)
 nodes-indexed n (Scope i r I extra props level) = ap suc (nodes-indexed (suc n) I)
 
-same_size : (cast : List Role) (I : Term) → nodes (mended cast I) ≡ nodes (joined cast I)
-same_size cast I = nodes-indexed 0 (numbered 0 (joined cast I)) ∙ nodes-numbered 0 (joined cast I)
+same_size : (cast : List Role) (I : Term) → nodes (mended cast I) ≡ nodes (relinked cast I)
+same_size cast I = nodes-indexed 0 (with_numbers 0 (relinked cast I)) ∙ nodes-numbered 0 (relinked cast I)
 
 one_or_none : (t : Bool) → (if t then 1 else 0) ≤ 1
 one_or_none true = omega arith
@@ -125,5 +125,5 @@ few_added (While i r g I) = let one : added I ≤ nodes I = few_added I in omega
 few_added (Scope i r I extra props level) = let one : added I ≤ nodes I = few_added I in omega (arith, one)
 
 -- a mended term has no more added messages than nodes
-pub added-within : (cast : List Role) (I : Term) → added (joined cast I) ≤ nodes (mended cast I)
-added-within cast I = let few : added (joined cast I) ≤ nodes (joined cast I) = few_added (joined cast I) in rw (same_size cast I) few
+pub added-within : (cast : List Role) (I : Term) → added (relinked cast I) ≤ nodes (mended cast I)
+added-within cast I = let few : added (relinked cast I) ≤ nodes (relinked cast I) = few_added (relinked cast I) in rw (same_size cast I) few

@@ -9,7 +9,7 @@ use Rattle.dioc_terms.specs.Plain.{PlainRule}
 use Rattle.aioc_tokens.specs.declared.words.Word.TheVariants as word
 use Rattle.aioc_tokens.specs.declared.words.Punctuator.TheVariants as punctuator
 use Rattle.aioc_tokens.specs.Lexemes.{Lexeme, Name, Number, Reserved, Symbol}
-use Rattle.expr_syntax.specs.Writing.{is_compound, operator_lexeme, written_integer, written_value, opened, closed}
+use Rattle.expr_syntax.specs.Writing.{is_compound, operator_lexeme, written_integer, written_value, with_open, with_close}
 use Rattle.expr_syntax.specs.Writing.{written as written_expression}
 use Rattle.dioc_syntax.specs.Writing.{is_joined, is_parallel, written_names, written_roles, written_property, written_list, written_properties}
 use Rattle.dioc_syntax.specs.Writing.{written as written_choreography}
@@ -24,11 +24,11 @@ use Rattle.bundle_text.specs.Writing.{written_all, written_bound, written_next_v
 abbrev pub GoesOn : (List Lexeme → List Lexeme) → Type 0
 GoesOn writes = (others more : List Lexeme) → writes (others ++ more) ≡ writes others ++ more
 
-pub opened_on : (bracketed : Bool) → GoesOn (opened bracketed)
+pub opened_on : (bracketed : Bool) → GoesOn (with_open bracketed)
 opened_on true others more = refl
 opened_on false others more = refl
 
-pub closed_on : (bracketed : Bool) → GoesOn (closed bracketed)
+pub closed_on : (bracketed : Bool) → GoesOn (with_close bracketed)
 closed_on true others more = refl
 closed_on false others more = refl
 
@@ -43,9 +43,9 @@ value_on (value.Int z) others more = integer_on z others more
 value_on (value.Text bytes) others more = refl
 
 -- one part in a bracket where one is needed
-part_on : (bracketed : Bool) (writes : List Lexeme → List Lexeme) → GoesOn writes → GoesOn (λ others. opened bracketed (writes (closed bracketed others)))
+part_on : (bracketed : Bool) (writes : List Lexeme → List Lexeme) → GoesOn writes → GoesOn (λ others. with_open bracketed (writes (with_close bracketed others)))
 part_on bracketed writes goes others more =
-    ap (λ list. opened bracketed (writes list)) (closed_on bracketed others more) ∙ ap (opened bracketed) (goes (closed bracketed others) more) ∙ opened_on bracketed (writes (closed bracketed others)) more
+    ap (λ list. with_open bracketed (writes list)) (closed_on bracketed others more) ∙ ap (with_open bracketed) (goes (with_close bracketed others) more) ∙ opened_on bracketed (writes (with_close bracketed others)) more
 
 pub expression_on : (whole : Expression) → GoesOn (written_expression whole)
 expression_on (Const v) others more = value_on v others more
@@ -55,8 +55,8 @@ expression_on (Env x) others more = refl
 expression_on (Not e) others more = ap (λ list. Reserved word.Not ∷ list) (part_on (is_compound e) (written_expression e) (expression_on e) others more)
 expression_on (Neg e) others more = ap (λ list. Symbol punctuator.Minus ∷ Symbol punctuator.LeftParen ∷ list) (expression_on e (Symbol punctuator.RightParen ∷ others) more)
 expression_on (Bin oper a b) others more =
-    ap (λ list. opened (is_compound a) (written_expression a (closed (is_compound a) (operator_lexeme oper ∷ list)))) (part_on (is_compound b) (written_expression b) (expression_on b) others more)
-    ∙ part_on (is_compound a) (written_expression a) (expression_on a) (operator_lexeme oper ∷ opened (is_compound b) (written_expression b (closed (is_compound b) others))) more
+    ap (λ list. with_open (is_compound a) (written_expression a (with_close (is_compound a) (operator_lexeme oper ∷ list)))) (part_on (is_compound b) (written_expression b) (expression_on b) others more)
+    ∙ part_on (is_compound a) (written_expression a) (expression_on a) (operator_lexeme oper ∷ with_open (is_compound b) (written_expression b (with_close (is_compound b) others))) more
 
 names_on : (names : List Role) → GoesOn (written_names names)
 names_on [] others more = refl
@@ -88,10 +88,10 @@ choreography_on (Com index operation sender value receiver variable) others more
 choreography_on (Set index variable owner value) others more = ap (λ list. Name variable ∷ Symbol punctuator.At ∷ Name owner.0 ∷ Symbol punctuator.Equal ∷ list) (expression_on value others more)
 choreography_on (Input index variable owner) others more = refl
 choreography_on (Seq first second) others more =
-    ap (λ list. opened (is_joined first) (written_choreography first (closed (is_joined first) (Symbol punctuator.Semicolon ∷ list)))) (part_on (is_parallel second) (written_choreography second) (choreography_on second) others more)
-    ∙ part_on (is_joined first) (written_choreography first) (choreography_on first) (Symbol punctuator.Semicolon ∷ opened (is_parallel second) (written_choreography second (closed (is_parallel second) others))) more
+    ap (λ list. with_open (is_joined first) (written_choreography first (with_close (is_joined first) (Symbol punctuator.Semicolon ∷ list)))) (part_on (is_parallel second) (written_choreography second) (choreography_on second) others more)
+    ∙ part_on (is_joined first) (written_choreography first) (choreography_on first) (Symbol punctuator.Semicolon ∷ with_open (is_parallel second) (written_choreography second (with_close (is_parallel second) others))) more
 choreography_on (Par first second) others more =
-    ap (λ list. opened (is_parallel first) (written_choreography first (closed (is_parallel first) (Symbol punctuator.Bar ∷ list)))) (choreography_on second others more)
+    ap (λ list. with_open (is_parallel first) (written_choreography first (with_close (is_parallel first) (Symbol punctuator.Bar ∷ list)))) (choreography_on second others more)
     ∙ part_on (is_parallel first) (written_choreography first) (choreography_on first) (Symbol punctuator.Bar ∷ written_choreography second others) more
 choreography_on (If index leader guard first second) others more =
     let last = Symbol punctuator.RightBrace ∷ others in

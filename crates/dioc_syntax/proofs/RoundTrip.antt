@@ -30,7 +30,7 @@ use Rattle.aioc_tokens.proofs.Readings.{one_reading}
 use Rattle.expr_syntax.specs.Constants.{constant, before, greatest, greatest_negated, number_up_to, positive, negative}
 use Rattle.expr_syntax.specs.Levels.{operator}
 use Rattle.expr_syntax.specs.Grammar.{IsExpression}
-use Rattle.expr_syntax.specs.Writing.{written_value, opened, closed}
+use Rattle.expr_syntax.specs.Writing.{written_value, with_open, with_close}
 use Rattle.expr_syntax.specs.Writing.{written as written_expression}
 use Rattle.expr_syntax.specs.declared.levels.ExprKind.TheVariants as kind
 use Rattle.expr_syntax.specs.declared.levels.Level.{Level}
@@ -189,14 +189,14 @@ block_stands version room earlier whole others roomy inside = block {left = room
 step_part : (bracketed : Bool) (version room earlier : ℕ) (whole : Term) (others : List Lexeme) → 0 < room
     → (bracketed ≡ false → Stands version Step room earlier (written whole others) (indexed_from earlier whole) others)
     → (bracketed ≡ true → StandsWritten version (room - 1) earlier whole (Symbol punctuator.RightParen ∷ others))
-    → Stands version Step room earlier (opened bracketed (written whole (closed bracketed others))) (indexed_from earlier whole) others
+    → Stands version Step room earlier (with_open bracketed (written whole (with_close bracketed others))) (indexed_from earlier whole) others
 step_part false version room earlier whole others roomy simple held = simple refl
 step_part true version room earlier whole others roomy simple held = bracketed_stands version room earlier whole others roomy (held refl)
 
 sequence_part : (bracketed : Bool) (version room earlier : ℕ) (whole : Term) (others : List Lexeme) → 0 < room
     → (bracketed ≡ false → Stands version Sequence room earlier (written whole others) (indexed_from earlier whole) others)
     → (bracketed ≡ true → StandsWritten version (room - 1) earlier whole (Symbol punctuator.RightParen ∷ others))
-    → Stands version Sequence room earlier (opened bracketed (written whole (closed bracketed others))) (indexed_from earlier whole) others
+    → Stands version Sequence room earlier (with_open bracketed (written whole (with_close bracketed others))) (indexed_from earlier whole) others
 sequence_part false version room earlier whole others roomy simple held = simple refl
 sequence_part true version room earlier whole others roomy simple held = one_step (bracketed_stands version room earlier whole others roomy (held refl))
 
@@ -234,7 +234,7 @@ written_stands version (Seq first second) room earlier others formed fits roomy 
     let fits_first = fits_left version (names_no_roles first) (names_no_roles second) fits in
     let fits_second = fits_right version (names_no_roles first) (names_no_roles second) fits in
     let places = earlier + constructs first in
-    let right = opened (is_parallel second) (written second (closed (is_parallel second) others)) in
+    let right = with_open (is_parallel second) (written second (with_close (is_parallel second) others)) in
     let r = step_part (is_joined first) version room earlier first (Symbol punctuator.Semicolon ∷ right) (omega arith)
     (λ simple. (written_stands version first room earlier (Symbol punctuator.Semicolon ∷ right) parts.0 fits_first (omega arith) refl).step simple)
     (λ held. written_stands version first (room - 1) earlier (Symbol punctuator.RightParen ∷ Symbol punctuator.Semicolon ∷ right) parts.0 fits_first (omega arith) refl) in
@@ -322,11 +322,11 @@ value_spelled v others is rest = written_all kind.Step (Const v) others is rest
 expression_spelled : (e : Expression) (others : List Lexeme) → is_formed_step e ≡ true → AllByRecursion HasSpelling others → AllByRecursion HasSpelling (written_expression e others)
 expression_spelled e others is rest = written_all kind.Step e others (both_true (is_step_expression e) (nat_le (expression_depth e) 64) is).0 rest
 
-opened_all : (bracketed : Bool) (others : List Lexeme) → AllByRecursion HasSpelling others → AllByRecursion HasSpelling (opened bracketed others)
+opened_all : (bracketed : Bool) (others : List Lexeme) → AllByRecursion HasSpelling others → AllByRecursion HasSpelling (with_open bracketed others)
 opened_all true others rest = (tt, rest)
 opened_all false others rest = rest
 
-closed_all : (bracketed : Bool) (others : List Lexeme) → AllByRecursion HasSpelling others → AllByRecursion HasSpelling (closed bracketed others)
+closed_all : (bracketed : Bool) (others : List Lexeme) → AllByRecursion HasSpelling others → AllByRecursion HasSpelling (with_close bracketed others)
 closed_all true others rest = (tt, rest)
 closed_all false others rest = rest
 
@@ -391,16 +391,16 @@ written_spellings (Input index variable owner) others formed rest =
     (name_spelled variable two.0, (tt, (name_spelled owner.0 two.1, (tt, (tt, (tt, (tt, rest)))))))
 written_spellings (Seq first second) others formed rest =
     let parts = both_true (has_formed_parts first) (has_formed_parts second) formed in
-    let right = opened (is_parallel second) (written second (closed (is_parallel second) others)) in
-    opened_all (is_joined first) (written first (closed (is_joined first) (Symbol punctuator.Semicolon ∷ right)))
-    (written_spellings first (closed (is_joined first) (Symbol punctuator.Semicolon ∷ right)) parts.0
+    let right = with_open (is_parallel second) (written second (with_close (is_parallel second) others)) in
+    opened_all (is_joined first) (written first (with_close (is_joined first) (Symbol punctuator.Semicolon ∷ right)))
+    (written_spellings first (with_close (is_joined first) (Symbol punctuator.Semicolon ∷ right)) parts.0
     (closed_all (is_joined first) (Symbol punctuator.Semicolon ∷ right)
-    (tt, opened_all (is_parallel second) (written second (closed (is_parallel second) others)) (written_spellings second (closed (is_parallel second) others) parts.1 (closed_all (is_parallel second) others rest)))))
+    (tt, opened_all (is_parallel second) (written second (with_close (is_parallel second) others)) (written_spellings second (with_close (is_parallel second) others) parts.1 (closed_all (is_parallel second) others rest)))))
 written_spellings (Par first second) others formed rest =
     let parts = both_true (has_formed_parts first) (has_formed_parts second) formed in
     let right = written second others in
-    opened_all (is_parallel first) (written first (closed (is_parallel first) (Symbol punctuator.Bar ∷ right)))
-    (written_spellings first (closed (is_parallel first) (Symbol punctuator.Bar ∷ right)) parts.0 (closed_all (is_parallel first) (Symbol punctuator.Bar ∷ right) (tt, written_spellings second others parts.1 rest)))
+    opened_all (is_parallel first) (written first (with_close (is_parallel first) (Symbol punctuator.Bar ∷ right)))
+    (written_spellings first (with_close (is_parallel first) (Symbol punctuator.Bar ∷ right)) parts.0 (closed_all (is_parallel first) (Symbol punctuator.Bar ∷ right) (tt, written_spellings second others parts.1 rest)))
 written_spellings (If index leader guard first second) others formed rest =
     let one = both_true (is_formed_role leader && is_formed_step guard && has_formed_parts first) (has_formed_parts second) formed in
     let two = both_true (is_formed_role leader && is_formed_step guard) (has_formed_parts first) one.0 in

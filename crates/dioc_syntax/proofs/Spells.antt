@@ -9,7 +9,7 @@ use Rattle.aioc_tokens.specs.declared.words.Word.TheVariants as word
 use Rattle.aioc_tokens.specs.declared.words.Punctuator.TheVariants as punctuator
 use Rattle.aioc_tokens.specs.Lexemes.{Lexeme, Name, Reserved, Symbol}
 use Rattle.aioc_tokens.specs.Spelling.{spelling, spelled}
-use Rattle.expr_syntax.specs.Writing.{opened, closed}
+use Rattle.expr_syntax.specs.Writing.{with_open, with_close}
 use Rattle.expr_syntax.specs.Writing.{written as written_expression}
 use Rattle.expr_syntax.specs.Pieces.{opening_text, closing_text}
 use Rattle.expr_syntax.proofs.Spells.{behind, spelled_first, behind_some}
@@ -28,7 +28,7 @@ before_expression first e others =
     spelled_on first (written_expression e others) (expression_some e others) ∙ ap (λ rest. spelling first ++ 32 ∷ rest) (expression_before e others)
 
 -- a choreography has a lexeme
-opened_some : (bracketed : Bool) (others : List Lexeme) → 0 < length others → 0 < length (opened bracketed others)
+opened_some : (bracketed : Bool) (others : List Lexeme) → 0 < length others → 0 < length (with_open bracketed others)
 opened_some true others some = omega arith
 opened_some false others some = some
 
@@ -38,31 +38,31 @@ written_some (Com index operation sender value receiver variable) others = omega
 written_some (Set index variable owner value) others = omega arith
 written_some (Input index variable owner) others = omega arith
 written_some (Seq first second) others =
-    let rest = closed (is_joined first) (Symbol punctuator.Semicolon ∷ opened (is_parallel second) (written second (closed (is_parallel second) others))) in
+    let rest = with_close (is_joined first) (Symbol punctuator.Semicolon ∷ with_open (is_parallel second) (written second (with_close (is_parallel second) others))) in
     opened_some (is_joined first) (written first rest) (written_some first rest)
 written_some (Par first second) others =
-    let rest = closed (is_parallel first) (Symbol punctuator.Bar ∷ written second others) in opened_some (is_parallel first) (written first rest) (written_some first rest)
+    let rest = with_close (is_parallel first) (Symbol punctuator.Bar ∷ written second others) in opened_some (is_parallel first) (written first rest) (written_some first rest)
 written_some (If index leader guard first second) others = omega arith
 written_some (While index leader guard inner) others = omega arith
 written_some (Scope index leader inner extra props level) others = omega arith
 
 -- a part, in brackets where it needs them
-opened_spelled : (bracketed : Bool) (others : List Lexeme) → 0 < length others → spelled (opened bracketed others) ≡ opening_text bracketed ++ spelled others
+opened_spelled : (bracketed : Bool) (others : List Lexeme) → 0 < length others → spelled (with_open bracketed others) ≡ opening_text bracketed ++ spelled others
 opened_spelled true others some = spelled_on (Symbol punctuator.LeftParen) others some
 opened_spelled false others some = refl
 
-closed_behind : (bracketed : Bool) (others : List Lexeme) → behind (closed bracketed others) ≡ closing_text bracketed ++ behind others
+closed_behind : (bracketed : Bool) (others : List Lexeme) → behind (with_close bracketed others) ≡ closing_text bracketed ++ behind others
 closed_behind true others = ap (λ rest. 32 ∷ rest) (spelled_first (Symbol punctuator.RightParen) others)
 closed_behind false others = refl
 
-part_spelled : (bracketed : Bool) (whole : Term) (others : List Lexeme) → spelled (written whole (closed bracketed others)) ≡ choreography_text whole ++ behind (closed bracketed others)
-    → spelled (opened bracketed (written whole (closed bracketed others))) ≡ opening_text bracketed ++ (choreography_text whole ++ (closing_text bracketed ++ behind others))
+part_spelled : (bracketed : Bool) (whole : Term) (others : List Lexeme) → spelled (written whole (with_close bracketed others)) ≡ choreography_text whole ++ behind (with_close bracketed others)
+    → spelled (with_open bracketed (written whole (with_close bracketed others))) ≡ opening_text bracketed ++ (choreography_text whole ++ (closing_text bracketed ++ behind others))
 part_spelled bracketed whole others is =
-    opened_spelled bracketed (written whole (closed bracketed others)) (written_some whole (closed bracketed others))
+    opened_spelled bracketed (written whole (with_close bracketed others)) (written_some whole (with_close bracketed others))
     ∙ ap (λ rest. opening_text bracketed ++ rest) (is ∙ ap (λ rest. choreography_text whole ++ rest) (closed_behind bracketed others))
 
-part_some : (bracketed : Bool) (whole : Term) (others : List Lexeme) → 0 < length (opened bracketed (written whole (closed bracketed others)))
-part_some bracketed whole others = opened_some bracketed (written whole (closed bracketed others)) (written_some whole (closed bracketed others))
+part_some : (bracketed : Bool) (whole : Term) (others : List Lexeme) → 0 < length (with_open bracketed (written whole (with_close bracketed others)))
+part_some bracketed whole others = opened_some bracketed (written whole (with_close bracketed others)) (written_some whole (with_close bracketed others))
 
 -- a block
 block_spelled : (whole : Term) (others : List Lexeme) → spelled (written whole (Symbol punctuator.RightBrace ∷ others)) ≡ choreography_text whole ++ behind (Symbol punctuator.RightBrace ∷ others)
@@ -144,16 +144,16 @@ written_spelled (Set index variable owner value) others =
 written_spelled (Input index variable owner) others =
     ap (λ rest. variable ++ (codes " @ " ++ (owner.0 ++ (codes " = input ( " ++ rest)))) (spelled_first (Symbol punctuator.RightParen) others) ∙ simp append_assoc
 written_spelled (Seq first second) others =
-    let right = opened (is_parallel second) (written second (closed (is_parallel second) others)) in
+    let right = with_open (is_parallel second) (written second (with_close (is_parallel second) others)) in
     let rest = Symbol punctuator.Semicolon ∷ right in
-    part_spelled (is_joined first) first rest (written_spelled first (closed (is_joined first) rest))
+    part_spelled (is_joined first) first rest (written_spelled first (with_close (is_joined first) rest))
     ∙ ap (λ more. opening_text (is_joined first) ++ (choreography_text first ++ (closing_text (is_joined first) ++ 32 ∷ more)))
     (spelled_on (Symbol punctuator.Semicolon) right (part_some (is_parallel second) second others)
-    ∙ ap (λ more. 59 ∷ 32 ∷ more) (part_spelled (is_parallel second) second others (written_spelled second (closed (is_parallel second) others))))
+    ∙ ap (λ more. 59 ∷ 32 ∷ more) (part_spelled (is_parallel second) second others (written_spelled second (with_close (is_parallel second) others))))
     ∙ simp append_assoc
 written_spelled (Par first second) others =
     let rest = Symbol punctuator.Bar ∷ written second others in
-    part_spelled (is_parallel first) first rest (written_spelled first (closed (is_parallel first) rest))
+    part_spelled (is_parallel first) first rest (written_spelled first (with_close (is_parallel first) rest))
     ∙ ap (λ more. opening_text (is_parallel first) ++ (choreography_text first ++ (closing_text (is_parallel first) ++ 32 ∷ more)))
     (spelled_on (Symbol punctuator.Bar) (written second others) (written_some second others) ∙ ap (λ more. 124 ∷ 32 ∷ more) (written_spelled second others))
     ∙ simp append_assoc

@@ -145,8 +145,8 @@ FormAt version form room deep earlier text at found =
     FoundAt (IsShallow version form room deep earlier) deep earlier text at found
 
 -- what the reader of a form answers at a place
-abbrev pub StandsAt : Reader → Form → Place → Option FoundChoreo → Type 0
-StandsAt reader form place found =
+abbrev pub FormStandsAt : Reader → Form → Place → Option FoundChoreo → Type 0
+FormStandsAt reader form place found =
     FormAt reader.version form place.room place.deep place.earlier reader.text.now place.at found
 
 -- what the reader of a second branch answers at a place: it may have no token

@@ -6,7 +6,7 @@ use Rattle.dioc_terms.specs.Terms.{Term, Skip, Com, Set, Input, Seq, Par, If, Wh
 use Rattle.aioc_tokens.specs.declared.words.Word.TheVariants as word
 use Rattle.aioc_tokens.specs.declared.words.Punctuator.TheVariants as punctuator
 use Rattle.aioc_tokens.specs.Lexemes.{Lexeme, Name, Reserved, Symbol}
-use Rattle.expr_syntax.specs.Writing.{written_value, opened, closed}
+use Rattle.expr_syntax.specs.Writing.{written_value, with_open, with_close}
 use Rattle.expr_syntax.specs.Writing.{written as written_expression}
 
 -- the left part of a sequence stands in brackets where it is one of these
@@ -66,12 +66,12 @@ written (Input index variable owner) others =
     Name variable ∷ Symbol punctuator.At ∷ Name owner.0 ∷ Symbol punctuator.Equal
     ∷ Reserved word.Input ∷ Symbol punctuator.LeftParen ∷ Symbol punctuator.RightParen ∷ others
 written (Seq first second) others =
-    opened (is_joined first) (written first
-    (closed (is_joined first) (Symbol punctuator.Semicolon
-    ∷ opened (is_parallel second) (written second (closed (is_parallel second) others)))))
+    with_open (is_joined first) (written first
+    (with_close (is_joined first) (Symbol punctuator.Semicolon
+    ∷ with_open (is_parallel second) (written second (with_close (is_parallel second) others)))))
 written (Par first second) others =
-    opened (is_parallel first) (written first
-    (closed (is_parallel first) (Symbol punctuator.Bar ∷ written second others)))
+    with_open (is_parallel first) (written first
+    (with_close (is_parallel first) (Symbol punctuator.Bar ∷ written second others)))
 written (If index leader guard first second) others =
     Reserved word.If ∷ written_expression guard
     (Symbol punctuator.At ∷ Name leader.0 ∷ Symbol punctuator.LeftBrace

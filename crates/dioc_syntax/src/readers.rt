@@ -8,7 +8,7 @@ ghost use Rattle.aioc_tokens.specs.Lexemes.{sort_of};
 ghost use Rattle.limits.specs.Limits.{greatest_place};
 ghost use Rattle.dioc_terms.specs.Terms.{term, Skip};
 ghost use Rattle.dioc_syntax.specs.Choreographies.{Choreography, Sequence, Step, Block};
-ghost use Rattle.dioc_syntax.specs.Readers.{one_behind, StandsAt, OtherwiseAt, ScopePartsAt};
+ghost use Rattle.dioc_syntax.specs.Readers.{one_behind, FormStandsAt, OtherwiseAt, ScopePartsAt};
 
 use crate::extras::{properties_at, roles_at};
 use crate::found::{
@@ -30,7 +30,7 @@ use dioc_terms::{Choreo, Memory, Role, give_up};
 #[cycle(reading)]
 pub fn choreo_at(reader: &Reader<'_>, place: Place) -> Result<Option<FoundChoreo>, Memory>
     requires { place.earlier + (length reader.now.text.now - place.at) ≤ greatest_place }
-    ensures { IfOk result (λ found. StandsAt reader.now Choreography place found) }
+    ensures { IfOk result (λ found. FormStandsAt reader.now Choreography place found) }
 {
     let first = match sequence_at(reader, place)? {
         Some(first) => first,
@@ -55,7 +55,7 @@ pub fn choreo_at(reader: &Reader<'_>, place: Place) -> Result<Option<FoundChoreo
 #[cycle(reading)]
 fn sequence_at(reader: &Reader<'_>, place: Place) -> Result<Option<FoundChoreo>, Memory>
     requires { place.earlier + (length reader.now.text.now - place.at) ≤ greatest_place }
-    ensures { IfOk result (λ found. StandsAt reader.now Sequence place found) }
+    ensures { IfOk result (λ found. FormStandsAt reader.now Sequence place found) }
 {
     let text = reader.text;
     let first = match step_at(reader, place)? {
@@ -95,7 +95,7 @@ fn one_behind(found: FoundChoreo) -> FoundChoreo
 #[cycle(reading)]
 fn step_at(reader: &Reader<'_>, place: Place) -> Result<Option<FoundChoreo>, Memory>
     requires { place.earlier + (length reader.now.text.now - place.at) ≤ greatest_place }
-    ensures { IfOk result (λ found. StandsAt reader.now Step place found) }
+    ensures { IfOk result (λ found. FormStandsAt reader.now Step place found) }
 {
     if place.deep == 0 {
         return Ok(None);
@@ -136,7 +136,7 @@ fn group_at(reader: &Reader<'_>, place: Place) -> Result<Option<FoundChoreo>, Me
     requires within { place.at < length reader.now.text.now }
     requires small { length reader.now.text.now < 2 ^ 63 }
     requires few { place.earlier + (length reader.now.text.now - place.at) ≤ greatest_place }
-    ensures { IfOk result (λ found. StandsAt reader.now Step place found) }
+    ensures { IfOk result (λ found. FormStandsAt reader.now Step place found) }
 {
     let text = reader.text;
     if place.room == 0 {
@@ -159,7 +159,7 @@ fn group_at(reader: &Reader<'_>, place: Place) -> Result<Option<FoundChoreo>, Me
 #[cycle(reading)]
 fn block_at(reader: &Reader<'_>, place: Place) -> Result<Option<FoundChoreo>, Memory>
     requires { place.earlier + (length reader.now.text.now - place.at) ≤ greatest_place }
-    ensures { IfOk result (λ found. StandsAt reader.now Block place found) }
+    ensures { IfOk result (λ found. FormStandsAt reader.now Block place found) }
 {
     let text = reader.text;
     if !text.has(place.at, Sort::Symbol(Punctuator::LeftBrace)) || place.room == 0 {
@@ -206,7 +206,7 @@ fn branch_at(reader: &Reader<'_>, place: Place) -> Result<Option<FoundChoreo>, M
     requires small { length reader.now.text.now < 2 ^ 63 }
     requires some { 0 < place.deep }
     requires few { place.earlier + (length reader.now.text.now - place.at) ≤ greatest_place }
-    ensures { IfOk result (λ found. StandsAt reader.now Step place found) }
+    ensures { IfOk result (λ found. FormStandsAt reader.now Step place found) }
 {
     let guard = match guard_at(reader, place.room, place.at + 1)? {
         Some(guard) => guard,
@@ -235,7 +235,7 @@ fn loop_at(reader: &Reader<'_>, place: Place) -> Result<Option<FoundChoreo>, Mem
     requires small { length reader.now.text.now < 2 ^ 63 }
     requires some { 0 < place.deep }
     requires few { place.earlier + (length reader.now.text.now - place.at) ≤ greatest_place }
-    ensures { IfOk result (λ found. StandsAt reader.now Step place found) }
+    ensures { IfOk result (λ found. FormStandsAt reader.now Step place found) }
 {
     let guard = match guard_at(reader, place.room, place.at + 1)? {
         Some(guard) => guard,
@@ -262,7 +262,7 @@ fn scope_at(reader: &Reader<'_>, place: Place) -> Result<Option<FoundChoreo>, Me
     requires small { length reader.now.text.now < 2 ^ 63 }
     requires some { 0 < place.deep }
     requires few { place.earlier + (length reader.now.text.now - place.at) ≤ greatest_place }
-    ensures { IfOk result (λ found. StandsAt reader.now Step place found) }
+    ensures { IfOk result (λ found. FormStandsAt reader.now Step place found) }
 {
     let leader = match leader_at(reader.alloc, reader.text, place.at + 1)? {
         Some(leader) => leader,

@@ -6,7 +6,7 @@ ghost use Rattle.aioc_tokens.specs.declared.words.Word.{Word};
 ghost use Rattle.aioc_tokens.specs.Lexemes.{sort_of};
 ghost use Rattle.limits.specs.Limits.{greatest_place};
 ghost use Rattle.dioc_syntax.specs.Choreographies.{Step};
-ghost use Rattle.dioc_syntax.specs.Readers.{sent_by, set_by, StandsAt};
+ghost use Rattle.dioc_syntax.specs.Readers.{sent_by, set_by, FormStandsAt};
 
 use crate::found::{FoundChoreo, nothing_found};
 use crate::heads::{receiver_at, sender_at, target_at};
@@ -29,7 +29,7 @@ pub fn named_step_at(reader: &Reader<'_>, place: Place) -> Result<Option<FoundCh
     requires small { length reader.now.text.now < 2 ^ 63 }
     requires some { 0 < place.deep }
     requires few { place.earlier + (length reader.now.text.now - place.at) ≤ greatest_place }
-    ensures { IfOk result (λ found. StandsAt reader.now Step place found) }
+    ensures { IfOk result (λ found. FormStandsAt reader.now Step place found) }
 {
     if let Some((operation, sender)) = sender_at(reader.alloc, reader.text, place.at)? {
         return interaction_at(reader, place, operation, sender);
@@ -60,7 +60,7 @@ fn interaction_at(
     requires small { length reader.now.text.now < 2 ^ 63 }
     requires some { 0 < place.deep }
     requires few { place.earlier + (length reader.now.text.now - place.at) ≤ greatest_place }
-    ensures { IfOk result (λ found. StandsAt reader.now Step place found) }
+    ensures { IfOk result (λ found. FormStandsAt reader.now Step place found) }
 {
     if place.room == 0 {
         return Ok(None);
@@ -104,7 +104,7 @@ fn input_at(reader: &Reader<'_>, place: Place, variable: Name, owner: Name) -> O
     requires small { length reader.now.text.now < 2 ^ 63 }
     requires some { 0 < place.deep }
     requires few { place.earlier + (length reader.now.text.now - place.at) ≤ greatest_place }
-    ensures { StandsAt reader.now Step place result }
+    ensures { FormStandsAt reader.now Step place result }
 {
     if place.room == 0 || !reader.text.begins(place.at + 5, &BRACKETS) {
         return None;
@@ -140,7 +140,7 @@ fn assignment_at(
     requires small { length reader.now.text.now < 2 ^ 63 }
     requires some { 0 < place.deep }
     requires few { place.earlier + (length reader.now.text.now - place.at) ≤ greatest_place }
-    ensures { IfOk result (λ found. StandsAt reader.now Step place found) }
+    ensures { IfOk result (λ found. FormStandsAt reader.now Step place found) }
 {
     let (alloc, text) = (reader.alloc, reader.text);
     match expr_at(alloc, text, ExprKind::Step, place.room, place.at + 4)? {

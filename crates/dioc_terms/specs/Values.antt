@@ -25,8 +25,8 @@ quotient a b = if int_eq b (pos 0) then Nil else fitting (int_div a b)
 abbrev pub remainder : ℤ → ℤ → Value
 remainder a b = if int_eq b (pos 0) then Nil else fitting (int_rem a b)
 
-abbrev pub joined : List ℕ → List ℕ → Value
-joined a b = if nat_le (length a + length b) 1024 then Text (a ++ b) else Nil
+abbrev pub joined_text : List ℕ → List ℕ → Value
+joined_text a b = if nat_le (length a + length b) 1024 then Text (a ++ b) else Nil
 
 abbrev pub text_lt : List ℕ → List ℕ → Bool
 text_lt a b = is_lt (slice_cmp nat_cmp a b)
@@ -48,7 +48,7 @@ connected_truths f (value.Bool a) (value.Bool b) = value.Bool (f a b)
 connected_truths f _ _ = Nil
 
 abbrev pub join_texts : Value → Value → Value
-join_texts (Text a) (Text b) = joined a b
+join_texts (Text a) (Text b) = joined_text a b
 join_texts _ _ = Nil
 
 abbrev pub operate : Oper → Value → Value → Value

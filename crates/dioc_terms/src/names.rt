@@ -149,12 +149,12 @@ impl Text {
 }
 
 impl Text {
-    ghost use Rattle.dioc_terms.specs.Values.{joined, text_lt};
+    ghost use Rattle.dioc_terms.specs.Values.{joined_text, text_lt};
     ghost use Rattle.dioc_terms.specs.BorrowedValues.{text_or_nil};
 
     /// The text with another one after it, `None` where that has more than 1,024 bytes.
     pub(crate) fn join(&self, alloc: Global, other: &Text) -> Result<Option<Text>, Memory>
-        ensures { IfOk result (λ text. text_or_nil text ≡ joined self.now other.now) }
+        ensures { IfOk result (λ text. text_or_nil text ≡ joined_text self.now other.now) }
     {
         let length = self.bytes.len() + other.bytes.len();
         if length > 1024 {

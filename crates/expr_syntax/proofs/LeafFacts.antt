@@ -11,7 +11,7 @@ use Rattle.aioc_tokens.specs.declared.words.Punctuator.{Punctuator}
 use Rattle.aioc_tokens.specs.declared.words.Punctuator.TheVariants as punctuator
 use Rattle.aioc_tokens.specs.Lexemes.{Lexeme, Name, Long, Number, Text, Reserved, Symbol, sort_of, Begins}
 use Rattle.expr_syntax.specs.Constants.{greatest, greatest_negated, number_up_to, positive, negative, before, constant}
-use Rattle.expr_syntax.specs.Grammar.{leaf, member, and_left, const_before, begins_with_number}
+use Rattle.expr_syntax.specs.Grammar.{leaf, after_dot, and_left, const_before, begins_with_number}
 use Rattle.expr_syntax.specs.Readers.{LeafAt, ConstantLeafAt, MemberAt}
 use Rattle.expr_syntax.specs.declared.levels.ExprKind.{ExprKind}
 use Rattle.expr_syntax.specs.declared.levels.ExprKind.TheVariants.{Step, Condition}
@@ -61,7 +61,7 @@ const_shorter : (found : Option (Value × List Lexeme)) (from to : List Lexeme) 
 const_shorter (Some read) from to inner is same = let less = constant_shorter from read.1 read.0 is in omega (arith, ap length (same_pair same).1)
 const_shorter None from to inner is same = absurd cc
 
-member_shorter : (make : List ℕ → Expression) (from to : List Lexeme) (inner : Expression) → member make from ≡ Some (and_left to inner) → length to < length from
+member_shorter : (make : List ℕ → Expression) (from to : List Lexeme) (inner : Expression) → after_dot make from ≡ Some (and_left to inner) → length to < length from
 member_shorter make (Symbol punctuator.Dot ∷ Name name ∷ others) to inner is = omega (arith, ap length (same_pair is).1)
 member_shorter make (Symbol punctuator.Dot ∷ []) to inner is = absurd cc
 member_shorter make (Symbol punctuator.Dot ∷ Long ∷ others) to inner is = absurd cc
@@ -100,12 +100,12 @@ module _ (text : List Lexeme) (at : ℕ) where
   pub member_taken : (name : List ℕ) → drop at text ≡ Symbol punctuator.Dot ∷ drop (at + 1) text → drop (at + 1) text ≡ Name name ∷ drop ((at + 1) + 1) text → MemberAt text at (Some (name, at + 2))
   member_taken name dot named =
       let both : drop at text ≡ Symbol punctuator.Dot ∷ Name name ∷ drop (at + 2) text = dot ∙ ap (λ others. Symbol punctuator.Dot ∷ others) (named ∙ ap (λ place. Name name ∷ drop place text) (add_assoc at 1 1)) in
-      (λ make. ap (member make) both, (omega arith, omega (arith, ap length both, length-drop at text)))
+      (λ make. ap (after_dot make) both, (omega arith, omega (arith, ap length both, length-drop at text)))
 
   pub member_none : ¬ Begins (sorts.Symbol punctuator.Dot ∷ sorts.Name ∷ []) (drop at text) → MemberAt text at None
   member_none other = (λ make. go make (drop at text) other, tt)
     where
-      go : (make : List ℕ → Expression) (from : List Lexeme) → ¬ Begins (sorts.Symbol punctuator.Dot ∷ sorts.Name ∷ []) from → member make from ≡ None
+      go : (make : List ℕ → Expression) (from : List Lexeme) → ¬ Begins (sorts.Symbol punctuator.Dot ∷ sorts.Name ∷ []) from → after_dot make from ≡ None
       go make (Symbol punctuator.Dot ∷ Name name ∷ others) other = absurd (other (refl, (refl, tt)))
       go make (Symbol punctuator.Dot ∷ []) other = refl
       go make (Symbol punctuator.Dot ∷ Long ∷ others) other = refl
@@ -116,7 +116,7 @@ module _ (text : List Lexeme) (at : ℕ) where
 
   -- a leaf that is a member
   pub member_leaf : (first : Word) (make : List ℕ → Expression) (wrap : List ℕ → Expr) (found : Option (List ℕ × ℕ)) → drop at text ≡ Reserved first ∷ drop (at + 1) text
-      → leaf Condition (Reserved first ∷ drop (at + 1) text) ≡ member make (drop (at + 1) text) → ((name : List ℕ) → expression (wrap name) ≡ make name) → MemberAt text (at + 1) found
+      → leaf Condition (Reserved first ∷ drop (at + 1) text) ≡ after_dot make (drop (at + 1) text) → ((name : List ℕ) → expression (wrap name) ≡ make name) → MemberAt text (at + 1) found
       → LeafAt Condition text at (option_map (λ (read : List ℕ × ℕ). (wrap read.0, read.1)) found)
   member_leaf first make wrap None begins is wraps holds = (ap (leaf Condition) begins ∙ is ∙ holds.0 make, tt)
   member_leaf first make wrap (Some read) begins is wraps holds =
@@ -168,7 +168,7 @@ const_depth : (found : Option (Value × List Lexeme)) (to : List Lexeme) (inner 
 const_depth (Some read) to inner same = ap expression_depth (sym (same_pair same).0)
 const_depth None to inner same = absurd cc
 
-member_depth : (make : List ℕ → Expression) (from to : List Lexeme) (inner : Expression) → ((name : List ℕ) → expression_depth (make name) ≡ 1) → member make from ≡ Some (and_left to inner) → expression_depth inner ≡ 1
+member_depth : (make : List ℕ → Expression) (from to : List Lexeme) (inner : Expression) → ((name : List ℕ) → expression_depth (make name) ≡ 1) → after_dot make from ≡ Some (and_left to inner) → expression_depth inner ≡ 1
 member_depth make (Symbol punctuator.Dot ∷ Name name ∷ others) to inner one is = ap expression_depth (sym (same_pair is).0) ∙ one name
 member_depth make (Symbol punctuator.Dot ∷ []) to inner one is = absurd cc
 member_depth make (Symbol punctuator.Dot ∷ Long ∷ others) to inner one is = absurd cc

@@ -26,7 +26,7 @@ use Rattle.aioc_tokens.specs.Tokens.{IsNameSpelling, is_name_byte}
 use Rattle.aioc_tokens.specs.Lexemes.{Lexeme, Name, Long, Number, Text, Reserved, Symbol, sort_of, HasSpelling, HasLexemes}
 use Rattle.aioc_tokens.proofs.Readings.{read_spelling}
 use Rattle.expr_syntax.specs.Constants.{constant, before, positive, negative, greatest, greatest_negated, number_up_to}
-use Rattle.expr_syntax.specs.Grammar.{leaf, member, and_left, const_before, Reads, Follows, chain, denied, not_denied, alone, compared, single, negated, bracketed, ended, more, IsExpression}
+use Rattle.expr_syntax.specs.Grammar.{leaf, after_dot, and_left, const_before, Reads, Follows, chain, denied, not_denied, alone, compared, single, negated, bracketed, ended, more, IsExpression}
 use Rattle.expr_syntax.specs.Laws.{is_formed, ReadIsFormed}
 use Rattle.expr_syntax.specs.Levels.{operator, comparison, addition, multiplication, disjunction, conjunction}
 use Rattle.expr_syntax.specs.declared.levels.ExprKind.{ExprKind}
@@ -212,7 +212,7 @@ same_read : (kind : ExprKind) (e inner : Expression) (others to : List Lexeme) �
 same_read kind e inner others to is h = let same = same_pair is in subst (λ whole. IsOf kind whole to) same.0 (subst (IsOf kind e) same.1 h)
 
 member_formed : (make : List ℕ → Expression) (from to : List Lexeme) (inner : Expression) → ((name : List ℕ) → is_identifier name ≡ true → is_condition (make name) ≡ true)
-    → AllByRecursion CanBeWritten from → member make from ≡ Some (and_left to inner) → IsOf Condition inner to
+    → AllByRecursion CanBeWritten from → after_dot make from ≡ Some (and_left to inner) → IsOf Condition inner to
 member_formed make (Symbol punctuator.Dot ∷ Name name ∷ others) to inner makes valid is =
     same_read Condition (make name) inner others to is (makes name (identifier_valid name (valid.1.0 (λ e. cc))), valid.1.1)
 member_formed make (Symbol punctuator.Dot ∷ []) to inner makes valid is = absurd cc

@@ -31,7 +31,7 @@ use Rattle.aioc_tokens.specs.Words as words
 use Rattle.aioc_tokens.specs.Tokens.{is_name_byte}
 use Rattle.expr_syntax.specs.Constants.{greatest, greatest_negated, number_up_to, positive, negative, before, constant}
 use Rattle.expr_syntax.specs.Grammar.{Reads, chain, denied, not_denied, alone, compared, single, negated, bracketed, ended, more, leaf, and_left, const_before, IsExpression}
-use Rattle.expr_syntax.specs.Writing.{is_compound, operator_lexeme, written_value, opened, closed, written}
+use Rattle.expr_syntax.specs.Writing.{is_compound, operator_lexeme, written_value, with_open, with_close, written}
 use Rattle.expr_syntax.specs.Laws.{is_formed, NoOperatorFirst}
 use Rattle.expr_syntax.specs.declared.levels.ExprKind.{ExprKind}
 use Rattle.expr_syntax.specs.declared.levels.ExprKind.TheVariants.{Step, Condition}
@@ -140,7 +140,7 @@ binary_reads kind room Rem left right from rest others joined r s = comparison_d
 -- an operand, in brackets where it needs them
 operand_reads : (kind : ExprKind) (room : ℕ) (compound : Bool) (whole : Expression) (others : List Lexeme) → (compound ≡ false → Reads kind Unary room (written whole others) whole others)
     → (compound ≡ true → (left : ℕ) × (room ≡ suc left) × Reads kind Disjunction left (written whole (Symbol punctuator.RightParen ∷ others)) whole (Symbol punctuator.RightParen ∷ others))
-    → Reads kind Unary room (opened compound (written whole (closed compound others))) whole others
+    → Reads kind Unary room (with_open compound (written whole (with_close compound others))) whole others
 operand_reads kind room false whole others simple held = simple refl
 operand_reads kind room true whole others simple held = let (left, rooms, r) = held refl in bracketed rooms refl r refl
 
@@ -213,12 +213,12 @@ whole_reads kind (Bin oper a b) room others is deep =
     let parts = of_both kind oper a b is in
     let some_a = some_depth a in
     let some_b = some_depth b in
-    let rest = opened (is_compound b) (written b (closed (is_compound b) others)) in
+    let rest = with_open (is_compound b) (written b (with_close (is_compound b) others)) in
     let r = operand_reads kind room (is_compound a) a (operator_lexeme oper ∷ rest) (whole_reads kind a room (operator_lexeme oper ∷ rest) parts.left_is (omega arith)).simple
     (λ compound. (room - 1, omega arith, (whole_reads kind a (room - 1) (Symbol punctuator.RightParen ∷ operator_lexeme oper ∷ rest) parts.left_is (omega arith)).full)) in
     let s = operand_reads kind room (is_compound b) b others (whole_reads kind b room others parts.right_is (omega arith)).simple
     (λ compound. (room - 1, omega arith, (whole_reads kind b (room - 1) (Symbol punctuator.RightParen ∷ others) parts.right_is (omega arith)).full)) in
-    record { simple = λ other. absurd cc; full = binary_reads kind room oper a b (opened (is_compound a) (written a (closed (is_compound a) (operator_lexeme oper ∷ rest)))) rest others parts.joined r s }
+    record { simple = λ other. absurd cc; full = binary_reads kind room oper a b (with_open (is_compound a) (written a (with_close (is_compound a) (operator_lexeme oper ∷ rest)))) rest others parts.joined r s }
 
 -- the lexemes of what is written can be spelled
 name_free : (name : List ℕ) (words : List Word) → list_any (bytes_eq name) (map word_spelling words) ≡ false → find (λ word. bytes_eq name (word_spelling word)) words ≡ None
@@ -294,11 +294,11 @@ key_of : (kind : ExprKind) (name : List ℕ) → is_of kind (Env name) ≡ true 
 key_of Step name is = absurd cc
 key_of Condition name is = is
 
-opened_all : (compound : Bool) (others : List Lexeme) → AllByRecursion HasSpelling others → AllByRecursion HasSpelling (opened compound others)
+opened_all : (compound : Bool) (others : List Lexeme) → AllByRecursion HasSpelling others → AllByRecursion HasSpelling (with_open compound others)
 opened_all true others rest = (tt, rest)
 opened_all false others rest = rest
 
-closed_all : (compound : Bool) (others : List Lexeme) → AllByRecursion HasSpelling others → AllByRecursion HasSpelling (closed compound others)
+closed_all : (compound : Bool) (others : List Lexeme) → AllByRecursion HasSpelling others → AllByRecursion HasSpelling (with_close compound others)
 closed_all true others rest = (tt, rest)
 closed_all false others rest = rest
 
@@ -325,13 +325,13 @@ written_all kind (Var x) others is rest = (name_spelled x (variable_of kind x is
 written_all kind (Prop x) others is rest = (tt, (tt, (name_spelled x (property_of kind x is), rest)))
 written_all kind (Env x) others is rest = (tt, (tt, (name_spelled x (key_of kind x is), rest)))
 written_all kind (Not e) others is rest =
-    (tt, opened_all (is_compound e) (written e (closed (is_compound e) others)) (written_all kind e (closed (is_compound e) others) (of_not kind e is) (closed_all (is_compound e) others rest)))
+    (tt, opened_all (is_compound e) (written e (with_close (is_compound e) others)) (written_all kind e (with_close (is_compound e) others) (of_not kind e is) (closed_all (is_compound e) others rest)))
 written_all kind (Neg e) others is rest = (tt, (tt, written_all kind e (Symbol punctuator.RightParen ∷ others) (of_neg kind e is) (tt, rest)))
 written_all kind (Bin oper a b) others is rest =
     let parts = of_both kind oper a b is in
-    let right = opened (is_compound b) (written b (closed (is_compound b) others)) in
-    let right_all = opened_all (is_compound b) (written b (closed (is_compound b) others)) (written_all kind b (closed (is_compound b) others) parts.right_is (closed_all (is_compound b) others rest)) in
-    let left = closed (is_compound a) (operator_lexeme oper ∷ right) in
+    let right = with_open (is_compound b) (written b (with_close (is_compound b) others)) in
+    let right_all = opened_all (is_compound b) (written b (with_close (is_compound b) others)) (written_all kind b (with_close (is_compound b) others) parts.right_is (closed_all (is_compound b) others rest)) in
+    let left = with_close (is_compound a) (operator_lexeme oper ∷ right) in
     opened_all (is_compound a) (written a left) (written_all kind a left parts.left_is (closed_all (is_compound a) (operator_lexeme oper ∷ right) (operator_spelled oper, right_all)))
 
 -- what no operator of any level begins goes on with nothing

@@ -24,17 +24,17 @@ abbrev pub and_left : List Lexeme → Expression → Expression × List Lexeme
 and_left others found = (found, others)
 
 -- behind `N` or `E`: a name and what is left behind it
-abbrev pub member : (List ℕ → Expression) → List Lexeme → Option (Expression × List Lexeme)
-member make (Symbol punctuator.Dot ∷ Name name ∷ others) = Some (and_left others (make name))
-member make _ = None
+abbrev pub after_dot : (List ℕ → Expression) → List Lexeme → Option (Expression × List Lexeme)
+after_dot make (Symbol punctuator.Dot ∷ Name name ∷ others) = Some (and_left others (make name))
+after_dot make _ = None
 
 -- A constant, a variable, or in a condition a property or a key of the environment, with what is
 -- left behind it:
 --   "nil" | "true" | "false" | [ "-" ] number | text | name | "N" "." name | "E" "." name
 abbrev pub leaf : ExprKind → List Lexeme → Option (Expression × List Lexeme)
 leaf kind (Name name ∷ others) = Some (and_left others (Var name))
-leaf Condition (Reserved word.N ∷ others) = member Prop others
-leaf Condition (Reserved word.E ∷ others) = member Env others
+leaf Condition (Reserved word.N ∷ others) = after_dot Prop others
+leaf Condition (Reserved word.E ∷ others) = after_dot Env others
 leaf kind from = option_map const_before (constant from)
 
 abbrev pub begins_with_number : List Lexeme → Bool

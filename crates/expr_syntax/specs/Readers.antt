@@ -5,7 +5,7 @@ use Rattle.dioc_terms.specs.Expressions.{Expression, expression, expression_dept
 use Rattle.aioc_tokens.specs.Lexemes.{Lexeme, sort_of}
 use Rattle.aioc_tokens.specs.Fronts.{Longest, NoFront}
 use Rattle.expr_syntax.specs.Constants.{constant}
-use Rattle.expr_syntax.specs.Grammar.{Follows, IsShallow, leaf, member, and_left, const_before}
+use Rattle.expr_syntax.specs.Grammar.{Follows, IsShallow, leaf, after_dot, and_left, const_before}
 use Rattle.expr_syntax.specs.declared.levels.ExprKind.{ExprKind}
 use Rattle.expr_syntax.specs.declared.levels.Level.{Level}
 use Rattle.expr_syntax.specs.declared.places.Reader.{Reader}
@@ -22,7 +22,7 @@ LeafAt kind text at found =
 -- what stands behind `N` or `E`, whatever is made of the name
 abbrev pub MemberAt : List Lexeme → ℕ → Option (List ℕ × ℕ) → Type 0
 MemberAt text at found =
-    ((make : List ℕ → Expression) → member make (drop at text) ≡ option_map
+    ((make : List ℕ → Expression) → after_dot make (drop at text) ≡ option_map
     (λ (read : List ℕ × ℕ). and_left (drop read.1 text) (make read.0)) found) ×
     MatchOption found (Unit {0}) (λ read. (at < read.1) × (read.1 ≤ length text))
 

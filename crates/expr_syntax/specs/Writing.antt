@@ -48,13 +48,13 @@ written_value (value.Int z) others = written_integer z others
 written_value (value.Text bytes) others = Text bytes ∷ others
 
 -- a bracket where one is needed, and what follows
-abbrev pub opened : Bool → List Lexeme → List Lexeme
-opened true others = Symbol punctuator.LeftParen ∷ others
-opened false others = others
+abbrev pub with_open : Bool → List Lexeme → List Lexeme
+with_open true others = Symbol punctuator.LeftParen ∷ others
+with_open false others = others
 
-abbrev pub closed : Bool → List Lexeme → List Lexeme
-closed true others = Symbol punctuator.RightParen ∷ others
-closed false others = others
+abbrev pub with_close : Bool → List Lexeme → List Lexeme
+with_close true others = Symbol punctuator.RightParen ∷ others
+with_close false others = others
 
 -- the lexemes of an expression, and those that follow
 abbrev pub written : Expression → List Lexeme → List Lexeme
@@ -63,10 +63,10 @@ written (Var x) others = Name x ∷ others
 written (Prop x) others = Reserved word.N ∷ Symbol punctuator.Dot ∷ Name x ∷ others
 written (Env x) others = Reserved word.E ∷ Symbol punctuator.Dot ∷ Name x ∷ others
 written (Not e) others =
-    Reserved word.Not ∷ opened (is_compound e) (written e (closed (is_compound e) others))
+    Reserved word.Not ∷ with_open (is_compound e) (written e (with_close (is_compound e) others))
 written (Neg e) others =
     Symbol punctuator.Minus ∷ Symbol punctuator.LeftParen
     ∷ written e (Symbol punctuator.RightParen ∷ others)
 written (Bin oper a b) others =
-    opened (is_compound a) (written a (closed (is_compound a) (operator_lexeme oper
-    ∷ opened (is_compound b) (written b (closed (is_compound b) others)))))
+    with_open (is_compound a) (written a (with_close (is_compound a) (operator_lexeme oper
+    ∷ with_open (is_compound b) (written b (with_close (is_compound b) others)))))

@@ -14,7 +14,7 @@ use Rattle.connectedness.specs.Connected.{linked}
 use Rattle.connectedness.specs.Laws.{RolesAtEnds}
 use Rattle.index_marks.specs.Indices.{indices}
 use Rattle.mend.specs.Names.{begins_sq, sq_name, variables_of, names_in, taken_name}
-use Rattle.mend.specs.Mended.{message, told, asked, closed, opened, first_starter, through, join, joined, added, numbered, mended}
+use Rattle.mend.specs.Mended.{message, told, led_in, closed, opened, first_starter, through, join, relinked, added, with_numbers, mended}
 use Rattle.mend.specs.Traces.{index_before}
 use Rattle.mend.proofs.Connecting.{joined-roles}
 use Rattle.mend.proofs.Dropping.{sq_name_begins, find_parts, first_free, rest_free}
@@ -29,7 +29,7 @@ told_added : (t : Bool) (W : Term) (r k : Role) → AddedTerm W → AddedTerm (t
 told_added true W r k h = h
 told_added false W r k h = added_seq W (message r k) h (message_added r k)
 
-asked_added : (t : Bool) (W : Term) (r k : Role) → AddedTerm W → AddedTerm (asked t W r k)
+asked_added : (t : Bool) (W : Term) (r k : Role) → AddedTerm W → AddedTerm (led_in t W r k)
 asked_added true W r k h = h
 asked_added false W r k h = added_seq (message k r) W (message_added k r) h
 
@@ -48,7 +48,7 @@ module _ {f : Index → Index} where
   told_mends true W I r k h = h
   told_mends false W I r k h = m_behind W (message r k) I h (message_added r k)
 
-  asked_mends : (t : Bool) (W I : Term) (r k : Role) → Mends f W I → Mends f (asked t W r k) I
+  asked_mends : (t : Bool) (W I : Term) (r k : Role) → Mends f W I → Mends f (led_in t W r k) I
   asked_mends true W I r k h = h
   asked_mends false W I r k h = m_before (message k r) W I (message_added k r) h
 
@@ -101,7 +101,7 @@ module _ {f : Index → Index} where
 
 -- Joining alone, which keeps the indices
 module _ (ends : RolesAtEnds) where
-  pub joined_mends : (cast : List Role) (I : Term) → taken_name I ≡ None → Mends (λ i. i) (joined cast I) I
+  pub joined_mends : (cast : List Role) (I : Term) → taken_name I ≡ None → Mends (λ i. i) (relinked cast I) I
   joined_mends cast Skip h = m_skip
   joined_mends cast (Com i o a e b x) h = m_com i i o a e b x refl (first_free begins_sq o (variables_of e ++ x ∷ []) h)
       (find_parts begins_sq (variables_of e) (x ∷ []) (rest_free begins_sq o (variables_of e ++ x ∷ []) h)).0
@@ -109,19 +109,19 @@ module _ (ends : RolesAtEnds) where
   joined_mends cast (Input i x r) h = m_input i i x r refl
   joined_mends cast (Seq I J) h =
       let parts = find_parts begins_sq (names_in I) (names_in J) h in
-      join_mends cast (joined cast I) (joined cast J) I J (joined_mends cast I parts.0) (joined_mends cast J parts.1)
+      join_mends cast (relinked cast I) (relinked cast J) I J (joined_mends cast I parts.0) (joined_mends cast J parts.1)
   joined_mends cast (Par I J) h =
       let parts = find_parts begins_sq (names_in I) (names_in J) h in
-      m_par (joined cast I) (joined cast J) I J (joined_mends cast I parts.0) (joined_mends cast J parts.1)
+      m_par (relinked cast I) (relinked cast J) I J (joined_mends cast I parts.0) (joined_mends cast J parts.1)
   joined_mends cast (If i r g I J) h =
       let both = find_parts begins_sq (variables_of g) (names_in I ++ names_in J) h in
       let parts = find_parts begins_sq (names_in I) (names_in J) both.1 in
-      m_if i i r g (joined cast I) (joined cast J) I J refl both.0 (joined_mends cast I parts.0) (joined_mends cast J parts.1)
+      m_if i i r g (relinked cast I) (relinked cast J) I J refl both.0 (joined_mends cast I parts.0) (joined_mends cast J parts.1)
   joined_mends cast (While i r g I) h =
       let both = find_parts begins_sq (variables_of g) (names_in I) h in
-      m_while i i r g (joined cast I) I refl both.0 (joined_mends cast I both.1)
+      m_while i i r g (relinked cast I) I refl both.0 (joined_mends cast I both.1)
   joined_mends cast (Scope i r I extra props level) h =
-      m_scope i i r (joined cast I) I extra props level refl (joined-roles ends cast I) (joined_mends cast I h)
+      m_scope i i r (relinked cast I) I extra props level refl (joined-roles ends cast I) (joined_mends cast I h)
 
 -- The marks of the mended text
 -- the map gives back, for each place from m on, the next of these indices
@@ -154,7 +154,7 @@ length_indices (If i r g I J) = ap suc (length-append (indices I) (indices J) �
 length_indices (While i r g I) = ap suc (length_indices I)
 length_indices (Scope i r I extra props level) = ap suc (length_indices I)
 
-constructs_numbered : (k : ℕ) (I : Term) → constructs (numbered k I) ≡ constructs I
+constructs_numbered : (k : ℕ) (I : Term) → constructs (with_numbers k I) ≡ constructs I
 constructs_numbered k Skip = refl
 constructs_numbered k (Com i o a e b x) = refl
 constructs_numbered k (Set i x r e) = refl
@@ -167,25 +167,25 @@ constructs_numbered k (Scope i r I extra props level) = ap suc (constructs_numbe
 
 module _ (mentioned : MentionsAreRoles) (bodies : StampedBodies) where
   marked_roles : (q : Role) (m k n level : ℕ) (X I : Term) → is_in q X ≡ is_in q I
-      → is_in q (stamped (indexed_from m (numbered k X)) n level) ≡ is_in q (stamped I n level)
+      → is_in q (stamped (indexed_from m (with_numbers k X)) n level) ≡ is_in q (stamped I n level)
   marked_roles q m k n level X I h =
-      bodies.named q (indexed_from m (numbered k X)) n level ∙ sym (is_in-erased mentioned nameless q (indexed_from m (numbered k X)))
-      ∙ ap (is_in q) (erased-indexed nameless m (numbered k X) ∙ erased-numbered k X) ∙ is_in-erased mentioned nameless q X ∙ h ∙ sym (bodies.named q I n level)
+      bodies.named q (indexed_from m (with_numbers k X)) n level ∙ sym (is_in-erased mentioned nameless q (indexed_from m (with_numbers k X)))
+      ∙ ap (is_in q) (erased-indexed nameless m (with_numbers k X) ∙ erased-numbered k X) ∙ is_in-erased mentioned nameless q X ∙ h ∙ sym (bodies.named q I n level)
 
-  added_marked : (n level m k : ℕ) (X : Term) → AddedTerm X → AddedTerm (stamped (indexed_from m (numbered k X)) n level)
+  added_marked : (n level m k : ℕ) (X : Term) → AddedTerm X → AddedTerm (stamped (indexed_from m (with_numbers k X)) n level)
   added_marked n level m k X (added_seq A B a b) =
-      added_seq (stamped (indexed_from m (numbered k A)) n level) (stamped (indexed_from (m + constructs (numbered k A)) (numbered (k + added A) B)) n level)
-      (added_marked n level m k A a) (added_marked n level (m + constructs (numbered k A)) (k + added A) B b)
+      added_seq (stamped (indexed_from m (with_numbers k A)) n level) (stamped (indexed_from (m + constructs (with_numbers k A)) (with_numbers (k + added A) B)) n level)
+      (added_marked n level m k A a) (added_marked n level (m + constructs (with_numbers k A)) (k + added A) B b)
   added_marked n level m k X (added_com i o a e b x os xs) =
       subst (λ op. AddedTerm (Com (at_epoch n (index_at m)) op a e b x)) (sym (cond-true (begins_sq o) (sq_name k) o os))
       (added_com (at_epoch n (index_at m)) (sq_name k) a e b x (sq_name_begins k) xs)
 
   module _ (f : Index → Index) (n level : ℕ) where
-    second_finds : (m k : ℕ) (A : Term) (js : List Index) → Finds f n (m + length (indices A)) js → Finds f n (m + constructs (numbered k A)) js
+    second_finds : (m k : ℕ) (A : Term) (js : List Index) → Finds f n (m + length (indices A)) js → Finds f n (m + constructs (with_numbers k A)) js
     second_finds m k A js h = subst (λ c. Finds f n (m + c) js) (length_indices A ∙ sym (constructs_numbered k A)) h
 
     marks_mend : (X I : Term) → Mends (λ i. i) X I → (m k : ℕ) → Finds f n m (indices X)
-        → Mends f (stamped (indexed_from m (numbered k X)) n level) (stamped I n level)
+        → Mends f (stamped (indexed_from m (with_numbers k X)) n level) (stamped I n level)
     marks_mend X I m_skip m k h = m_skip
     marks_mend X I (m_com i j o a e b x at os free) m k h =
         subst (λ op. Mends f (Com (at_epoch n (index_at m)) op a e b x) (Com (at_epoch n j) o a e b x)) (sym (cond-false (begins_sq o) (sq_name k) o os))
@@ -195,15 +195,15 @@ module _ (mentioned : MentionsAreRoles) (bodies : StampedBodies) where
     marks_mend X I (m_seq A B C D p q) m k h =
         let parts = finds_parts f n m (indices A) (indices B) h in
         m_seq _ _ _ _ (marks_mend A C p m k parts.0)
-        (marks_mend B D q (m + constructs (numbered k A)) (k + added A) (second_finds m k A (indices B) parts.1))
+        (marks_mend B D q (m + constructs (with_numbers k A)) (k + added A) (second_finds m k A (indices B) parts.1))
     marks_mend X I (m_par A B C D p q) m k h =
         let parts = finds_parts f n m (indices A) (indices B) h in
         m_par _ _ _ _ (marks_mend A C p m k parts.0)
-        (marks_mend B D q (m + constructs (numbered k A)) (k + added A) (second_finds m k A (indices B) parts.1))
+        (marks_mend B D q (m + constructs (with_numbers k A)) (k + added A) (second_finds m k A (indices B) parts.1))
     marks_mend X I (m_if i j r g A B C D at free p q) m k h =
         let parts = finds_parts f n (suc m) (indices A) (indices B) h.1 in
         m_if (at_epoch n (index_at m)) (at_epoch n j) r g _ _ _ _ (h.0 ∙ ap (at_epoch n) at) free (marks_mend A C p (suc m) k parts.0)
-        (marks_mend B D q (suc m + constructs (numbered k A)) (k + added A) (second_finds (suc m) k A (indices B) parts.1))
+        (marks_mend B D q (suc m + constructs (with_numbers k A)) (k + added A) (second_finds (suc m) k A (indices B) parts.1))
     marks_mend X I (m_while i j r g A C at free p) m k h =
         m_while (at_epoch n (index_at m)) (at_epoch n j) r g _ _ (h.0 ∙ ap (at_epoch n) at) free (marks_mend A C p (suc m) k h.1)
     marks_mend X I (m_scope i j r A C extra props l at roles p) m k h =
@@ -212,21 +212,21 @@ module _ (mentioned : MentionsAreRoles) (bodies : StampedBodies) where
     marks_mend X I (m_before A B C a q) m k h =
         let parts = finds_parts f n m (indices A) (indices B) h in
         m_before _ _ _ (added_marked n level m k A a)
-        (marks_mend B C q (m + constructs (numbered k A)) (k + added A) (second_finds m k A (indices B) parts.1))
+        (marks_mend B C q (m + constructs (with_numbers k A)) (k + added A) (second_finds m k A (indices B) parts.1))
     marks_mend X I (m_behind B A C q a) m k h =
         let parts = finds_parts f n m (indices B) (indices A) h in
-        m_behind _ _ _ (marks_mend B C q m k parts.0) (added_marked n level (m + constructs (numbered k B)) (k + added B) A a)
+        m_behind _ _ _ (marks_mend B C q m k parts.0) (added_marked n level (m + constructs (with_numbers k B)) (k + added B) A a)
 
     -- the mended body beside the input's, as an update
     pub stamped_beside : RolesAtEnds → (cast : List Role) (I : Term) → taken_name I ≡ None
         → ((p : ℕ) → f (at_epoch n (index_at p)) ≡ at_epoch n (index_before cast I p)) → Mends f (stamped (mended cast I) n level) (stamped I n level)
-    stamped_beside ends cast I free h = marks_mend (joined cast I) I (joined_mends ends cast I free) 0 0
-        (found_each f n 0 (indices (joined cast I)) (λ p. ap (λ k. f (at_epoch n (index_at k))) (omega arith) ∙ h p))
+    stamped_beside ends cast I free h = marks_mend (relinked cast I) I (joined_mends ends cast I free) 0 0
+        (found_each f n 0 (indices (relinked cast I)) (λ p. ap (λ k. f (at_epoch n (index_at k))) (omega arith) ∙ h p))
 
   -- and the mended program beside the input's
   pub program_beside : RolesAtEnds → (f : Index → Index) (cast : List Role) (I : Term) → I ≡ indexed I → taken_name I ≡ None
       → ((p : ℕ) → f (index_at p) ≡ at_epoch 0 (index_before cast I p)) → Mends f (mended cast I) I
   program_beside ends f cast I marks free h =
-      subst (λ X. Mends f X I) (marked_stamped 0 (numbered 0 (joined cast I)))
+      subst (λ X. Mends f X I) (marked_stamped 0 (with_numbers 0 (relinked cast I)))
       (subst (λ J. Mends f (stamped (mended cast I) 0 0) J) (ap (λ J. stamped J 0 0) marks ∙ marked_stamped 0 I ∙ sym marks)
       (stamped_beside f 0 0 ends cast I free h))

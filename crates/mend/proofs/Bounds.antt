@@ -5,7 +5,7 @@ use Rattle.dioc_terms.specs.declared.names.Role.{Role}
 use Rattle.dioc_terms.specs.Equality.{role_eq}
 use Rattle.dioc_terms.specs.Terms.{Term, Skip, Com, Set, Input, Seq, Par, If, While, Scope, empty, is_in, nodes, indexed_from, constructs}
 use Rattle.connectedness.specs.Connected.{linked}
-use Rattle.mend.specs.Mended.{told, asked, closed, opened, first_starter, through, join, joined, added, numbered, mended}
+use Rattle.mend.specs.Mended.{told, led_in, closed, opened, first_starter, through, join, relinked, added, with_numbers, mended}
 use Rattle.mend.proofs.Connecting.{closed-empty, opened-empty}
 
 -- at how many places closing may add a message
@@ -41,7 +41,7 @@ told-ends : (t : Bool) (W : Term) (r k : Role) → ends W ≤ 1 → ends (told t
 told-ends true W r k h = h
 told-ends false W r k h = omega arith
 
-asked-starts : (t : Bool) (W : Term) (r k : Role) → starts W ≤ 1 → starts (asked t W r k) ≤ 1
+asked-starts : (t : Bool) (W : Term) (r k : Role) → starts W ≤ 1 → starts (led_in t W r k) ≤ 1
 asked-starts true W r k h = h
 asked-starts false W r k h = omega arith
 
@@ -49,7 +49,7 @@ told-starts : (t : Bool) (W : Term) (r k : Role) → empty W ≡ false → start
 told-starts true W r k full h = h
 told-starts false W r k full h = rw full h
 
-asked-ends : (t : Bool) (W : Term) (r k : Role) (n : ℕ) → empty W ≡ false → ends W ≤ n → ends (asked t W r k) ≤ n
+asked-ends : (t : Bool) (W : Term) (r k : Role) (n : ℕ) → empty W ≡ false → ends W ≤ n → ends (led_in t W r k) ≤ n
 asked-ends true W r k n full h = h
 asked-ends false W r k n full h = rw full h
 
@@ -57,7 +57,7 @@ told-size : (t : Bool) (W : Term) (r k : Role) → nodes (told t W r k) ≤ node
 told-size true W r k = omega arith
 told-size false W r k = omega arith
 
-asked-size : (t : Bool) (W : Term) (r k : Role) → nodes (asked t W r k) ≤ nodes W + 2
+asked-size : (t : Bool) (W : Term) (r k : Role) → nodes (led_in t W r k) ≤ nodes W + 2
 asked-size true W r k = omega arith
 asked-size false W r k = omega arith
 
@@ -231,21 +231,21 @@ choice-ends : (t : Bool) (m n : ℕ) → (if t then 1 else m + n) ≤ suc (m + n
 choice-ends true m n = omega arith
 choice-ends false m n = omega arith
 
-joined-small : (cast : List Role) (I : Term) → IsSmall I (joined cast I)
+joined-small : (cast : List Role) (I : Term) → IsSmall I (relinked cast I)
 joined-small cast Skip = record { few_ends = omega arith; few_starts = omega arith }
 joined-small cast (Com i o a e b x) = record { few_ends = omega arith; few_starts = omega arith }
 joined-small cast (Set i x r e) = record { few_ends = omega arith; few_starts = omega arith }
 joined-small cast (Input i x r) = record { few_ends = omega arith; few_starts = omega arith }
-joined-small cast (Seq I J) = join-small cast I J (joined cast I) (joined cast J) (joined-small cast I) (joined-small cast J)
+joined-small cast (Seq I J) = join-small cast I J (relinked cast I) (relinked cast J) (joined-small cast I) (joined-small cast J)
 joined-small cast (Par I J) =
-    let one : IsSmall I (joined cast I) = joined-small cast I in
-    let other : IsSmall J (joined cast J) = joined-small cast J in
+    let one : IsSmall I (relinked cast I) = joined-small cast I in
+    let other : IsSmall J (relinked cast J) = joined-small cast J in
     record { few_ends = omega (arith, one.few_ends, other.few_ends); few_starts = omega (arith, one.few_starts, other.few_starts) }
 joined-small cast (If i r g I J) =
-    let one : IsSmall I (joined cast I) = joined-small cast I in
-    let other : IsSmall J (joined cast J) = joined-small cast J in
-    let whole : ends (If i r g (joined cast I) (joined cast J)) ≤ suc (ends (joined cast I) + ends (joined cast J))
-    = choice-ends (empty (joined cast I) && empty (joined cast J)) (ends (joined cast I)) (ends (joined cast J)) in
+    let one : IsSmall I (relinked cast I) = joined-small cast I in
+    let other : IsSmall J (relinked cast J) = joined-small cast J in
+    let whole : ends (If i r g (relinked cast I) (relinked cast J)) ≤ suc (ends (relinked cast I) + ends (relinked cast J))
+    = choice-ends (empty (relinked cast I) && empty (relinked cast J)) (ends (relinked cast I)) (ends (relinked cast J)) in
     record { few_ends = omega (arith, whole, one.few_ends, other.few_ends); few_starts = omega arith }
 joined-small cast (While i r g I) = record { few_ends = omega arith; few_starts = omega arith }
 joined-small cast (Scope i r I extra props level) = record { few_ends = omega arith; few_starts = omega arith }
@@ -287,37 +287,37 @@ join-size cast I J A B few one other = cond_both (linked A B) (Seq A B) (through
     (λ no. let whole : nodes (through (first_starter cast B) A B) ≤ suc (nodes A + nodes B) + (2 * ends A + 2 * starts B) = through-size (first_starter cast B) A B in
     omega (arith, whole, one.few_ends, other.few_starts))
 
-joined-size : (cast : List Role) (I : Term) → nodes I ≤ 5000 → nodes (joined cast I) ≤ nodes I + 20000 * sequences I
+joined-size : (cast : List Role) (I : Term) → nodes I ≤ 5000 → nodes (relinked cast I) ≤ nodes I + 20000 * sequences I
 joined-size cast Skip few = omega arith
 joined-size cast (Com i o a e b x) few = omega arith
 joined-size cast (Set i x r e) few = omega arith
 joined-size cast (Input i x r) few = omega arith
 joined-size cast (Seq I J) few =
-    let one : nodes (joined cast I) ≤ nodes I + 20000 * sequences I = joined-size cast I (omega arith) in
-    let other : nodes (joined cast J) ≤ nodes J + 20000 * sequences J = joined-size cast J (omega arith) in
-    let whole : nodes (join cast (joined cast I) (joined cast J)) ≤ suc (nodes (joined cast I) + nodes (joined cast J)) + 20000
-    = join-size cast I J (joined cast I) (joined cast J) (omega arith) (joined-small cast I) (joined-small cast J) in
+    let one : nodes (relinked cast I) ≤ nodes I + 20000 * sequences I = joined-size cast I (omega arith) in
+    let other : nodes (relinked cast J) ≤ nodes J + 20000 * sequences J = joined-size cast J (omega arith) in
+    let whole : nodes (join cast (relinked cast I) (relinked cast J)) ≤ suc (nodes (relinked cast I) + nodes (relinked cast J)) + 20000
+    = join-size cast I J (relinked cast I) (relinked cast J) (omega arith) (joined-small cast I) (joined-small cast J) in
     omega (arith, one, other, whole)
 joined-size cast (Par I J) few =
-    let one : nodes (joined cast I) ≤ nodes I + 20000 * sequences I = joined-size cast I (omega arith) in
-    let other : nodes (joined cast J) ≤ nodes J + 20000 * sequences J = joined-size cast J (omega arith) in
+    let one : nodes (relinked cast I) ≤ nodes I + 20000 * sequences I = joined-size cast I (omega arith) in
+    let other : nodes (relinked cast J) ≤ nodes J + 20000 * sequences J = joined-size cast J (omega arith) in
     omega (arith, one, other)
 joined-size cast (If i r g I J) few =
-    let one : nodes (joined cast I) ≤ nodes I + 20000 * sequences I = joined-size cast I (omega arith) in
-    let other : nodes (joined cast J) ≤ nodes J + 20000 * sequences J = joined-size cast J (omega arith) in
+    let one : nodes (relinked cast I) ≤ nodes I + 20000 * sequences I = joined-size cast I (omega arith) in
+    let other : nodes (relinked cast J) ≤ nodes J + 20000 * sequences J = joined-size cast J (omega arith) in
     omega (arith, one, other)
-joined-size cast (While i r g I) few = let one : nodes (joined cast I) ≤ nodes I + 20000 * sequences I = joined-size cast I (omega arith) in omega (arith, one)
+joined-size cast (While i r g I) few = let one : nodes (relinked cast I) ≤ nodes I + 20000 * sequences I = joined-size cast I (omega arith) in omega (arith, one)
 joined-size cast (Scope i r I extra props level) few =
-    let one : nodes (joined cast I) ≤ nodes I + 20000 * sequences I = joined-size cast I (omega arith) in omega (arith, one)
+    let one : nodes (relinked cast I) ≤ nodes I + 20000 * sequences I = joined-size cast I (omega arith) in omega (arith, one)
 
-pub joined_fits : (cast : List Role) (I : Term) → nodes I ≤ 5000 → nodes (joined cast I) ≤ 4294967295
+pub joined_fits : (cast : List Role) (I : Term) → nodes I ≤ 5000 → nodes (relinked cast I) ≤ 4294967295
 joined_fits cast I few =
-    let whole : nodes (joined cast I) ≤ nodes I + 20000 * sequences I = joined-size cast I few in
+    let whole : nodes (relinked cast I) ≤ nodes I + 20000 * sequences I = joined-size cast I few in
     let most : sequences I ≤ nodes I = sequences-few I in
     omega (arith, whole, most)
 
 -- Numbers and marks leave the size
-nodes-numbered : (n : ℕ) (I : Term) → nodes (numbered n I) ≡ nodes I
+nodes-numbered : (n : ℕ) (I : Term) → nodes (with_numbers n I) ≡ nodes I
 nodes-numbered n Skip = refl
 nodes-numbered n (Com i o a e b x) = refl
 nodes-numbered n (Set i x r e) = refl
@@ -339,11 +339,11 @@ nodes-indexed n (If i r g I J) = ap₂ (λ s t. suc (s + t)) (nodes-indexed (suc
 nodes-indexed n (While i r g I) = ap suc (nodes-indexed (suc n) I)
 nodes-indexed n (Scope i r I extra props level) = ap suc (nodes-indexed (suc n) I)
 
-pub numbered_size : (I : Term) → nodes (numbered 0 I) ≡ nodes I
+pub numbered_size : (I : Term) → nodes (with_numbers 0 I) ≡ nodes I
 numbered_size I = nodes-numbered 0 I
 
-pub same_size : (cast : List Role) (I : Term) → nodes (mended cast I) ≡ nodes (joined cast I)
-same_size cast I = nodes-indexed 0 (numbered 0 (joined cast I)) ∙ nodes-numbered 0 (joined cast I)
+pub same_size : (cast : List Role) (I : Term) → nodes (mended cast I) ≡ nodes (relinked cast I)
+same_size cast I = nodes-indexed 0 (with_numbers 0 (relinked cast I)) ∙ nodes-numbered 0 (relinked cast I)
 
 pub mended_fits : (cast : List Role) (I : Term) → nodes I ≤ 5000 → nodes (mended cast I) ≤ 4294967295
-mended_fits cast I few = let fits : nodes (joined cast I) ≤ 4294967295 = joined_fits cast I few in rw (same_size cast I) fits
+mended_fits cast I few = let fits : nodes (relinked cast I) ≤ 4294967295 = joined_fits cast I few in rw (same_size cast I) fits

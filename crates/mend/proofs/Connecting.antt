@@ -12,7 +12,7 @@ use Rattle.dioc_terms.specs.TermLaws.{MentionsAreRoles}
 use Rattle.connectedness.specs.ByCases.{begins, attends_ends}
 use Rattle.connectedness.specs.Connected.{starters, linked, connected}
 use Rattle.connectedness.specs.Laws.{RolesAtEnds, HasRoles}
-use Rattle.mend.specs.Mended.{message, told, asked, closed, opened, first_starter, through, join, joined, numbered, mended}
+use Rattle.mend.specs.Mended.{message, told, led_in, closed, opened, first_starter, through, join, relinked, with_numbers, mended}
 use Rattle.mend.specs.Laws.{MendedConnected, StaysAsItIs}
 use Rattle.mend.proofs.Erased.{erased, nameless, faceless, erased-indexed, erased-numbered, is_in-erased, connected-erased, self_messages-erased, none_faceless}
 
@@ -34,7 +34,7 @@ told-empty : (t : Bool) (W : Term) (r k : Role) → empty W ≡ false → empty 
 told-empty true W r k h = h
 told-empty false W r k h = ap (λ s. s && false) h
 
-asked-empty : (t : Bool) (W : Term) (r k : Role) → empty W ≡ false → empty (asked t W r k) ≡ false
+asked-empty : (t : Bool) (W : Term) (r k : Role) → empty W ≡ false → empty (led_in t W r k) ≡ false
 asked-empty true W r k h = h
 asked-empty false W r k h = refl
 
@@ -42,7 +42,7 @@ told-begins : (q : Role) (t : Bool) (W : Term) (r k : Role) → empty W ≡ fals
 told-begins q true W r k h = refl
 told-begins q false W r k h = cond-false (empty W) (begins q (message r k)) (begins q W) h
 
-asked-attends : (q : Role) (t : Bool) (W : Term) (r k : Role) → empty W ≡ false → attends_ends q (asked t W r k) ≡ attends_ends q W
+asked-attends : (q : Role) (t : Bool) (W : Term) (r k : Role) → empty W ≡ false → attends_ends q (led_in t W r k) ≡ attends_ends q W
 asked-attends q true W r k h = refl
 asked-attends q false W r k h = cond-false (empty W) (attends_ends q (message k r)) (attends_ends q W) h
 
@@ -51,7 +51,7 @@ told-attends true W r k h = h refl
 told-attends false W r k h = or_right (role_eq k r) (role_eq k k) (role_itself k)
 
 asked-begins : (q : Role) (t : Bool) (W : Term) (r k : Role) → (t ≡ true → role_eq k r ≡ true) → (begins q W ≡ true → role_eq q r ≡ true)
-    → begins q (asked t W r k) ≡ true → q ≡ k
+    → begins q (led_in t W r k) ≡ true → q ≡ k
 asked-begins q true W r k same one h = role_same q r (one h) ∙ sym (role_same k r (same refl))
 asked-begins q false W r k same one h = role_same q k h
 
@@ -68,7 +68,7 @@ told-roles q false W r k h = absorbed (role_eq q k) (is_in q W) (role_eq q r) h
     absorbed false false false f = refl
 
 asked-roles : (q : Role) (t : Bool) (W : Term) (r k : Role) → (role_eq q r ≡ true → is_in q W ≡ true)
-    → (role_eq q k || is_in q (asked t W r k)) ≡ (role_eq q k || is_in q W)
+    → (role_eq q k || is_in q (led_in t W r k)) ≡ (role_eq q k || is_in q W)
 asked-roles q true W r k h = refl
 asked-roles q false W r k h = absorbed (role_eq q k) (is_in q W) (role_eq q r) h
   where
@@ -77,7 +77,7 @@ asked-roles q false W r k h = absorbed (role_eq q k) (is_in q W) (role_eq q r) h
     absorbed false w true f = sym (f refl)
     absorbed false w false f = refl
 
-asked-keeps : (q : Role) (t : Bool) (W : Term) (r k : Role) → is_in q W ≡ true → is_in q (asked t W r k) ≡ true
+asked-keeps : (q : Role) (t : Bool) (W : Term) (r k : Role) → is_in q W ≡ true → is_in q (led_in t W r k) ≡ true
 asked-keeps q true W r k h = h
 asked-keeps q false W r k h = or_right (role_eq q k || role_eq q r) (is_in q W) h
 
@@ -344,7 +344,7 @@ told-self : (t : Bool) (W : Term) (r k : Role) → self_messages W ≡ [] → (t
 told-self true W r k h f = h
 told-self false W r k h f = ap₂ (λ s t. s ++ t) h (cond-false (role_eq r k) (index_at 0 ∷ []) [] (f refl))
 
-asked-self : (t : Bool) (W : Term) (r k : Role) → self_messages W ≡ [] → (t ≡ false → role_eq k r ≡ false) → self_messages (asked t W r k) ≡ []
+asked-self : (t : Bool) (W : Term) (r k : Role) → self_messages W ≡ [] → (t ≡ false → role_eq k r ≡ false) → self_messages (led_in t W r k) ≡ []
 asked-self true W r k h f = h
 asked-self false W r k h f = ap₂ (λ s t. s ++ t) (cond-false (role_eq k r) (index_at 0 ∷ []) [] (f refl)) h
 
@@ -430,7 +430,7 @@ module _ (ends : RolesAtEnds) where
   told-connected false W r k h at = and_from _ _
       (and_from _ _ (ends.linked W (message r k) (λ q b. subst (λ s. attends_ends s W ≡ true) (sym (role_same q r b)) at)) h) refl
 
-  asked-connected : (t : Bool) (W : Term) (r k : Role) → connected W ≡ true → ((q : Role) → begins q W ≡ true → role_eq q r ≡ true) → connected (asked t W r k) ≡ true
+  asked-connected : (t : Bool) (W : Term) (r k : Role) → connected W ≡ true → ((q : Role) → begins q W ≡ true → role_eq q r ≡ true) → connected (led_in t W r k) ≡ true
   asked-connected true W r k h one = h
   asked-connected false W r k h one = and_from _ _
       (and_from _ _ (ends.linked (message k r) W (λ q b. or_right (role_eq q k) (role_eq q r) (one q b))) refl) h
@@ -519,25 +519,25 @@ module _ (ends : RolesAtEnds) where
   join-roles cast I J q = cond_both (linked I J) (Seq I J) (through (first_starter cast J) I J) (λ T. is_in q T ≡ (is_in q I || is_in q J))
       (λ yes. refl) (λ no. through-roles cast I J (first_starter cast J) q refl)
 
-  pub joined-roles : (cast : List Role) (I : Term) (q : Role) → is_in q (joined cast I) ≡ is_in q I
+  pub joined-roles : (cast : List Role) (I : Term) (q : Role) → is_in q (relinked cast I) ≡ is_in q I
   joined-roles cast Skip q = refl
   joined-roles cast (Com i o a e b x) q = refl
   joined-roles cast (Set i x r e) q = refl
   joined-roles cast (Input i x r) q = refl
-  joined-roles cast (Seq I J) q = join-roles cast (joined cast I) (joined cast J) q ∙ ap₂ (λ s t. s || t) (joined-roles cast I q) (joined-roles cast J q)
+  joined-roles cast (Seq I J) q = join-roles cast (relinked cast I) (relinked cast J) q ∙ ap₂ (λ s t. s || t) (joined-roles cast I q) (joined-roles cast J q)
   joined-roles cast (Par I J) q = ap₂ (λ s t. s || t) (joined-roles cast I q) (joined-roles cast J q)
   joined-roles cast (If i r g I J) q = ap₂ (λ s t. role_eq q r || s || t) (joined-roles cast I q) (joined-roles cast J q)
   joined-roles cast (While i r g I) q = ap (λ s. role_eq q r || s) (joined-roles cast I q)
   joined-roles cast (Scope i r I extra props level) q = ap (λ s. role_eq q r || s || member q extra) (joined-roles cast I q)
 
-  joined-connected : (cast : List Role) (I : Term) → HasRoles cast I → connected (joined cast I) ≡ true
+  joined-connected : (cast : List Role) (I : Term) → HasRoles cast I → connected (relinked cast I) ≡ true
   joined-connected cast Skip has = refl
   joined-connected cast (Com i o a e b x) has = refl
   joined-connected cast (Set i x r e) has = refl
   joined-connected cast (Input i x r) has = refl
   joined-connected cast (Seq I J) has =
       let second = λ (q : Role) (s : is_in q J ≡ true). has q (or_right (is_in q I) (is_in q J) s) in
-      join-connected cast (joined cast I) (joined cast J) (λ q s. second q (sym (joined-roles cast J q) ∙ s))
+      join-connected cast (relinked cast I) (relinked cast J) (λ q s. second q (sym (joined-roles cast J q) ∙ s))
       (joined-connected cast I (λ q s. has q (or_left (is_in q I) (is_in q J) s))) (joined-connected cast J second)
   joined-connected cast (Par I J) has = and_from _ _
       (joined-connected cast I (λ q s. has q (or_left (is_in q I) (is_in q J) s)))
@@ -553,17 +553,17 @@ module _ (ends : RolesAtEnds) where
   through-self I J None h g = ap₂ (λ s t. s ++ t) h g
   through-self I J (Some k) h g = ap₂ (λ s t. s ++ t) (closed-self k I h) (opened-self k J g)
 
-  joined-self : (cast : List Role) (I : Term) → self_messages I ≡ [] → self_messages (joined cast I) ≡ []
+  joined-self : (cast : List Role) (I : Term) → self_messages I ≡ [] → self_messages (relinked cast I) ≡ []
   joined-self cast Skip h = h
   joined-self cast (Com i o a e b x) h = h
   joined-self cast (Set i x r e) h = h
   joined-self cast (Input i x r) h = h
   joined-self cast (Seq I J) h =
       let parts = none_of (self_messages I) (self_messages J) h in
-      cond_both (linked (joined cast I) (joined cast J)) (Seq (joined cast I) (joined cast J)) (through (first_starter cast (joined cast J)) (joined cast I) (joined cast J))
+      cond_both (linked (relinked cast I) (relinked cast J)) (Seq (relinked cast I) (relinked cast J)) (through (first_starter cast (relinked cast J)) (relinked cast I) (relinked cast J))
       (λ T. self_messages T ≡ [])
       (λ yes. ap₂ (λ s t. s ++ t) (joined-self cast I parts.0) (joined-self cast J parts.1))
-      (λ no. through-self (joined cast I) (joined cast J) (first_starter cast (joined cast J)) (joined-self cast I parts.0) (joined-self cast J parts.1))
+      (λ no. through-self (relinked cast I) (relinked cast J) (first_starter cast (relinked cast J)) (joined-self cast I parts.0) (joined-self cast J parts.1))
   joined-self cast (Par I J) h =
       let parts = none_of (self_messages I) (self_messages J) h in
       ap₂ (λ s t. s ++ t) (joined-self cast I parts.0) (joined-self cast J parts.1)
@@ -574,17 +574,17 @@ module _ (ends : RolesAtEnds) where
   joined-self cast (Scope i r I extra props level) h = joined-self cast I h
 
   -- Numbers and marks change nothing of this
-  pub erased-mended : (cast : List Role) (I : Term) → erased nameless (mended cast I) ≡ erased nameless (joined cast I)
-  erased-mended cast I = erased-indexed nameless 0 (numbered 0 (joined cast I)) ∙ erased-numbered 0 (joined cast I)
+  pub erased-mended : (cast : List Role) (I : Term) → erased nameless (mended cast I) ≡ erased nameless (relinked cast I)
+  erased-mended cast I = erased-indexed nameless 0 (with_numbers 0 (relinked cast I)) ∙ erased-numbered 0 (relinked cast I)
 
   pub mended-connected : MentionsAreRoles → MendedConnected
   mended-connected mentioned = record {
     links = λ cast I has. sym (connected-erased nameless (mended cast I)) ∙ ap connected (erased-mended cast I)
-        ∙ connected-erased nameless (joined cast I) ∙ joined-connected cast I has;
+        ∙ connected-erased nameless (relinked cast I) ∙ joined-connected cast I has;
     same_roles = λ cast I q. sym (is_in-erased mentioned nameless q (mended cast I)) ∙ ap (is_in q) (erased-mended cast I)
-        ∙ is_in-erased mentioned nameless q (joined cast I) ∙ joined-roles cast I q;
+        ∙ is_in-erased mentioned nameless q (relinked cast I) ∙ joined-roles cast I q;
     no_self_message = λ cast I h. none_faceless (self_messages (mended cast I)) (sym (self_messages-erased nameless (mended cast I))
-        ∙ ap self_messages (erased-mended cast I) ∙ self_messages-erased nameless (joined cast I) ∙ ap faceless (joined-self cast I h));
+        ∙ ap self_messages (erased-mended cast I) ∙ self_messages-erased nameless (relinked cast I) ∙ ap faceless (joined-self cast I h));
   }
 
   -- What closing and opening leave alone

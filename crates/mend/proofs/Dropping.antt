@@ -7,7 +7,7 @@ use Rattle.dioc_terms.specs.Equality.{role_eq}
 use Rattle.dioc_terms.specs.Terms.{Term, Skip, Com, Set, Input, Seq, Par, If, While, Scope, empty, is_in, indexed, index_at}
 use Rattle.connectedness.specs.Connected.{linked}
 use Rattle.mend.specs.Names.{begins_sq, sq_name, variables_of, names_in, taken_name}
-use Rattle.mend.specs.Mended.{message, told, asked, closed, opened, first_starter, through, join, joined, added, numbered, mended}
+use Rattle.mend.specs.Mended.{message, told, led_in, closed, opened, first_starter, through, join, relinked, added, with_numbers, mended}
 use Rattle.mend.specs.Dropped.{both_kept, or_skip, kept, dropped}
 use Rattle.mend.specs.Laws.{DropsToInput}
 use Rattle.mend.proofs.Erased.{erased, same_name, erased-indexed, indexed-erased}
@@ -30,7 +30,7 @@ told-kept : (t : Bool) (W : Term) (r k : Role) → kept (told t W r k) ≡ kept 
 told-kept true W r k = refl
 told-kept false W r k = nothing_more (kept W)
 
-asked-kept : (t : Bool) (W : Term) (r k : Role) → kept (asked t W r k) ≡ kept W
+asked-kept : (t : Bool) (W : Term) (r k : Role) → kept (led_in t W r k) ≡ kept W
 asked-kept true W r k = refl
 asked-kept false W r k = refl
 
@@ -69,18 +69,18 @@ join-kept : (cast : List Role) (I J : Term) → kept (join cast I J) ≡ both_ke
 join-kept cast I J = cond_both (linked I J) (Seq I J) (through (first_starter cast J) I J) (λ T. kept T ≡ both_kept (kept I) (kept J))
     (λ yes. refl) (λ no. through-kept (first_starter cast J) I J)
 
-joined-kept : (cast : List Role) (I : Term) → kept (joined cast I) ≡ kept I
+joined-kept : (cast : List Role) (I : Term) → kept (relinked cast I) ≡ kept I
 joined-kept cast Skip = refl
 joined-kept cast (Com i o a e b x) = refl
 joined-kept cast (Set i x r e) = refl
 joined-kept cast (Input i x r) = refl
-joined-kept cast (Seq I J) = join-kept cast (joined cast I) (joined cast J) ∙ ap₂ (λ m n. both_kept m n) (joined-kept cast I) (joined-kept cast J)
+joined-kept cast (Seq I J) = join-kept cast (relinked cast I) (relinked cast J) ∙ ap₂ (λ m n. both_kept m n) (joined-kept cast I) (joined-kept cast J)
 joined-kept cast (Par I J) = ap₂ (λ m n. Some (Par (or_skip m) (or_skip n))) (joined-kept cast I) (joined-kept cast J)
 joined-kept cast (If i r g I J) = ap₂ (λ m n. Some (If i r g (or_skip m) (or_skip n))) (joined-kept cast I) (joined-kept cast J)
 joined-kept cast (While i r g I) = ap (λ m. Some (While i r g (or_skip m))) (joined-kept cast I)
 joined-kept cast (Scope i r I extra props level) = ap (λ m. Some (Scope i r (or_skip m) extra props level)) (joined-kept cast I)
 
-numbered-kept : (n : ℕ) (I : Term) → kept (numbered n I) ≡ kept I
+numbered-kept : (n : ℕ) (I : Term) → kept (with_numbers n I) ≡ kept I
 numbered-kept n Skip = refl
 numbered-kept n (Com i o a e b x) = by_name (begins_sq o) refl
   where
@@ -166,7 +166,7 @@ free-kept (Scope i r I extra props level) h = ap (λ m. Some (Scope i r (or_skip
 pub drops-to_input : DropsToInput
 drops-to_input cast I marks free =
     sym (indexed-erased 0 (dropped (mended cast I)))
-    ∙ ap indexed (dropped-erased (mended cast I) ∙ ap dropped (erased-indexed same_name 0 (numbered 0 (joined cast I)))
-    ∙ sym (dropped-erased (numbered 0 (joined cast I)))
-    ∙ ap (λ m. erased same_name (or_skip m)) (numbered-kept 0 (joined cast I) ∙ joined-kept cast I ∙ free-kept I free))
+    ∙ ap indexed (dropped-erased (mended cast I) ∙ ap dropped (erased-indexed same_name 0 (with_numbers 0 (relinked cast I)))
+    ∙ sym (dropped-erased (with_numbers 0 (relinked cast I)))
+    ∙ ap (λ m. erased same_name (or_skip m)) (numbered-kept 0 (relinked cast I) ∙ joined-kept cast I ∙ free-kept I free))
     ∙ indexed-erased 0 I ∙ sym marks

@@ -8,7 +8,7 @@ use Rattle.dioc_terms.specs.Equality.{role_eq, member}
 use Rattle.dioc_terms.specs.Terms.{Term, Skip, Com, Set, Input, Seq, Par, If, While, Scope, empty, mentions, is_in, self_messages, constructs, index_at, indexed_from}
 use Rattle.dioc_terms.specs.TermLaws.{MentionsAreRoles}
 use Rattle.connectedness.specs.Connected.{starters, groups, connected}
-use Rattle.mend.specs.Mended.{added, numbered}
+use Rattle.mend.specs.Mended.{added, with_numbers}
 
 -- the term without indices and levels, with each operation changed
 abbrev pub erased : (List ℕ → List ℕ) → Term → Term
@@ -37,7 +37,7 @@ erased-indexed f n (Scope i r I extra props level) = ap (λ s. Scope (index_at 0
 abbrev pub nameless : List ℕ → List ℕ
 nameless o = []
 
-pub erased-numbered : (n : ℕ) (I : Term) → erased nameless (numbered n I) ≡ erased nameless I
+pub erased-numbered : (n : ℕ) (I : Term) → erased nameless (with_numbers n I) ≡ erased nameless I
 erased-numbered n Skip = refl
 erased-numbered n (Com i o a e b x) = refl
 erased-numbered n (Set i x r e) = refl

@@ -5,13 +5,13 @@ use Rattle.dioc_terms.specs.declared.names.Role.{Role}
 use Rattle.dioc_terms.specs.Equality.{role_eq}
 use Rattle.dioc_terms.specs.Terms.{Term, Skip, Com, Set, Input, Seq, Par, If, While, Scope, empty, is_in, nodes}
 use Rattle.connectedness.specs.Connected.{linked}
-use Rattle.mend.specs.Mended.{told, asked, closed, opened, first_starter, through, join}
+use Rattle.mend.specs.Mended.{told, led_in, closed, opened, first_starter, through, join}
 
 told-grows : (t : Bool) (W : Term) (r k : Role) → nodes W ≤ nodes (told t W r k)
 told-grows true W r k = omega arith
 told-grows false W r k = omega arith
 
-asked-grows : (t : Bool) (W : Term) (r k : Role) → nodes W ≤ nodes (asked t W r k)
+asked-grows : (t : Bool) (W : Term) (r k : Role) → nodes W ≤ nodes (led_in t W r k)
 asked-grows true W r k = omega arith
 asked-grows false W r k = omega arith
 

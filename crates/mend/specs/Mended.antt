@@ -18,8 +18,8 @@ abbrev pub told : Bool → Term → Role → Role → Term
 told knows I r k = if knows then I else Seq I (message r k)
 
 -- the term, and before it a message from the role to who begins it, where that is another
-abbrev pub asked : Bool → Term → Role → Role → Term
-asked begins I r k = if begins then I else Seq (message k r) I
+abbrev pub led_in : Bool → Term → Role → Role → Term
+led_in begins I r k = if begins then I else Seq (message k r) I
 
 -- the term, closed for a role: each of its endings has that role
 abbrev pub closed : Role → Term → Term
@@ -39,15 +39,15 @@ closed k (Scope i r I extra props level) =
 -- the term, opened for a role: nobody but that role begins it
 abbrev pub opened : Role → Term → Term
 opened k Skip = Skip
-opened k (Com i o a e b x) = asked (role_eq k a) (Com i o a e b x) a k
-opened k (Set i x r e) = asked (role_eq k r) (Set i x r e) r k
-opened k (Input i x r) = asked (role_eq k r) (Input i x r) r k
+opened k (Com i o a e b x) = led_in (role_eq k a) (Com i o a e b x) a k
+opened k (Set i x r e) = led_in (role_eq k r) (Set i x r e) r k
+opened k (Input i x r) = led_in (role_eq k r) (Input i x r) r k
 opened k (Seq I J) = if empty I then Seq I (opened k J) else Seq (opened k I) J
 opened k (Par I J) = Par (opened k I) (opened k J)
-opened k (If i r g I J) = asked (role_eq k r) (If i r g I J) r k
-opened k (While i r g I) = asked (role_eq k r) (While i r g I) r k
+opened k (If i r g I J) = led_in (role_eq k r) (If i r g I J) r k
+opened k (While i r g I) = led_in (role_eq k r) (While i r g I) r k
 opened k (Scope i r I extra props level) =
-    asked (role_eq k r) (Scope i r I extra props level) r k
+    led_in (role_eq k r) (Scope i r I extra props level) r k
 
 -- the first role of the cast that begins the term
 abbrev pub first_starter : List Role → Term → Option Role
@@ -63,13 +63,13 @@ abbrev pub join : List Role → Term → Term → Term
 join cast I J = if linked I J then Seq I J else through (first_starter cast J) I J
 
 -- each sequence inside joined, inner ones first; the indices stay
-abbrev pub joined : List Role → Term → Term
-joined cast (Seq I J) = join cast (joined cast I) (joined cast J)
-joined cast (Par I J) = Par (joined cast I) (joined cast J)
-joined cast (If i r g I J) = If i r g (joined cast I) (joined cast J)
-joined cast (While i r g I) = While i r g (joined cast I)
-joined cast (Scope i r I extra props level) = Scope i r (joined cast I) extra props level
-joined cast leaf = leaf
+abbrev pub relinked : List Role → Term → Term
+relinked cast (Seq I J) = join cast (relinked cast I) (relinked cast J)
+relinked cast (Par I J) = Par (relinked cast I) (relinked cast J)
+relinked cast (If i r g I J) = If i r g (relinked cast I) (relinked cast J)
+relinked cast (While i r g I) = While i r g (relinked cast I)
+relinked cast (Scope i r I extra props level) = Scope i r (relinked cast I) extra props level
+relinked cast leaf = leaf
 
 -- how many added messages
 abbrev pub added : Term → ℕ
@@ -82,15 +82,15 @@ added (Scope i r I extra props level) = added I
 added _ = 0
 
 -- the added messages numbered in the order of the text, where so many stand before the term
-abbrev pub numbered : ℕ → Term → Term
-numbered n (Com i o a e b x) = Com i (if begins_sq o then sq_name n else o) a e b x
-numbered n (Seq I J) = Seq (numbered n I) (numbered (n + added I) J)
-numbered n (Par I J) = Par (numbered n I) (numbered (n + added I) J)
-numbered n (If i r g I J) = If i r g (numbered n I) (numbered (n + added I) J)
-numbered n (While i r g I) = While i r g (numbered n I)
-numbered n (Scope i r I extra props level) = Scope i r (numbered n I) extra props level
-numbered n leaf = leaf
+abbrev pub with_numbers : ℕ → Term → Term
+with_numbers n (Com i o a e b x) = Com i (if begins_sq o then sq_name n else o) a e b x
+with_numbers n (Seq I J) = Seq (with_numbers n I) (with_numbers (n + added I) J)
+with_numbers n (Par I J) = Par (with_numbers n I) (with_numbers (n + added I) J)
+with_numbers n (If i r g I J) = If i r g (with_numbers n I) (with_numbers (n + added I) J)
+with_numbers n (While i r g I) = While i r g (with_numbers n I)
+with_numbers n (Scope i r I extra props level) = Scope i r (with_numbers n I) extra props level
+with_numbers n leaf = leaf
 
 -- the mended term, with the indices of its own text
 abbrev pub mended : List Role → Term → Term
-mended cast I = indexed (numbered 0 (joined cast I))
+mended cast I = indexed (with_numbers 0 (relinked cast I))

@@ -17,7 +17,7 @@ use Rattle.dioc_terms.specs.Terms.{Term, Skip, at_epoch, index_at, indexed, cast
 use Rattle.index_marks.specs.Indices.{indices}
 use Rattle.global_steps.specs.Follow.{State, follow, play_start, play}
 use Rattle.mend.specs.Names.{begins_sq, taken_name, taken_variable}
-use Rattle.mend.specs.Mended.{joined, mended}
+use Rattle.mend.specs.Mended.{relinked, mended}
 
 -- whether the entry puts or takes an added message
 abbrev pub is_added_tag : Tag → Bool
@@ -51,7 +51,7 @@ lessened f es = map (reindexed f) (filter (λ e. not (is_added_entry e)) es)
 -- the index in the input of the construct that has this place in the mended text: joining keeps the
 -- indices, and the marks of the mended text count its constructs
 abbrev pub index_before : List Role → Term → ℕ → Index
-index_before cast I place = unwrap_or (slice_get (indices (joined cast I)) place) (index_at 0)
+index_before cast I place = unwrap_or (slice_get (indices (relinked cast I)) place) (index_at 0)
 
 -- the text of the input for an epoch: the program's own, and of each update the rule's body
 abbrev pub text_at : Term → List Term → ℕ → Term

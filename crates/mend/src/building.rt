@@ -7,7 +7,7 @@ ghost use Rattle.dioc_terms.specs.Expressions.{expression};
 ghost use Rattle.dioc_terms.specs.Names.{is_name};
 ghost use Rattle.dioc_terms.specs.Terms.{term, Seq, Par, If, is_in, nodes};
 ghost use Rattle.mend.specs.Building.{IsStopOf};
-ghost use Rattle.mend.specs.Mended.{message, told, asked};
+ghost use Rattle.mend.specs.Mended.{message, told, led_in};
 
 use crate::ends::names;
 use crate::faults::Stop;
@@ -126,7 +126,7 @@ pub(crate) fn ask(
     first: &Role,
     role: &Role,
 ) -> Result<Choreo, Stop>
-    ensures made { IfOk result (λ made. term made ≡ asked (role_eq role.now first.now) (term part)
+    ensures made { IfOk result (λ made. term made ≡ led_in (role_eq role.now first.now) (term part)
         first.now role.now) }
     ensures spent { IfOk result (λ made. left.new + nodes (term made) ≡ left.old
         + nodes (term part)) }

@@ -5,7 +5,7 @@ ghost use Rattle.limits.specs.Limits.{most_nodes};
 ghost use Rattle.dioc_terms.specs.Terms.{term, indexed, self_messages, nodes};
 ghost use Rattle.connectedness.specs.Laws.{HasRoles};
 ghost use Rattle.mend.specs.Calls.{IsMendedFrom, IsMendFaultOf};
-ghost use Rattle.mend.specs.Mended.{numbered, mended};
+ghost use Rattle.mend.specs.Mended.{with_numbers, mended};
 ghost use Rattle.mend.specs.Names.{taken_name};
 
 use crate::faults::{MendFault, Stop};
@@ -77,7 +77,7 @@ pub fn mend_within(
 #[tactic(auto, using(crate::proofs::Bounds::numbered_size))]
 fn finished(alloc: Global, joined: Choreo) -> Result<Choreo, Memory>
     requires { nodes (term joined) ≤ 4294967295 }
-    ensures { IfOk result (λ made. term made ≡ indexed (numbered 0 (term joined))) }
+    ensures { IfOk result (λ made. term made ≡ indexed (with_numbers 0 (term joined))) }
 {
     let mut made = joined;
     number(alloc, &mut made, 0)?;

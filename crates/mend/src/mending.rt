@@ -3,7 +3,7 @@
 ghost use Rattle.std.specs.Prelude.{◌≡◌, ◌+◌, false, Some, IfOk, IfErr};
 ghost use Rattle.dioc_terms.specs.Terms.{term, Seq, nodes};
 ghost use Rattle.mend.specs.Building.{IsStopOf, beginner, is_joint, is_pair, teller};
-ghost use Rattle.mend.specs.Mended.{closed, opened, through, join, joined};
+ghost use Rattle.mend.specs.Mended.{closed, opened, through, join, relinked};
 
 use crate::building::{ask, both, choice, sequence, spend, tell};
 use crate::ends::{are_empty, first_beginner, is_empty, is_linked};
@@ -207,9 +207,9 @@ pub(crate) fn joined(
     cast: &[Role],
     choreo: &Choreo,
 ) -> Result<Choreo, Stop>
-    ensures made { IfOk result (λ made. term made ≡ joined cast.now (term choreo.now)) }
+    ensures made { IfOk result (λ made. term made ≡ relinked cast.now (term choreo.now)) }
     ensures spent { IfOk result (λ made. left.new + nodes (term made) ≡ left.old) }
-    ensures stop { IfErr result (IsStopOf left.old (nodes (joined cast.now (term choreo.now)))) }
+    ensures stop { IfErr result (IsStopOf left.old (nodes (relinked cast.now (term choreo.now)))) }
 {
     spend(left, 1)?;
     match choreo {

@@ -79,11 +79,11 @@ abbrev pub changes_in : List Entry → ℕ
 changes_in H = length (filter (λ e. is_none (doer e)) H)
 
 -- the script's next change is due after a history
-abbrev pub due_after : PlainBundle → List Entry → Bool
-due_after b H = change_due b.script (changes_in H) (length (visible H))
+abbrev pub change_is_due : PlainBundle → List Entry → Bool
+change_is_due b H = change_due b.script (changes_in H) (length (visible H))
 
 -- no entry of a role stands directly after a part of the history after which the next change is due
 abbrev pub IsPrompt : PlainBundle → List Entry → Type 0
 IsPrompt b H =
     (before : List Entry) (e : Entry) (rest : List Entry) → H ≡ before ++ e ∷ rest
-    → is_some (doer e) ≡ true → due_after b before ≡ false
+    → is_some (doer e) ≡ true → change_is_due b before ≡ false

@@ -17,7 +17,7 @@ use Rattle.marked_laws.proofs.Premise.{Known}
 use Rattle.marked_laws.proofs.Shapes.{none_some, some_same}
 use Rattle.net_core.proofs.MoveLemmas.{some_got}
 use Rattle.net_drive.specs.Driven.{driven_from, turns_for, driven, first_auxiliary, may_come}
-use Rattle.net_drive.specs.Laws.{Drives, DrivenRuns, IsShown, SameTraces, DrivenExactly, StraysAreExact}
+use Rattle.net_drive.specs.Laws.{Drives, DrivenRuns, IsVisibleOfRun, SameTraces, DrivenExactly, StraysAreExact}
 use Rattle.net_drive.proofs.Coming.{none_quiet, comes}
 use Rattle.net_drive.proofs.Driving.{follow_shown, and_then_got, Drove, drove, drives}
 

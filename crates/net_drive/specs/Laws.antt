@@ -26,15 +26,15 @@ DrivenRuns =
     → IsSomeAnd (driven b t) (Drives b t)
 
 -- some run of the network shows exactly the trace
-abbrev pub IsShown : PlainBundle → List Entry → Type 0
-IsShown b t = (H : List Entry) × IsSome (network_run b H) × (visible H ≡ t)
+abbrev pub IsVisibleOfRun : PlainBundle → List Entry → Type 0
+IsVisibleOfRun b t = (H : List Entry) × IsSome (network_run b H) × (visible H ≡ t)
 
 -- Same traces: the visible traces of the network are exactly the settled traces that the
 -- choreography plays.
 abbrev pub SameTraces : Type 0
 SameTraces =
     (b : PlainBundle) (t : List Entry) → IsSound b
-    → (IsSome (play b t) × IsSettled b t) ↔ IsShown b t
+    → (IsSome (play b t) × IsSettled b t) ↔ IsVisibleOfRun b t
 
 -- Driven exactly: a trace of visible entries is driven exactly where it is settled and the
 -- choreography plays it.

@@ -12,7 +12,7 @@ use Rattle.marked_laws.specs.Network.{Network, NextNetwork, change_step, network
 use Rattle.marked_laws.proofs.Networks.{ChangeStep, RoleStep, network_cases}
 use Rattle.marked_laws.proofs.Shapes.{none_some, same_head, some_nil, some_same}
 use Rattle.net_core.specs.declared.moves.Move.TheVariants as move
-use Rattle.net_core.specs.Schedule.{IsPrompt, change_due, changes_in, due_after, move_step, moves, role_moves, scheduled}
+use Rattle.net_core.specs.Schedule.{IsPrompt, change_due, changes_in, change_is_due, move_step, moves, role_moves, scheduled}
 use Rattle.net_core.proofs.ScriptLemmas.{change_is_nobodys}
 
 seen_one : (e : Entry) (seen : ℕ) → visible_after e seen ≡ seen + length (visible (e ∷ []))
@@ -80,7 +80,7 @@ run_counts b N (e ∷ H) M h = by_step (network_step b N e) refl h (λ L k. run_
         }
 
 -- whether a change is due in the network after a history
-due_there : (b : PlainBundle) (H : List Entry) (N : Network) → network_run b H ≡ Some N → due_after b H ≡ change_due b.script N.changes N.visible
+due_there : (b : PlainBundle) (H : List Entry) (N : Network) → network_run b H ≡ Some N → change_is_due b H ≡ change_due b.script N.changes N.visible
 due_there b H N h =
     let counts = run_counts (setting b) (network_start b) H N h in
     let changes : changes_in H ≡ N.changes = omega (arith, counts.changes) in
@@ -124,9 +124,9 @@ last_or_before (z ∷ zs) (y ∷ ys) e x rest h =
     (λ earlier. inr (earlier.0, ap₂ (λ x xs. x ∷ xs) parts.0 earlier.1))
     (last_or_before zs ys e x rest parts.1)
 
-prompt_more : (b : PlainBundle) (H : List Entry) (e : Entry) → IsPrompt b H → (is_some (doer e) ≡ true → due_after b H ≡ false) → IsPrompt b (H ++ e ∷ [])
+prompt_more : (b : PlainBundle) (H : List Entry) (e : Entry) → IsPrompt b H → (is_some (doer e) ≡ true → change_is_due b H ≡ false) → IsPrompt b (H ++ e ∷ [])
 prompt_more b H e prompt last before x rest is does =
-    ⊎_elim (λ same. ap (due_after b) same.0 ∙ last (ap (λ y. is_some (doer y)) (sym same.1) ∙ does))
+    ⊎_elim (λ same. ap (change_is_due b) same.0 ∙ last (ap (λ y. is_some (doer y)) (sym same.1) ∙ does))
     (λ earlier. prompt before x earlier.0 earlier.1 does)
     (last_or_before H before e x rest is)
 

@@ -56,7 +56,7 @@ pub record Draws (words : List (List ℕ)) (left before after : Option (List ℕ
   pub takes : Appends before after drawn
 
 -- the line of this number of the text that the source's bytes say may not stand where it stands
-pub record Stops (left : Option (List ℕ)) (number : ℕ) : Type 0 where
+pub record DrawingStops (left : Option (List ℕ)) (number : ℕ) : Type 0 where
   pub text : List ℕ
   pub told : IfSome left (λ bytes. text ≡ bytes)
   pub line : StopsAt text number

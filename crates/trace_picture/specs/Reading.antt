@@ -10,7 +10,7 @@ use Rattle.trace_syntax.specs.Grammar.{IsClosedTrace, IsBadLine}
 
 -- a line says these entries, and the last line where it has one: with a `}` behind it, it is the
 -- lines of a trace up to that `}`
-pub record Says (line : List ℕ) (entries : List Entry) (end : Option Last) : Type 0 where
+pub record LineSays (line : List ℕ) (entries : List Entry) (end : Option Last) : Type 0 where
   pub found : List Lexeme
   pub to : List Lexeme
   pub spells : HasLexemes (line ++ codes "\n}") found
@@ -37,7 +37,7 @@ pub record AddsLine (line : List ℕ) (entries : List Entry) (before : Option La
     (all : List Entry) (last : Option Last) : Type 0 where
   pub more : List Entry
   pub end : Option Last
-  pub says : Says line more end
+  pub says : LineSays line more end
   pub adds : Adds entries before more end all last
 
 -- so many lines of a text, up to a rest of it, say these entries and a last line
@@ -71,7 +71,7 @@ StandsBehind before more end = (before ≢ None) × (more ≡ [] → end ≡ Non
 -- a line may not stand where this is the last line so far
 pub data CannotStand (line : List ℕ) (before : Option Last) : Type 0 where
   unread : IsUnread line → CannotStand line before
-  behind_last : {more : List Entry} {end : Option Last} → Says line more end
+  behind_last : {more : List Entry} {end : Option Last} → LineSays line more end
       → StandsBehind before more end → CannotStand line before
 
 -- the lines of a text before the one of this number, counted from 1, are read, and that one may not

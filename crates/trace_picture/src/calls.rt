@@ -3,7 +3,7 @@
 
 ghost use Rattle.std.specs.Prelude.{◌≡◌, ◌≢◌, ◌≤◌, ℕ, Err, IfErr, IfOk, OnOk, OnErr, MatchOption, vec_len};
 ghost use Rattle.aioc_io.specs.Faults.{Rose};
-ghost use Rattle.trace_picture.specs.Calls.{style_named, style_of, bytes_of_words, fault_code, Made, Draws, Stops};
+ghost use Rattle.trace_picture.specs.Calls.{style_named, style_of, bytes_of_words, fault_code, Made, Draws, DrawingStops};
 ghost use Rattle.trace_picture.specs.Reading.{StopsAt};
 ghost use Rattle.trace_picture.specs.declared.calls.DrawFault.TheVariants as draw_fault;
 

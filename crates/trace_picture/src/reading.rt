@@ -2,7 +2,7 @@
 
 ghost use Rattle.std.specs.Prelude.{◌≡◌, ◌≢◌, ℕ, ◌<◌, ◌≤◌, [], length, Err, IfOk, OnOk, IsErrOf};
 ghost use Rattle.aioc_tokens.specs.Tokens.{line_length};
-ghost use Rattle.trace_picture.specs.Reading.{Says, Adds, AddsLine, Reads, first_line_of, behind_line, IsUnread, StandsBehind, CannotStand, StopsAt};
+ghost use Rattle.trace_picture.specs.Reading.{LineSays, Adds, AddsLine, Reads, first_line_of, behind_line, IsUnread, StandsBehind, CannotStand, StopsAt};
 ghost use Rattle.trace_picture.specs.declared.reading.LineFault.TheVariants as line_fault;
 ghost use Rattle.trace_picture.specs.declared.reading.ReadFault.TheVariants as read_fault;
 
@@ -42,7 +42,7 @@ impl From<AllocError> for LineFault {
 
 /// What a line says.
 fn read_line(alloc: Global, line: &[u8]) -> Result<Trace, LineFault>
-    ensures ok { IfOk result (λ said. Says line.now said.entries said.last) }
+    ensures ok { IfOk result (λ said. LineSays line.now said.entries said.last) }
     ensures bad { IsErrOf result LineFault.NoLine → IsUnread line.now }
 {
     let mut closed = Vec::from_slice(alloc, line)?;

@@ -2,7 +2,7 @@ use Rattle.std.proofs.Common.{◌+◌, ◌-◌, sym, subst}
 use Rattle.expr_syntax.specs.Grammar.{ExpressionAt}
 use Rattle.expr_syntax.specs.declared.levels.ExprKind.TheVariants as kind
 use Rattle.dioc_syntax.specs.Choreographies.{Step}
-use Rattle.dioc_syntax.specs.Readers.{received_by, HeadAt, StandsAt}
+use Rattle.dioc_syntax.specs.Readers.{received_by, HeadAt, FormStandsAt}
 use Rattle.dioc_syntax.proofs.StepFindings.{interaction_found, interaction_missing, interaction_unreceived}
 use Rattle.dioc_syntax.proofs.steps.interaction_at.Goals as goal
 
@@ -16,7 +16,7 @@ returns-in-Ok-None c =
     let none = interaction_unreceived c.args.place.room c.args.place.earlier c.args.reader.now.text.now c.args.place.at c.args.operation c.args.sender c.requires.head c.in-Some.sent
     (subst (ExpressionAt kind.Step (c.args.place.room - 1) c.args.reader.now.text.now (c.args.place.at + 4)) c.in-Some.is c.in_ok-sent.ensures)
     (subst (HeadAt received_by 6 c.args.reader.now.text.now c.in-Some.sent.1) c.in-Ok-None.field-0-is c.in-Ok-None.ensures) c.args.reader.now.version c.args.place.deep c.requires.some in
-    subst (StandsAt c.args.reader.now Step c.args.place) (sym c.nothing_found.ensures) none
+    subst (FormStandsAt c.args.reader.now Step c.args.place) (sym c.nothing_found.ensures) none
 
 pub returns : goal.returns
 returns c =

@@ -1,6 +1,6 @@
 -- Why a line may not stand where it stands.
 use Rattle.std.proofs.Common.{rules, subst, IsErrOf}
-use Rattle.trace_picture.specs.Reading.{Says, IsUnread, unread, behind_last}
+use Rattle.trace_picture.specs.Reading.{LineSays, IsUnread, unread, behind_last}
 use Rattle.trace_picture.specs.declared.reading.LineFault.TheVariants as line_fault
 use Rattle.trace_picture.proofs.reading.next_line.Goals as goal
 
@@ -11,5 +11,5 @@ returns-in_err-said-clause-bad c = λ is.
 
 pub returns-clause-bad : goal.returns-clause-bad
 returns-clause-bad c = λ is.
-    behind_last (subst (λ line. Says line c.in_ok-said.said.entries c.in_ok-said.said.last) c.first_line_of.ensures c.in_ok-said.ensures.ok)
+    behind_last (subst (λ line. LineSays line c.in_ok-said.said.entries c.in_ok-said.said.last) c.first_line_of.ensures c.in_ok-said.ensures.ok)
     (c.add_said.ensures.bad is)
