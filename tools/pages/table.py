@@ -1,8 +1,8 @@
 """The table of cases, as far as it calls the program: `serve_alone WORD..: TEXT`, and the answer below it."""
 import re
 
-TABLE = "crates/aioc_cases/stdout"
-INPUT = "crates/aioc_cases/stdin"
+TABLE = "crates/service_cases/stdout"
+TABLES = (TABLE, "crates/aioc_cases/stdout")
 
 
 def read(path):
@@ -64,9 +64,13 @@ def read_rows():
 
 
 def check_input():
-    """The table without its answers is what the program of cases reads."""
-    asked = "".join(f"{it}\n" for it in lines_of(read(TABLE)) if not it.startswith("  "))
-    return [] if asked == read(INPUT) else [f"{INPUT}: it isn't {TABLE} without its answers"]
+    """A table without its answers is what its program of cases reads."""
+    problems = []
+    for table in TABLES:
+        given = table.replace("stdout", "stdin")
+        asked = "".join(f"{it}\n" for it in lines_of(read(table)) if not it.startswith("  "))
+        problems += [] if asked == read(given) else [f"{given}: it isn't {table} without its answers"]
+    return problems
 
 
 def find(rows, words, text):

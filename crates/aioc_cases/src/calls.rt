@@ -8,34 +8,34 @@ mod expressions;
 mod indices;
 mod lexemes;
 mod links;
-mod projections;
 mod refusals;
 mod rules;
-mod services;
 mod sizes;
 mod spellings;
-mod sweeps;
 mod tokenizing;
 mod traces;
 mod values;
 mod words;
 
-use crate::cases::Case;
-use crate::problems::Problem;
+use case_tables::{Answers, Case, Problem};
 use std::alloc::Global;
 
-/// The lines that answer a case.
-pub fn answer(alloc: Global, case: &Case) -> Result<Vec<u8>, Problem> {
-    let mut out = Vec::new(alloc);
-    let is_answered = answer_piece(alloc, case, &mut out)?
-        || answer_choreography(alloc, case, &mut out)?
-        || answer_message(alloc, case, &mut out)?
-        || answer_whole(alloc, case, &mut out)?
-        || answer_service(alloc, case, &mut out)?;
-    if is_answered {
-        Ok(out)
-    } else {
-        Err(Problem::Bad("there is no such call"))
+/// The calls of this program.
+#[derive(Clone, Copy, Debug)]
+pub struct TextCalls;
+
+impl Answers for TextCalls {
+    fn answer(&self, alloc: Global, case: &Case) -> Result<Vec<u8>, Problem> {
+        let mut out = Vec::new(alloc);
+        let is_answered = answer_piece(alloc, case, &mut out)?
+            || answer_choreography(alloc, case, &mut out)?
+            || answer_message(alloc, case, &mut out)?
+            || answer_whole(alloc, case, &mut out)?;
+        if is_answered {
+            Ok(out)
+        } else {
+            Err(Problem::Bad("there is no such call"))
+        }
     }
 }
 
@@ -62,7 +62,6 @@ fn answer_choreography(alloc: Global, case: &Case, out: &mut Vec<u8>) -> Result<
         b"indices" => indices::answer(alloc, case, out)?,
         b"roles" => casts::answer(alloc, case, out)?,
         b"check" => links::answer(alloc, case, out)?,
-        b"project" => projections::answer(alloc, case, out)?,
         _ => return Ok(false),
     }
     Ok(true)
@@ -90,20 +89,6 @@ fn answer_whole(alloc: Global, case: &Case, out: &mut Vec<u8>) -> Result<bool, P
         b"write_bundle" => bundles::answer_written(alloc, case, out)?,
         b"accept" => refusals::answer(alloc, case, out)?,
         b"read_words" => words::answer(alloc, case, out)?,
-        _ => return Ok(false),
-    }
-    Ok(true)
-}
-
-// Answers a call of the top call, and says whether it is one.
-fn answer_service(alloc: Global, case: &Case, out: &mut Vec<u8>) -> Result<bool, Problem> {
-    match case.call.as_slice() {
-        b"serve_alone" => services::answer(alloc, case, out)?,
-        b"serve_over" => services::answer_over(alloc, case, out)?,
-        b"serve_endless" => services::answer_endless(alloc, case, out)?,
-        b"each_read" => sweeps::answer_reads(alloc, case, out)?,
-        b"each_write" => sweeps::answer_writes(alloc, case, out)?,
-        b"each_front" => sweeps::answer_fronts(alloc, case, out)?,
         _ => return Ok(false),
     }
     Ok(true)

@@ -1,8 +1,7 @@
 //! `leader_plan LEADER OTHER..: TAG`: the messages by which a leader tells the other roles.
 
-use crate::cases::Case;
-use crate::problems::Problem;
 use aux_messages::leader_plan;
+use case_tables::{Case, Problem};
 use dioc_terms::{Entry, Index, Key, Name, Note, Role, Tag};
 use std::alloc::Global;
 use text_pieces::write_bytes;

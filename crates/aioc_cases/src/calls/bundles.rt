@@ -1,9 +1,8 @@
 //! `read_bundle: TEXT` and `write_bundle: TEXT`: whether a text spells a bundle, and how that
 //! bundle is written.
 
-use crate::cases::Case;
-use crate::problems::Problem;
 use bundle_text::{read_bundle, write_bundle};
+use case_tables::{Case, Problem};
 use dioc_terms::SyntaxFault;
 use std::alloc::Global;
 use text_pieces::write_bytes;

@@ -1,8 +1,6 @@
 //! `roles: TEXT`: the roles of a choreography, in the order in which its text first names them.
 
-use crate::cases::Case;
-use crate::problems::Problem;
-use crate::wholes::whole_choreo;
+use case_tables::{Case, Problem, whole_choreo};
 use dioc_terms::roles;
 use std::alloc::Global;
 use text_pieces::write_bytes;

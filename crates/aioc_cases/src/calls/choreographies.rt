@@ -1,8 +1,6 @@
 //! `read_choreo VERSION: TEXT`: the longest choreography at the front of a text.
 
-use crate::cases::Case;
-use crate::problems::Problem;
-use crate::wholes::{Front, front_choreo, write_count, write_place};
+use case_tables::{Case, Front, Problem, front_choreo, write_count, write_place};
 use dioc_syntax::write_choreo;
 use std::alloc::Global;
 

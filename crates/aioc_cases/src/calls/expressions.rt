@@ -1,9 +1,7 @@
 //! `read_expr step: TEXT` and `read_expr condition: TEXT`: the longest expression at the front of a
 //! text.
 
-use crate::cases::Case;
-use crate::problems::Problem;
-use crate::wholes::{Front, front_expr, write_count, write_place};
+use case_tables::{Case, Front, Problem, front_expr, write_count, write_place};
 use expr_syntax::{ExprKind, write_expr};
 use std::alloc::Global;
 

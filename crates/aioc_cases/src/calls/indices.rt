@@ -1,8 +1,6 @@
 //! `indices: TEXT`: the indices of a choreography.
 
-use crate::cases::Case;
-use crate::problems::Problem;
-use crate::wholes::whole_choreo;
+use case_tables::{Case, Problem, whole_choreo};
 use dioc_terms::{Choreo, Index, Memory};
 use index_marks::distinct;
 use std::alloc::Global;

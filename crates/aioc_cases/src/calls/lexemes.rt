@@ -1,9 +1,7 @@
 //! `lexemes: TEXT`: what the grammar sees of a text, a line for each lexeme and one for the end.
 
-use crate::cases::Case;
-use crate::problems::Problem;
-use crate::wholes::write_place;
 use aioc_tokens::{Lexed, Sort, TokenFault, place, tokens};
+use case_tables::{Case, Problem, write_place};
 use std::alloc::Global;
 use text_pieces::write_bytes;
 

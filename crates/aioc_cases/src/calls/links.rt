@@ -1,8 +1,6 @@
 //! `check: TEXT`: whether a choreography is connected.
 
-use crate::cases::Case;
-use crate::problems::Problem;
-use crate::wholes::whole_choreo;
+use case_tables::{Case, Problem, whole_choreo};
 use connectedness::{CheckFault, check};
 use dioc_terms::{Choreo, Index, Memory, Role, casts_are_roles, roles};
 use std::alloc::Global;

@@ -1,8 +1,7 @@
 //! `accept: TEXT`: whether the bundle that a text spells may run.
 
-use crate::cases::Case;
-use crate::problems::Problem;
 use bundle_text::read_bundle;
+use case_tables::{Case, Problem};
 use dioc_terms::SyntaxFault;
 use rule_checks::{Refusal, accept};
 use std::alloc::Global;

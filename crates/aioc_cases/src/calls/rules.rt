@@ -2,10 +2,8 @@
 //! change at the front of a text.
 
 use crate::calls::choreographies::version_of;
-use crate::cases::Case;
-use crate::problems::Problem;
-use crate::wholes::{MOST_TOKENS, write_count, write_place};
 use aioc_tokens::{TokenFault, tokens};
+use case_tables::{Case, MOST_TOKENS, Problem, write_count, write_place};
 use dioc_terms::{Memory, Rule, SyntaxFault};
 use rule_syntax::{read_change, read_rule, write_rule};
 use std::alloc::Global;

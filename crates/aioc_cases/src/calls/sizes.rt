@@ -1,8 +1,6 @@
 //! `nodes: TEXT` and `depth: TEXT`: the size of a choreography.
 
-use crate::cases::Case;
-use crate::problems::Problem;
-use crate::wholes::whole_choreo;
+use case_tables::{Case, Problem, whole_choreo};
 use index_marks::{depth, nodes};
 use std::alloc::Global;
 use text_pieces::write_number;

@@ -1,7 +1,6 @@
 //! `name: BYTES` and `text: BYTES`: whether bytes are a name, or the value of a text.
 
-use crate::cases::Case;
-use crate::problems::Problem;
+use case_tables::{Case, Problem};
 use dioc_terms::{Memory, Name, NameFault, Text, TextFault};
 use std::alloc::Global;
 use text_pieces::write_bytes;

@@ -1,9 +1,7 @@
 //! `tokens: TEXT`: the kinds and places of the tokens, or the first byte that is in none.
 
-use crate::cases::Case;
-use crate::problems::Problem;
-use crate::wholes::write_place;
 use aioc_tokens::{Kind, Token, TokenFault, tokens};
+use case_tables::{Case, Problem, write_place};
 use dioc_terms::Memory;
 use std::alloc::Global;
 use text_pieces::{write_bytes, write_number};

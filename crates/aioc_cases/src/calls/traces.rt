@@ -1,10 +1,8 @@
 //! `read_trace: TEXT`: the lines of a trace up to a `}`. `trace_line: TEXT` and `json_line: TEXT`:
 //! a line, written again as it is and as JSON.
 
-use crate::cases::Case;
-use crate::problems::Problem;
-use crate::wholes::write_place;
 use aioc_tokens::{TokenFault, tokens};
+use case_tables::{Case, Problem, write_place};
 use dioc_terms::{Entry, Memory, Trace};
 use std::alloc::Global;
 use text_pieces::{write_bytes, write_number};

@@ -1,8 +1,6 @@
 //! `eval: TEXT`: the value of an expression where no variable is set.
 
-use crate::cases::Case;
-use crate::problems::Problem;
-use crate::wholes::whole_expr;
+use case_tables::{Case, Problem, whole_expr};
 use dioc_terms::{Items, Store, eval};
 use expr_syntax::write_value;
 use std::alloc::Global;

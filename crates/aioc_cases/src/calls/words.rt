@@ -1,7 +1,6 @@
 //! `read_words WORD..:`: the command that the words spell.
 
-use crate::cases::Case;
-use crate::problems::Problem;
+use case_tables::{Case, Problem};
 use command_words::{Command, read_words};
 use std::alloc::Global;
 use text_pieces::write_bytes;

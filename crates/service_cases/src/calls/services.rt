@@ -8,12 +8,9 @@
 //! `serve_endless WORD..: BUNDLE`: the same with a source that gives spaces behind the text, and
 //! never ends.
 
-use crate::cases::Case;
 use crate::devices::{Devices, Outcome, serve};
 use crate::endless::serve_endless;
-use crate::expansions::read_number;
-use crate::problems::Problem;
-use crate::tables::write_lines;
+use case_tables::{Case, Problem, read_number, write_lines};
 use dioc_terms::Memory;
 use std::alloc::Global;
 use text_pieces::{write_bytes, write_number};

@@ -10,9 +10,8 @@
 //!
 //! `each_front WORD..: BUNDLE`: the input is the first K bytes of the text, K from 0 on.
 
-use crate::cases::Case;
 use crate::devices::{Course, Devices, Outcome, serve};
-use crate::problems::Problem;
+use case_tables::{Case, Problem};
 use dioc_terms::Memory;
 use std::alloc::Global;
 use text_pieces::{write_bytes, write_number};

@@ -1,8 +1,6 @@
 //! `project ROLE: TEXT`: the process of one role of a choreography.
 
-use crate::cases::Case;
-use crate::problems::Problem;
-use crate::wholes::whole_choreo;
+use case_tables::{Case, Problem, whole_choreo};
 use dioc_terms::{Choreo, Memory, Name, NameFault, Role, casts_are_roles, roles};
 use projection::project;
 use std::alloc::Global;

@@ -2,9 +2,9 @@
 
 ghost use Rattle.std.specs.Prelude.{◌≤◌};
 
-use crate::problems::Problem;
 use aioc_io::{MemSink, MemSource, Source};
 use aioc_top::serve_alone;
+use case_tables::Problem;
 use std::alloc::Global;
 
 // The most bytes that one call of a usual device moves.

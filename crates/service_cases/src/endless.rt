@@ -3,8 +3,8 @@
 ghost use Rattle.std.specs.Prelude.{None};
 
 use crate::devices::{Devices, Outcome, serve_from};
-use crate::problems::Problem;
 use aioc_io::{Failed, Source, SureSource};
+use case_tables::Problem;
 use std::alloc::Global;
 
 // A source of given bytes and of spaces behind them, without an end. It tells no bytes.

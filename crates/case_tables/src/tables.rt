@@ -3,29 +3,57 @@
 //! An empty line and a line that begins with `#` are for the reader. A line that begins with `|`
 //! adds a line to the text of the case above it. Every other line begins a case.
 
-use crate::calls::answer;
 use crate::cases::Case;
 use crate::problems::Problem;
+use aioc_io::{Sink, Source, read_all, write_all};
 use dioc_terms::Memory;
 use std::alloc::Global;
 use text_pieces::write_bytes;
 
-/// The lines of the table, with the answer of each case behind its lines.
-pub fn answer_table(alloc: Global, table: &[u8]) -> Result<Vec<u8>, Memory> {
+// The most bytes of a table.
+const TABLE_LIMIT: usize = 1_048_576;
+
+/// What answers the cases of a table.
+pub trait Answers {
+    /// The lines that answer a case.
+    fn answer(&self, alloc: Global, case: &Case) -> Result<Vec<u8>, Problem>;
+}
+
+/// Reads a table from the source, and writes it to `out` with the answers, or says why not.
+pub fn answer_source<A: Answers, S: Source, O: Sink>(
+    alloc: Global,
+    answers: &A,
+    source: &mut S,
+    out: &mut O,
+) -> Result<(), &'static str> {
+    let Ok(table) = read_all(alloc, source, TABLE_LIMIT) else {
+        return Err("the table can't be read whole");
+    };
+    let Ok(lines) = answer_table(alloc, answers, &table) else {
+        return Err("out of memory");
+    };
+    match write_all(out, &lines) {
+        Ok(()) => Ok(()),
+        Err(_) => Err("the answers can't be written"),
+    }
+}
+
+// The lines of the table, with the answer of each case behind its lines.
+fn answer_table<A: Answers>(alloc: Global, answers: &A, table: &[u8]) -> Result<Vec<u8>, Memory> {
     let mut out = Vec::new(alloc);
     let mut begun = None;
     for line in lines(table).split(|byte| *byte == b'\n') {
         begun = match line {
             [b'|', rest @ ..] => continued(begun, rest),
             _ => {
-                write_answer(alloc, begun, &mut out)?;
+                write_answer(alloc, answers, begun, &mut out)?;
                 begin(alloc, line)
             }
         };
         write_bytes(line, &mut out)?;
         write_bytes(b"\n", &mut out)?;
     }
-    write_answer(alloc, begun, &mut out)?;
+    write_answer(alloc, answers, begun, &mut out)?;
     Ok(out)
 }
 
@@ -60,8 +88,9 @@ fn with_line(mut case: Case, line: &[u8]) -> Result<Case, Problem> {
 }
 
 // The lines of the answer to a case, where there is one.
-fn write_answer(
+fn write_answer<A: Answers>(
     alloc: Global,
+    answers: &A,
     begun: Option<Result<Case, Problem>>,
     out: &mut Vec<u8>,
 ) -> Result<(), Memory> {
@@ -70,7 +99,7 @@ fn write_answer(
         Some(Err(problem)) => return write_problem(problem, out),
         Some(Ok(case)) => case,
     };
-    match answer(alloc, &case) {
+    match answers.answer(alloc, &case) {
         Ok(lines) => write_lines(b"  ", &lines, out),
         Err(problem) => write_problem(problem, out),
     }

@@ -1,0 +1,95 @@
+//! Each command twice over the same input: at most one request for memory is refused, so that one
+//! of the two answers is whole, and tells what the other may be.
+
+use crate::bundles::{BUYER_SELLER, BUYER_SELLER_TRACE, DRAFT, EVERY_FORM, PLAYED, STOPPED};
+use crate::calls::{Outcome, is_whole, may_end_so, serve};
+use aioc_top::Status;
+use std::alloc::AllocError;
+use std::test::Fail;
+
+fn calls(rt: &HostRuntime, words: &[&str], input: &[u8]) -> Result<(Outcome, Outcome), AllocError> {
+    let first = serve(rt.alloc(), words, input)?;
+    let second = serve(rt.alloc(), words, input)?;
+    Ok((first, second))
+}
+
+// Whether both calls end as they may, and a whole one with this status.
+fn end_as_they_may(rt: &HostRuntime, words: &[&str], input: &[u8], status: Status) -> bool {
+    let Ok((first, second)) = calls(rt, words, input) else {
+        // (memory that the devices of a test want says nothing of the call)
+        return true;
+    };
+    let whole = if is_whole(&first) { &first } else { &second };
+    whole.status == status && may_end_so(&first, whole) && may_end_so(&second, whole)
+}
+
+#[test]
+fn refused_step(rt: HostRuntime) -> Result<(), Fail> {
+    let Ok(made) = serve(rt.alloc(), &["step"], BUYER_SELLER) else {
+        return Ok(());
+    };
+    match made.status {
+        Status::Memory => assert_eq!(rt; made.text.len(), 0),
+        Status::WriteFault => assert!(rt; BUYER_SELLER_TRACE.starts_with(&made.text)),
+        status => {
+            assert_eq!(rt; status, Status::Done);
+            assert!(rt; made.text.as_slice() == BUYER_SELLER_TRACE);
+        }
+    }
+    Ok(())
+}
+
+#[test]
+fn refused_step_of_every_form(rt: HostRuntime) -> Result<(), Fail> {
+    let words = ["step", "--aux", "--seed", "7"];
+    assert!(rt; end_as_they_may(&rt, &words, EVERY_FORM, Status::Done));
+    Ok(())
+}
+
+#[test]
+fn refused_step_in_json(rt: HostRuntime) -> Result<(), Fail> {
+    assert!(rt; end_as_they_may(&rt, &["step", "--aux", "--json"], EVERY_FORM, Status::Done));
+    Ok(())
+}
+
+#[test]
+fn refused_check(rt: HostRuntime) -> Result<(), Fail> {
+    assert!(rt; end_as_they_may(&rt, &["check"], EVERY_FORM, Status::Done));
+    Ok(())
+}
+
+#[test]
+fn refused_project(rt: HostRuntime) -> Result<(), Fail> {
+    assert!(rt; end_as_they_may(&rt, &["project"], EVERY_FORM, Status::Done));
+    Ok(())
+}
+
+#[test]
+fn refused_replay(rt: HostRuntime) -> Result<(), Fail> {
+    assert!(rt; end_as_they_may(&rt, &["replay"], PLAYED, Status::Done));
+    Ok(())
+}
+
+#[test]
+fn refused_upgrade(rt: HostRuntime) -> Result<(), Fail> {
+    assert!(rt; end_as_they_may(&rt, &["upgrade"], EVERY_FORM, Status::Done));
+    Ok(())
+}
+
+#[test]
+fn refused_mend(rt: HostRuntime) -> Result<(), Fail> {
+    assert!(rt; end_as_they_may(&rt, &["mend"], DRAFT, Status::Done));
+    Ok(())
+}
+
+#[test]
+fn refused_resume(rt: HostRuntime) -> Result<(), Fail> {
+    assert!(rt; end_as_they_may(&rt, &["resume", "--aux"], STOPPED, Status::Done));
+    Ok(())
+}
+
+#[test]
+fn refused_gen(rt: HostRuntime) -> Result<(), Fail> {
+    assert!(rt; end_as_they_may(&rt, &["gen", "1", "3"], b"", Status::Done));
+    Ok(())
+}
