@@ -131,7 +131,7 @@ pub(crate) fn ask(
     ensures spent { IfOk result (λ made. left.new + nodes (term made) ≡ left.old
         + nodes (term part)) }
     ensures stop { IfErr result (IsStopOf (left.old + nodes (term part))
-        (nodes (asked (role_eq role.now first.now) (term part) first.now role.now))) }
+        (nodes (led_in (role_eq role.now first.now) (term part) first.now role.now))) }
 {
     if role == first {
         return Ok(part);
