@@ -146,7 +146,7 @@ pub fn draw<S: Source, O: Sink>(
     ensures silent { IfErr result (λ fault. fault ≢ DrawFault.Write
         → O.state out.new ≡ O.state out.old) }
     ensures bad { (n : ℕ) → result ≡ Err (draw_fault.BadLine n)
-        → Stops (S.state source.old).left n }
+        → DrawingStops (S.state source.old).left n }
 {
     let style = match style_of(words) {
         Some(style) => style,
