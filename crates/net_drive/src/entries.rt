@@ -67,8 +67,8 @@ pub(crate) fn take_turn<R: Runs>(
     }
 }
 
-// Makes the move that the entry shows, and says what became of the entry. Where it may not come yet,
-// the net is unchanged.
+// Makes the move that the entry shows, and says what became of the entry. Where it may not come
+// yet, the net is unchanged.
 fn try_entry<R: Runs>(net: &mut Net<R>, next: &Move, entry: &Entry) -> Result<Tried, Memory>
     requires run { IsSoundRun net.old }
     requires room { length net.old.history < net.old.limit }
@@ -114,8 +114,8 @@ pub(crate) fn take_auxiliary<R: Runs>(
     }
 }
 
-// Makes the move, where it can be made, and brings the agenda up to date. Where it can't, the net is
-// unchanged.
+// Makes the move, where it can be made, and brings the agenda up to date. Where it can't, the net
+// is unchanged.
 fn make_on<R: Runs>(net: &mut Net<R>, agenda: &mut [ReadyRole], next: &Move) -> Result<bool, Memory>
     requires run { IsSoundRun net.old }
     requires room { length net.old.history < net.old.limit }

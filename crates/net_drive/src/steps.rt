@@ -89,8 +89,8 @@ fn no_step(fault: StepFault) -> Result<bool, Memory>
 // Makes the script's next change, where it may come.
 fn change<R: Runs>(net: &mut Net<R>) -> Result<bool, Memory>
     requires room { length net.old.history < net.old.limit }
-    ensures makes { IfOk result (Makes (change_step (setting (bundle_of net.old)) (network_of net.old))
-        net.old net.new) }
+    ensures makes { IfOk result (Makes (change_step (setting (bundle_of net.old))
+        (network_of net.old)) net.old net.new) }
     ensures bundle { net.new.bundle ≡ net.old.bundle }
     ensures same_limit { net.new.limit ≡ net.old.limit }
 {
