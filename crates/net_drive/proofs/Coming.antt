@@ -175,7 +175,7 @@ module _ (known : Known) (offered_steps : OffersAreSteps) (b : PlainBundle) (sou
       pub offered : is_offered a (offers q (N.processes q)) ≡ true
       pub ready : is_ready N a ≡ true
 
-    act_done : (q : Role) (a : Act) (outcome : NextNetwork) → act_step (setting b) N q a ≡ Some outcome → ActDone q a outcome
+    pub act_done : (q : Role) (a : Act) (outcome : NextNetwork) → act_step (setting b) N q a ≡ Some outcome → ActDone q a outcome
     act_done q a outcome h =
         let placed = placed_run known b H N sound runs in
         let M : Mark = placed.0 in
@@ -201,7 +201,7 @@ module _ (known : Known) (offered_steps : OffersAreSteps) (b : PlainBundle) (sou
         ready_of M marks d is fits (act.Scope i) same = refl
 
     -- an act that is offered and ready can be done
-    act_goes : (q : Role) (a : Act) → is_offered a (offers q (N.processes q)) ≡ true → is_ready N a ≡ true
+    pub act_goes : (q : Role) (a : Act) → is_offered a (offers q (N.processes q)) ≡ true → is_ready N a ≡ true
         → (outcome : NextNetwork) × (act_step (setting b) N q a ≡ Some outcome)
     act_goes q a offered ready =
         let placed = placed_run known b H N sound runs in

@@ -103,19 +103,19 @@ drove_shown b N N' e t es steps shown rest = record {
 }
 
 -- the clauses of driving, by what comes
-ends_rest : (b : Setting) (count : ℕ) (N : Network) → first_auxiliary b N ≡ None → driven_from b (suc count) N [] ≡ Some []
+pub ends_rest : (b : Setting) (count : ℕ) (N : Network) → first_auxiliary b N ≡ None → driven_from b (suc count) N [] ≡ Some []
 ends_rest b count N h = ap (λ o. option_map_or (λ (outcome : NextNetwork). put_before outcome.entry (driven_from b count outcome.network [])) o (Some [])) h
 
-ends_goes : (b : Setting) (count : ℕ) (N : Network) (outcome : NextNetwork) → first_auxiliary b N ≡ Some outcome
+pub ends_goes : (b : Setting) (count : ℕ) (N : Network) (outcome : NextNetwork) → first_auxiliary b N ≡ Some outcome
     → driven_from b (suc count) N [] ≡ put_before outcome.entry (driven_from b count outcome.network [])
 ends_goes b count N outcome h = ap (λ o. option_map_or (λ (outcome : NextNetwork). put_before outcome.entry (driven_from b count outcome.network [])) o (Some [])) h
 
-comes_now : (b : Setting) (count : ℕ) (N : Network) (e : Entry) (es : List Entry) → may_come N e ≡ true
+pub comes_now : (b : Setting) (count : ℕ) (N : Network) (e : Entry) (es : List Entry) → may_come N e ≡ true
     → driven_from b (suc count) N (e ∷ es) ≡ option_and_then (λ next. put_before e (driven_from b count next es)) (network_step b N e)
 comes_now b count N e es h = cond-true (may_come N e) (option_and_then (λ next. put_before e (driven_from b count next es)) (network_step b N e))
     (option_and_then (λ (outcome : NextNetwork). put_before outcome.entry (driven_from b count outcome.network (e ∷ es))) (first_auxiliary b N)) h
 
-waits_on : (b : Setting) (count : ℕ) (N : Network) (e : Entry) (es : List Entry) → may_come N e ≡ false
+pub waits_on : (b : Setting) (count : ℕ) (N : Network) (e : Entry) (es : List Entry) → may_come N e ≡ false
     → driven_from b (suc count) N (e ∷ es)
     ≡ option_and_then (λ (outcome : NextNetwork). put_before outcome.entry (driven_from b count outcome.network (e ∷ es))) (first_auxiliary b N)
 waits_on b count N e es h = cond-false (may_come N e) (option_and_then (λ next. put_before e (driven_from b count next es)) (network_step b N e))

@@ -10,3 +10,7 @@ pub mod Onward
 pub mod Redone
 pub mod Refused
 pub mod RunStrays
+-- a net that is driven, and where a trace strays
+pub mod DriveStrays
+pub mod OnTheWay
+pub mod Trying

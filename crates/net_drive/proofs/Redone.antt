@@ -11,14 +11,17 @@ use Rattle.dioc_terms.specs.Equality.{entry_eq}
 use Rattle.dioc_terms.specs.Plain.{Setting, plain, setting}
 use Rattle.marked_laws.specs.Network.{Network, NextNetwork, network_after, network_step}
 use Rattle.marked_laws.proofs.Equality.{entry_same}
+use Rattle.net_core.specs.Schedule.{move_step}
 use Rattle.role_network.specs.Nets.{IsSoundRun, NetState, bundle_of, network_of}
+use Rattle.role_network.specs.Steps.{GoesOn}
 use Rattle.net_drive.specs.declared.resuming.Redone.TheVariants as redone
-use Rattle.net_drive.specs.Redoing.{IsRedone, Makes, Redoes, shown_step}
+use Rattle.net_drive.specs.Making.{Makes, shown_move}
+use Rattle.net_drive.specs.Redoing.{IsRedone, Redoes}
 use Rattle.net_drive.specs.Resumed.{IsFirstStray, run_stray}
 use Rattle.net_drive.proofs.RunStrays.{first_counted, first_stray, first_within}
 
 -- an entry can be done where the step that it shows notes it
-step_shown : (b : Setting) (N : Network) (e : Entry) → network_step b N e ≡ network_after e (shown_step b N e)
+pub step_shown : (b : Setting) (N : Network) (e : Entry) → network_step b N e ≡ network_after e (move_step b N (shown_move e))
 step_shown b N (entry.Put k n) = refl
 step_shown b N (entry.Take k x) = refl
 step_shown b N (entry.Set i r x v) = refl
@@ -33,14 +36,19 @@ at_end : (xs : List Entry) (x : Entry) → slice_get (xs ++ x ∷ []) (length xs
 at_end [] x = refl
 at_end (y ∷ ys) x = at_end ys x
 
--- the entry was done again exactly where it stands behind the old history
-pub redoes_noted : (old new : NetState) (e : Entry) (noted : Bool) → Makes (shown_step (setting (bundle_of old)) (network_of old) e) old new true
+-- what stands behind the old history is the entry that was made
+pub noted_is : (old new : NetState) (e : Entry) (noted : Bool) (outcome : NextNetwork) → GoesOn old outcome new
+    → noted ≡ option_map_or (entry_eq e) (slice_get new.history (length old.history)) false → noted ≡ entry_eq e outcome.entry
+noted_is old new e noted outcome goes is =
+    is ∙ ap (λ o. option_map_or (entry_eq e) o false) (ap (λ h. slice_get h (length old.history)) goes.history ∙ at_end old.history outcome.entry)
+
+-- the entry was done again exactly where it stands there
+pub redoes_noted : (old new : NetState) (e : Entry) (noted : Bool) → Makes (move_step (setting (bundle_of old)) (network_of old) (shown_move e)) old new true
     → noted ≡ option_map_or (entry_eq e) (slice_get new.history (length old.history)) false → Redoes old e new noted
 redoes_noted old new e noted made is = by_test noted refl
   where
     same : noted ≡ entry_eq e (made.0).entry
-    same = is ∙ ap (λ o. option_map_or (entry_eq e) o false)
-        (ap (λ h. slice_get h (length old.history)) (made.2).history ∙ at_end old.history (made.0).entry)
+    same = noted_is old new e noted made.0 made.2 is
 
     by_test : (t : Bool) → noted ≡ t → Redoes old e new t
     by_test true h = (made.2).history ∙ ap (λ x. old.history ++ x ∷ []) (sym (entry_same e (made.0).entry (sym same ∙ h)))
@@ -49,7 +57,7 @@ redoes_noted old new e noted made is = by_test noted refl
         ∙ cond-false (entry_eq e (made.0).entry) (Some (made.0).network) None (sym same ∙ h)
 
 -- nothing was made, so the entry can't be done
-pub redoes_none : (old new : NetState) (e : Entry) → shown_step (setting (bundle_of old)) (network_of old) e ≡ None → Redoes old e new false
+pub redoes_none : (old new : NetState) (e : Entry) → move_step (setting (bundle_of old)) (network_of old) (shown_move e) ≡ None → Redoes old e new false
 redoes_none old new e h = step_shown (setting (bundle_of old)) (network_of old) e ∙ ap (network_after e) h
 
 -- an entry that wasn't done again is the first stray of all of them, and of those within the limit

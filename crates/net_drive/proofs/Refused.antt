@@ -26,7 +26,7 @@ use Rattle.marked_laws.proofs.Shapes.{none_some, some_same}
 use Rattle.net_core.specs.declared.moves.StepFault.{StepFault}
 use Rattle.net_core.specs.declared.moves.StepFault.TheVariants as why
 use Rattle.dioc_terms.specs.declared.faults.Memory.{Memory}
-use Rattle.net_drive.specs.Redoing.{Makes}
+use Rattle.net_drive.specs.Making.{Makes}
 use Rattle.net_core.specs.Net.{first_fault, is_offered_by}
 use Rattle.net_core.specs.Schedule.{is_ready}
 use Rattle.role_network.specs.Nets.{IsSoundRun, NetState, bundle_of, network_of}
@@ -186,6 +186,6 @@ module _ (casts : CastsAreRoles) (offered_steps : OffersAreSteps) (outsiders : O
 
 -- what was refused, but for want of memory, makes no step
 pub none_made : (old new : NetState) (step : Option NextNetwork) (fault : StepFault) (r : Result Bool Memory)
-    → IfOk r (λ is_made. (is_made ≡ false) × (fault ≢ why.Memory)) → (fault ≢ why.Memory → step ≡ None) → IfOk r (Makes step old new)
-none_made old new step fault (Ok is_made) h none = subst (Makes step old new) (sym h.0) (none h.1)
-none_made old new step fault (Err refusal) h none = tt
+    → IfOk r (λ is_made. (is_made ≡ false) × (fault ≢ why.Memory)) → (fault ≢ why.Memory → step ≡ None) → new ≡ old → IfOk r (Makes step old new)
+none_made old new step fault (Ok is_made) h none same = subst (Makes step old new) (sym h.0) (none h.1, same)
+none_made old new step fault (Err refusal) h none same = tt

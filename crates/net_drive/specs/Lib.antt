@@ -1,6 +1,9 @@
 pub mod Driven
+pub mod Driving
 pub mod Faults
 pub mod Laws
+pub mod Making
 pub mod Redoing
 pub mod Resumed
 pub mod ResumedLaws
+pub mod Strays

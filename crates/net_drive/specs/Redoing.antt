@@ -1,29 +1,12 @@
--- What it is to do an entry again: the step that it shows, and whether the network notes the entry.
-use Rattle.std.specs.Prelude.{◌≡◌, ◌≤◌, ◌<◌, List, [], ◌∷◌, ◌++◌, length, take, Bool, true, false, Option, Some, None}
-use Rattle.dioc_terms.specs.declared.entries.Act.{Act}
+-- What it is to do entries again: whether the network notes each, and how far a net came with them.
+use Rattle.std.specs.Prelude.{◌≡◌, ◌≤◌, ◌<◌, List, [], ◌∷◌, ◌++◌, length, take, Bool, true, false, Some, None}
 use Rattle.dioc_terms.specs.declared.entries.Entry.{Entry}
-use Rattle.dioc_terms.specs.declared.names.Role.{Role}
-use Rattle.dioc_terms.specs.Messages.{act_of, doer}
-use Rattle.dioc_terms.specs.Plain.{Setting, setting}
-use Rattle.marked_laws.specs.Network.{Network, NextNetwork, act_step, change_step, network_step}
+use Rattle.dioc_terms.specs.Plain.{setting}
+use Rattle.marked_laws.specs.Network.{network_step}
 use Rattle.net_drive.specs.declared.resuming.Redone.{Redone}
 use Rattle.net_drive.specs.declared.resuming.Redone.TheVariants as redone
 use Rattle.net_drive.specs.Resumed.{IsFirstStray, run_stray}
 use Rattle.role_network.specs.Nets.{NetState, bundle_of, network_of}
-use Rattle.role_network.specs.Steps.{GoesOn}
-
--- the step that an entry shows: its doer's by its act, or else the script's
-abbrev pub shown_step : Setting → Network → Entry → Option NextNetwork
-shown_step b N e = by_doer (doer e) (act_of e)
-  where
-    by_doer : Option Role → Option Act → Option NextNetwork
-    by_doer (Some r) (Some a) = act_step b N r a
-    by_doer _ _ = change_step b N
-
--- whether the net made the step: it went on by it, or there is no such step
-abbrev pub Makes : Option NextNetwork → NetState → NetState → Bool → Type 0
-Makes step old new true = (outcome : NextNetwork) × (step ≡ Some outcome) × GoesOn old outcome new
-Makes step old new false = step ≡ None
 
 -- whether the net did the entry again: it is the last one of its history, or the network can't do
 -- it

@@ -6,10 +6,11 @@ ghost use Rattle.dioc_terms.specs.TermLaws.{MentionsAreRoles, CastsAreRoles, Sta
 ghost use Rattle.drive_laws.specs.Laws.{Readiness, AuxiliaryEnds};
 ghost use Rattle.marked_laws.specs.Laws.{Simulation, Settlement};
 ghost use Rattle.net_drive.specs.Laws.{DrivenRuns, SameTraces, DrivenExactly, StraysAreExact};
+ghost use Rattle.net_drive.specs.Strays.{DriveStraysAreExact};
 ghost use Rattle.process_steps.specs.Laws.{OffersAreSteps};
 
 /// What the crates below prove, together.
-fn known()
+pub(crate) fn known()
     ensures mentions { MentionsAreRoles }
     ensures casts { CastsAreRoles }
     ensures bodies { StampedBodies }
@@ -61,6 +62,15 @@ pub fn driven_exactly()
 /// settled trace that the choreography plays. It does nothing.
 pub fn strays_are_exact()
     ensures { StraysAreExact }
+{
+    known();
+}
+
+/// A law: of a trace of visible entries no stray is counted exactly where it has a driven history,
+/// and the number that is counted is exactly that of the first entry that makes a trace which isn't
+/// both played and settled. It does nothing.
+pub fn drive_strays_are_exact()
+    ensures { DriveStraysAreExact }
 {
     known();
 }

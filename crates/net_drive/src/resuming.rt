@@ -1,23 +1,20 @@
 //! A run that stopped, done again entry by entry.
 
-ghost use Rattle.std.specs.Prelude.{◌≡◌, ◌≢◌, ◌≤◌, ◌<◌, [], false, IfErr, IfOk, OnOk, length, slice_get};
-ghost use Rattle.std.specs.Option.{option_map_or};
-ghost use Rattle.dioc_terms.specs.Equality.{entry_eq};
-ghost use Rattle.dioc_terms.specs.Plain.{plain, setting};
-ghost use Rattle.marked_laws.specs.Network.{act_step, change_step};
+ghost use Rattle.std.specs.Prelude.{◌≡◌, ◌≤◌, ◌<◌, [], IfErr, IfOk, OnOk, length};
+ghost use Rattle.dioc_terms.specs.Plain.{plain};
 ghost use Rattle.net_drive.specs.Faults.{FullAt, StrayCounted, StraysAt};
-ghost use Rattle.net_drive.specs.Redoing.{IsRedone, Makes, Redoes, shown_step};
+ghost use Rattle.net_drive.specs.Making.{shown_move};
+ghost use Rattle.net_drive.specs.Redoing.{IsRedone, Redoes};
 ghost use Rattle.net_drive.specs.Resumed.{IsNetAfter};
-ghost use Rattle.role_network.specs.Nets.{IsSoundRun, bundle_of, network_of};
+ghost use Rattle.role_network.specs.Nets.{IsSoundRun, network_of};
 ghost use Rattle.rule_checks.specs.Refusals.{IsAccepted};
 
-use crate::resumed_laws::known;
-use dioc_terms::{Act, Bundle, Entry, Memory, Role};
+use crate::steps::{is_noted, make, move_of};
+use dioc_terms::{Bundle, Entry, Memory};
 use dpoc_process::Runs;
-use net_core::{StepFault, accepted_is_sound};
-use role_network::{Begins, ChangeFault, Net};
+use net_core::{Move, accepted_is_sound};
+use role_network::{Begins, Net};
 use std::alloc::Global;
-use trace_book::History;
 
 /// Why a run isn't resumed to its last entry.
 #[derive(Drop)]
@@ -100,82 +97,23 @@ fn redo_entry<R: Runs>(alloc: Global, net: &mut Net<R>, entry: &Entry) -> Result
     ensures same_limit { net.new.limit ≡ net.old.limit }
     ensures run { OnOk result (IsSoundRun net.new) }
 {
+    let next = move_of(alloc, entry)?;
+    redo_by(net, &next, entry)
+}
+
+// The same, with the move that the entry shows.
+fn redo_by<R: Runs>(net: &mut Net<R>, next: &Move, entry: &Entry) -> Result<bool, Memory>
+    requires run { IsSoundRun net.old }
+    requires room { length net.old.history < net.old.limit }
+    requires few { (network_of net.old).updates < 4294967295 }
+    requires next { next.now ≡ shown_move entry.now }
+    ensures redone { IfOk result (Redoes net.old entry.now net.new) }
+    ensures bundle { net.new.bundle ≡ net.old.bundle }
+    ensures same_limit { net.new.limit ≡ net.old.limit }
+    ensures run { OnOk result (IsSoundRun net.new) }
+{
     let place = net.history().len();
-    let is_made = step_as(alloc, net, entry)?;
+    let is_made = make(net, next)?;
     let is_noted = is_noted(net.history(), place, entry);
     Ok(is_made && is_noted)
-}
-
-// Whether the entry stands at that place.
-fn is_noted(history: &History, place: u64, entry: &Entry) -> bool
-    ensures { result ≡ option_map_or (entry_eq entry.now) (slice_get history.now.entries place)
-        false }
-{
-    match history.get(place) {
-        Some(noted) => entry == noted,
-        None => false,
-    }
-}
-
-// Makes the step that the entry shows, where there is one.
-fn step_as<R: Runs>(alloc: Global, net: &mut Net<R>, entry: &Entry) -> Result<bool, Memory>
-    requires run { IsSoundRun net.old }
-    requires room { length net.old.history < net.old.limit }
-    requires limit { net.old.limit ≤ 4294967295 }
-    ensures makes { IfOk result (Makes (shown_step (setting (bundle_of net.old))
-        (network_of net.old) entry.now) net.old net.new) }
-    ensures bundle { net.new.bundle ≡ net.old.bundle }
-    ensures same_limit { net.new.limit ≡ net.old.limit }
-{
-    match entry {
-        Entry::Put { key, .. } => step(net, &key.from, &Act::Put(key.copy(alloc)?)),
-        Entry::Take { key, .. } => step(net, &key.to, &Act::Take(key.copy(alloc)?)),
-        Entry::Set { index, role, .. } => step(net, role, &Act::Set(*index)),
-        Entry::Input { index, role, .. } => step(net, role, &Act::Input(*index)),
-        Entry::Pick { index, role, .. } => step(net, role, &Act::Pick(*index)),
-        Entry::Scope { index, role, .. } => step(net, role, &Act::Scope(*index)),
-        Entry::Add { .. } | Entry::Drop { .. } | Entry::Env { .. } => change(net),
-    }
-}
-
-// Makes the step of the role, where there is one.
-fn step<R: Runs>(net: &mut Net<R>, role: &Role, act: &Act) -> Result<bool, Memory>
-    requires run { IsSoundRun net.old }
-    requires room { length net.old.history < net.old.limit }
-    requires limit { net.old.limit ≤ 4294967295 }
-    ensures makes { IfOk result (Makes (act_step (setting (bundle_of net.old)) (network_of net.old)
-        role.now act.now) net.old net.new) }
-    ensures bundle { net.new.bundle ≡ net.old.bundle }
-    ensures same_limit { net.new.limit ≡ net.old.limit }
-{
-    known();
-    match net.step(role, act) {
-        Ok(()) => Ok(true),
-        Err(fault) => no_step(fault),
-    }
-}
-
-// That no step was made, unless memory ran out.
-fn no_step(fault: StepFault) -> Result<bool, Memory>
-    ensures { IfOk result (λ is_made. (is_made ≡ false) × (fault ≢ StepFault.Memory)) }
-{
-    match fault {
-        StepFault::Memory => Err(Memory),
-        _ => Ok(false),
-    }
-}
-
-// Makes the script's next change, where it may come.
-fn change<R: Runs>(net: &mut Net<R>) -> Result<bool, Memory>
-    requires room { length net.old.history < net.old.limit }
-    ensures makes { IfOk result (Makes (change_step (setting (bundle_of net.old))
-        (network_of net.old)) net.old net.new) }
-    ensures bundle { net.new.bundle ≡ net.old.bundle }
-    ensures same_limit { net.new.limit ≡ net.old.limit }
-{
-    match net.change() {
-        Ok(()) => Ok(true),
-        Err(ChangeFault::Memory) => Err(Memory),
-        Err(_) => Ok(false),
-    }
 }

@@ -15,8 +15,10 @@ use std::alloc::Global;
 
 /// A role with the acts that it can do now.
 #[derive(Debug, Drop)]
-pub(crate) struct ReadyRole {
+pub struct ReadyRole {
+    /// The role.
     pub role: Role,
+    /// Its acts, from left to right in its process.
     pub acts: Vec<Act>,
 }
 
@@ -35,8 +37,13 @@ pub(crate) fn keep_up<R: Runs>(
     }
 }
 
-/// Brings an agenda up to date after this move.
-fn keep_up_with<R: Runs>(net: &Net<R>, made: &Move, agenda: &mut [ReadyRole]) -> Result<(), Memory>
+/// Brings an agenda up to date after a move: it asks only the roles that the move touches. After
+/// `Memory` it is no agenda of the net.
+pub fn keep_up_with<R: Runs>(
+    net: &Net<R>,
+    made: &Move,
+    agenda: &mut [ReadyRole],
+) -> Result<(), Memory>
     requires { IsStale net.now (Some made.now) (map ready_seen agenda.old) }
     ensures { OnOk result (map ready_seen agenda.new ≡ agenda_of net.now) }
 {
@@ -54,8 +61,8 @@ fn start_agenda<R: Runs>(net: &Net<R>, agenda: &mut Vec<ReadyRole>) -> Result<()
     Ok(())
 }
 
-/// The acts that each role of a net can do now, in the cast's order.
-fn list_ready<R: Runs>(net: &Net<R>) -> Result<Vec<ReadyRole>, Memory>
+/// The agenda of a net: the acts that each role can do now, in the cast's order.
+pub fn list_ready<R: Runs>(net: &Net<R>) -> Result<Vec<ReadyRole>, Memory>
     ensures { IfOk result (λ agenda. map ready_seen agenda.items ≡ agenda_of net.now) }
 {
     let alloc = net.allocator();
@@ -162,7 +169,8 @@ fn move_of(alloc: Global, ready: &ReadyRole, place: usize) -> Result<Move, Memor
     Ok(Move::Act(role, act))
 }
 
-fn copy_of_act(alloc: Global, act: &Act) -> Result<Act, Memory>
+/// A copy, the same act.
+pub fn copy_of_act(alloc: Global, act: &Act) -> Result<Act, Memory>
     ensures { IfOk result (λ copy. copy ≡ act.now) }
 {
     match act {

@@ -1,4 +1,5 @@
-//! A run of a network by a schedule, with a seed or without, to its end or to its limit.
+//! A run of a network by a schedule, with a seed or without, to its end or to its limit; and the
+//! agenda by which it finds a move.
 #![tactic(auto)]
 
 mod agenda;
@@ -7,4 +8,5 @@ mod numbers;
 mod runs;
 mod turns;
 
+pub use agenda::{ReadyRole, copy_of_act, keep_up_with, list_ready};
 pub use runs::{Finish, run_seeded};

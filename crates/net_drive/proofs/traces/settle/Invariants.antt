@@ -1,0 +1,16 @@
+-- The net was driven on, and the agenda is its.
+use Rattle.std.proofs.Common.{◌≡◌, ◌-◌, [], length}
+use Rattle.std.specs.Prelude.{map}
+use Rattle.net_drive.specs.Driving.{DrivesOn, HasRoom}
+use Rattle.schedule.specs.Agendas.{agenda_of, ready_seen}
+use Rattle.net_drive.proofs.traces.settle.Given as goal
+
+abbrev pub invariant-turns : goal.invariant-turns
+invariant-turns g l = record {
+  way : DrivesOn l.initial.net l.net [] [];
+  room : HasRoom l.net;
+  agenda : map ready_seen l.agenda ≡ agenda_of l.net;
+}
+
+abbrev pub decreases-turns : goal.decreases-turns
+decreases-turns g l = l.net.limit - length l.net.history

@@ -1,0 +1,25 @@
+-- The move that an entry shows, and what it is for a net to make a move.
+use Rattle.std.specs.Prelude.{◌≡◌, Bool, true, false, Option, Some, None}
+use Rattle.dioc_terms.specs.declared.entries.Act.{Act}
+use Rattle.dioc_terms.specs.declared.entries.Entry.{Entry}
+use Rattle.dioc_terms.specs.declared.names.Role.{Role}
+use Rattle.dioc_terms.specs.Messages.{act_of, doer}
+use Rattle.marked_laws.specs.Network.{NextNetwork}
+use Rattle.net_core.specs.declared.moves.Move.{Move}
+use Rattle.net_core.specs.declared.moves.Move.TheVariants as move
+use Rattle.role_network.specs.Nets.{NetState}
+use Rattle.role_network.specs.Steps.{GoesOn}
+
+-- the act of that role, or else the script's next change
+abbrev pub move_by : Option Role → Option Act → Move
+move_by (Some r) (Some a) = move.Act r a
+move_by _ _ = move.Change
+
+-- the move that an entry shows: its doer's act, or else the script's next change
+abbrev pub shown_move : Entry → Move
+shown_move e = move_by (doer e) (act_of e)
+
+-- whether the net made the step: it went on by it, or there is no such step and the net stays
+abbrev pub Makes : Option NextNetwork → NetState → NetState → Bool → Type 0
+Makes step old new true = (outcome : NextNetwork) × (step ≡ Some outcome) × GoesOn old outcome new
+Makes step old new false = (step ≡ None) × (new ≡ old)

@@ -1,0 +1,168 @@
+//! A visible trace driven: its entries, each with the auxiliary moves that it needs before it.
+
+ghost use Rattle.std.specs.Prelude.{◌≡◌, ◌≤◌, [], true, false, not, IfErr, IfOk, OnOk, Some, length, map};
+ghost use Rattle.std.specs.List.{list_all};
+ghost use Rattle.dioc_terms.specs.Messages.{is_aux, visible};
+ghost use Rattle.dioc_terms.specs.Plain.{plain};
+ghost use Rattle.net_drive.specs.Driven.{driven};
+ghost use Rattle.net_drive.specs.Driving.{HasRoom, IsDriven, Reaches, Settles};
+ghost use Rattle.net_drive.specs.Making.{shown_move};
+ghost use Rattle.net_drive.specs.Faults.{LostAt, LostCounted};
+ghost use Rattle.role_network.specs.Nets.{IsSoundRun, bundle_of};
+ghost use Rattle.rule_checks.specs.Refusals.{IsAccepted};
+ghost use Rattle.schedule.specs.Agendas.{agenda_of, ready_seen};
+
+use crate::entries::{Tried, has_run, take_auxiliary, take_turn};
+use crate::laws::{drive_strays_are_exact, known};
+use crate::steps::move_of;
+use dioc_terms::{Bundle, Entry, Memory};
+use dpoc_process::Runs;
+use net_core::{Move, accepted_is_sound};
+use role_network::{Begins, Net};
+use schedule::{ReadyRole, list_ready};
+use std::alloc::Global;
+use thiserror::Error;
+
+/// Why a trace isn't driven.
+#[derive(Clone, Copy, Debug, PartialEq, Eq, Error)]
+pub enum DriveFault {
+    /// The entry of this number, counted from 1, is the first that makes a trace which the
+    /// choreography doesn't play, or which isn't settled.
+    #[error("entry {0} can't come")]
+    Stray(u64),
+    /// Memory ran out.
+    #[error("out of memory")]
+    Memory,
+}
+
+/// The net of a bundle that has been driven through a visible trace: before each entry it takes the
+/// first auxiliary move, as often as it must for the entry to come, and after the last entry as
+/// long as there is one. A change is taken as its entry comes.
+///
+/// The net's limit is the greatest number there is, so its history is never full.
+pub fn drive<R: Begins>(
+    alloc: Global,
+    bundle: &Bundle,
+    trace: &[Entry],
+) -> Result<Net<R>, DriveFault>
+    requires accepted { IsAccepted (plain bundle.now) }
+    requires shown { list_all (λ e. not (is_aux e)) trace.now ≡ true }
+    requires few { length trace.now ≤ 1000000 }
+    ensures driven { IfOk result (λ net. driven (plain bundle.now) trace.now ≡ Some net.history) }
+    ensures shows { IfOk result (λ net. visible net.history ≡ trace.now) }
+    ensures run { IfOk result IsSoundRun }
+    ensures bundle { IfOk result (λ net. net.bundle ≡ bundle.now) }
+    ensures limit { IfOk result (λ net. net.limit ≡ 18446744073709551615) }
+    ensures stray { IfErr result (LostAt (plain bundle.now) trace.now) }
+    ensures counted { IfErr result (LostCounted (plain bundle.now) trace.now) }
+{
+    accepted_is_sound();
+    drive_strays_are_exact();
+    let Ok(mut net) = Net::start(alloc, bundle, u64::MAX) else {
+        return Err(DriveFault::Memory);
+    };
+    match drive_through(&mut net, trace) {
+        Ok(None) => Ok(net),
+        Ok(Some(number)) => Err(DriveFault::Stray(number)),
+        Err(Memory) => Err(DriveFault::Memory),
+    }
+}
+
+// Drives a net through the entries of a trace, or says the number of the first that strays.
+fn drive_through<R: Runs>(net: &mut Net<R>, trace: &[Entry]) -> Result<Option<u64>, Memory>
+    requires fresh { net.old.history ≡ [] }
+    requires room { HasRoom net.old }
+    requires shown { list_all (λ e. not (is_aux e)) trace.now ≡ true }
+    requires few { length trace.now ≤ 1000000 }
+    ensures driven { IfOk result (IsDriven net.old trace.now net.new) }
+    ensures run { IfOk result (λ stray. stray ≡ None → IsSoundRun net.new) }
+    ensures bundle { IfOk result (λ stray. stray ≡ None → net.new.bundle ≡ net.old.bundle) }
+    ensures limit { IfOk result (λ stray. stray ≡ None → net.new.limit ≡ net.old.limit) }
+{
+    let mut agenda = list_ready(net)?;
+    drive_entries(net, agenda.as_mut_slice(), trace)
+}
+
+// The same, with the agenda of the net.
+fn drive_entries<R: Runs>(
+    net: &mut Net<R>,
+    agenda: &mut [ReadyRole],
+    trace: &[Entry],
+) -> Result<Option<u64>, Memory>
+    requires fresh { net.old.history ≡ [] }
+    requires room { HasRoom net.old }
+    requires agenda { map ready_seen agenda.old ≡ agenda_of net.old }
+    requires shown { list_all (λ e. not (is_aux e)) trace.now ≡ true }
+    requires few { length trace.now ≤ 1000000 }
+    ensures driven { IfOk result (IsDriven net.old trace.now net.new) }
+    ensures run { IfOk result (λ stray. stray ≡ None → IsSoundRun net.new) }
+    ensures bundle { IfOk result (λ stray. stray ≡ None → net.new.bundle ≡ net.old.bundle) }
+    ensures limit { IfOk result (λ stray. stray ≡ None → net.new.limit ≡ net.old.limit) }
+{
+    known();
+    let mut number = 0;
+    for entry in trace {
+        has_run(net);
+        number += 1;
+        if !reach(net, agenda, entry)? {
+            return Ok(Some(number));
+        }
+    }
+    settle(net, agenda)?;
+    has_run(net);
+    Ok(None)
+}
+
+// Takes auxiliary moves until the entry comes, or says that it can't come.
+fn reach<R: Runs>(net: &mut Net<R>, agenda: &mut [ReadyRole], entry: &Entry) -> Result<bool, Memory>
+    requires room { HasRoom net.old }
+    requires agenda { map ready_seen agenda.old ≡ agenda_of net.old }
+    requires shown { is_aux entry.now ≡ false }
+    ensures reached { IfOk result (Reaches net.old entry.now net.new) }
+    ensures agenda { IfOk result
+        (λ has_come. has_come ≡ true → map ready_seen agenda.new ≡ agenda_of net.new) }
+{
+    let next = move_of(net.allocator(), entry)?;
+    reach_by(net, agenda, &next, entry)
+}
+
+// The same, with the move that the entry shows.
+fn reach_by<R: Runs>(
+    net: &mut Net<R>,
+    agenda: &mut [ReadyRole],
+    next: &Move,
+    entry: &Entry,
+) -> Result<bool, Memory>
+    requires room { HasRoom net.old }
+    requires agenda { map ready_seen agenda.old ≡ agenda_of net.old }
+    requires next { next.now ≡ shown_move entry.now }
+    requires shown { is_aux entry.now ≡ false }
+    ensures reached { IfOk result (Reaches net.old entry.now net.new) }
+    ensures agenda { IfOk result
+        (λ has_come. has_come ≡ true → map ready_seen agenda.new ≡ agenda_of net.new) }
+{
+    known();
+    'turns: loop {
+        has_run(net);
+        match take_turn(net, agenda, next, entry)? {
+            Tried::Came => return Ok(true),
+            Tried::Strays => return Ok(false),
+            Tried::Waits => {}
+        }
+    }
+}
+
+// Takes auxiliary moves until none is left.
+fn settle<R: Runs>(net: &mut Net<R>, agenda: &mut [ReadyRole]) -> Result<(), Memory>
+    requires room { HasRoom net.old }
+    requires agenda { map ready_seen agenda.old ≡ agenda_of net.old }
+    ensures { OnOk result (Settles net.old net.new) }
+{
+    known();
+    'turns: loop {
+        has_run(net);
+        if !take_auxiliary(net, agenda)? {
+            return Ok(());
+        }
+    }
+}
