@@ -6,7 +6,7 @@ _aioc() {
     local before=" ${COMP_WORDS[*]:2:COMP_CWORD-2} "
     COMPREPLY=()
     if ((COMP_CWORD == 1)); then
-        COMPREPLY=($(compgen -W 'step check project replay resume upgrade mend gen' -- "$word"))
+        COMPREPLY=($(compgen -W 'step check project replay drive resume upgrade mend gen' -- "$word"))
         return
     fi
     case ${COMP_WORDS[COMP_CWORD - 1]} in
@@ -14,6 +14,7 @@ _aioc() {
     esac
     case ${COMP_WORDS[1]} in
     step | resume) options='--seed --steps --aux --json' ;;
+    drive) options='--steps' ;;
     esac
     for it in $options; do
         [[ $before == *" $it "* ]] || left+=" $it"

@@ -9,6 +9,7 @@ _aioc() {
         'check:say whether a bundle is accepted, and how large it is'
         'project:print the process of each role'
         'replay:judge the trace in a bundle'
+        'drive:find the auxiliary messages of the trace in a bundle'
         'resume:go on with the run whose entries stand in a bundle'
         'upgrade:write a bundle in version 2'
         'mend:add messages until each sequence is linked'
@@ -27,6 +28,9 @@ _aioc() {
             '--steps=[stop after so many entries]:number: ' \
             '--aux[print auxiliary entries too]' \
             '--json[print each entry as a JSON object]'
+        ;;
+    drive)
+        _arguments '--steps=[allow so many visible entries]:number: '
         ;;
     resume)
         _arguments \

@@ -32,9 +32,10 @@ def bash_knows():
         script = 'source "$1"; shift; COMP_WORDS=("$@"); COMP_CWORD=$(($# - 1)); _aioc; printf "%s\\n" "${COMPREPLY[@]}"'
         done = subprocess.run(["bash", "-c", script, "bash", BASH, *words], stdout=subprocess.PIPE, check=True, text=True)
         return done.stdout.split()
-    # (where a number is to stand, nothing is offered)
-    return {command: {it[2:]: not asked("aioc", command, it, "") and len(asked("aioc", command, "")) > 1
-                      for it in asked("aioc", command, "")} for command in asked("aioc", "")}
+    # (where a number is to stand, nothing is offered; asked at the command with the most options, since others may be through)
+    offered = {command: asked("aioc", command, "") for command in asked("aioc", "")}
+    most = max(offered, key=lambda command: len(offered[command]), default="")
+    return {command: {it[2:]: not asked("aioc", most, it, "") for it in options} for command, options in offered.items()}
 
 
 def zsh_knows():

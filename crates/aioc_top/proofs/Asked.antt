@@ -79,7 +79,9 @@ short_with Step texts found h =
     let its = answered command.Step (options_of Step texts) found h in
     subst IsShort its.2 (bounded Step texts (omega arith) its.0 its.1)
 short_with Run texts found h = let its = answered command.Run (options_of Run texts) found h in subst IsShort its.2 tt
-short_with Drive texts found h = let its = answered command.Drive (options_of Drive texts) found h in subst IsShort its.2 tt
+short_with Drive texts found h =
+    let its = answered command.Drive (options_of Drive texts) found h in
+    subst IsShort its.2 (bounded Drive texts (omega arith) its.0 its.1)
 short_with Resume texts found h =
     let its = answered command.Resume (options_of Resume texts) found h in
     subst IsShort its.2 (bounded Resume texts (omega arith) its.0 its.1)

@@ -25,7 +25,7 @@ use Rattle.command_words.specs.declared.commands.Options.{Options}
 use Rattle.command_words.specs.declared.commands.Command.{Command}
 use Rattle.command_words.specs.declared.commands.Command.TheVariants as command
 use Rattle.aioc_top.specs.Calls.{Call, Judges, Happens, IsRead, CommandReads, ReadsBy, ReadsNothing, ReadsTo, Says, Writes}
-use Rattle.aioc_top.specs.Replies.{Reply, Replies, is_finished, refusal_of, run_reply, step_history, resume_history, resume_reply, resume_stray, resumed_or_no, replay_reply, line_of_text, check_line, project_text as project_lines, upgrade_text as upgraded, unread_reply, gen_line, gen_reply, gen_history, updates_of}
+use Rattle.aioc_top.specs.Replies.{Reply, Replies, drive_reply, is_finished, refusal_of, run_reply, step_history, resume_history, resume_reply, resume_stray, resumed_or_no, replay_reply, line_of_text, check_line, project_text as project_lines, upgrade_text as upgraded, unread_reply, gen_line, gen_reply, gen_history, updates_of}
 use Rattle.aioc_top.specs.Serve.{CheckText, ComesExactly, Complete, GenPrinted, GivesUp, AfterEnd, ReadsToEnd, IsComplete, IsUpgraded, JudgementPrinted, MendText, ProjectText, ReadsAll, ReplayText, ResumePrinted, RunPrinted, SaysWhy, Silent, TextPrinted, UpgradeText, UsageComes, has_printed}
 use Rattle.aioc_top.specs.Verdicts.{Verdict, TooLong, Unspelled, Refused, Replied, MayReply, Cause, Comes, ComesBy, ComesOfText, Refuses, status_of, status_of_end}
 use Rattle.aioc_top.specs.Words.{is_built, IsShort}
@@ -441,6 +441,13 @@ module _ (formed : SpelledIsFormed) (wanted : Command) (text : unread_reply want
 
 pub replay_text : SpelledIsFormed → (call : Call) (s : Status) → Happens call s → ReplayText call.asked s call.source call.out call.out_after
 replay_text formed call s h is prints = judged_text formed command.Replay refl replay_reply (λ b reply e. e) (λ b. refl) call s h is prints
+
+-- ---- a driven trace
+
+pub drive_judged : SpelledIsFormed → (options : Options) (call : Call) (s : Status) → Happens call s → call.asked ≡ Some (command.Drive options)
+    → has_printed s ≡ true → JudgementPrinted (drive_reply options) s call.source call.out call.out_after
+drive_judged formed options call s h is prints =
+    judged_text formed (command.Drive options) refl (drive_reply options) (λ b reply e. e) (λ b. refl) call s h is prints
 
 -- ---- a resumed run
 

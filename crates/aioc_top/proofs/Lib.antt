@@ -2,6 +2,7 @@ pub mod Asked
 pub mod Causes
 pub mod Clauses
 mod Examples
+pub mod Driven
 pub mod FaultLemmas
 pub mod Judged
 pub mod Printing

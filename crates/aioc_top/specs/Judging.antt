@@ -16,7 +16,7 @@ abbrev pub PlaysOn : Setting → State → Entry → State → Bool → Type 0
 PlaysOn b S e next true = passed b S e ≡ Some next
 PlaysOn b S e next false = passed b S e ≡ None
 
--- the section says that the run has ended, and the choreography has not
+-- the section says that the run has ended, and it has not
 abbrev pub is_cut_short : Option Last → Bool → Bool
 is_cut_short (Some (last.Ended n)) over = if over then false else true
 is_cut_short _ over = false

@@ -1,11 +1,11 @@
 -- What each command may answer to a bundle that it takes: how it ends, and its text.
-use Rattle.std.specs.Prelude.{◌≡◌, ◌⊎◌, ◌≤◌, ℕ, suc, List, ◌∷◌, [], ◌++◌, length, take, Bool, true, false, Option, Some, None, if◌then◌else◌, codes, decimal, flat_map, option_map}
+use Rattle.std.specs.Prelude.{◌≡◌, ◌⊎◌, ◌≤◌, ℕ, zero, suc, List, ◌∷◌, [], ◌++◌, length, take, Bool, true, false, Option, Some, None, if◌then◌else◌, codes, decimal, flat_map, nat_lt, option_map, unwrap_or}
 use Rattle.std.specs.Option.{option_map_or}
 use Rattle.dioc_terms.specs.declared.names.Role.{Role}
 use Rattle.dioc_terms.specs.declared.entries.Entry.{Entry}
 use Rattle.dioc_terms.specs.declared.bundles.Last.{Last}
 use Rattle.dioc_terms.specs.declared.bundles.Last.TheVariants as last
-use Rattle.dioc_terms.specs.Messages.{visible}
+use Rattle.dioc_terms.specs.Messages.{is_aux, visible}
 use Rattle.dioc_terms.specs.Plain.{PlainBundle}
 use Rattle.dioc_terms.specs.Terms.{Term, nodes}
 use Rattle.projection.specs.Projection.{projected}
@@ -18,6 +18,8 @@ use Rattle.trace_text.specs.Lines.{line_end}
 use Rattle.trace_text.specs.Process.{process_text}
 use Rattle.trace_text.specs.Runs.{run_text}
 use Rattle.net_core.specs.Schedule.{sched, IsPrompt}
+use Rattle.net_drive.specs.Driven.{driven}
+use Rattle.net_drive.specs.Strays.{drive_stray}
 use Rattle.net_drive.specs.Resumed.{resumed_history, run_stray}
 use Rattle.rule_checks.specs.Refusals.{refusal}
 use Rattle.mend.specs.Traces.{mended_bundle}
@@ -31,6 +33,7 @@ use Rattle.command_words.specs.declared.commands.Command.TheVariants as command
 use Rattle.aioc_top.specs.declared.replies.End.{End}
 use Rattle.aioc_top.specs.declared.replies.End.TheVariants as end
 use Rattle.aioc_top.specs.declared.replies.Written.{Written}
+use Rattle.aioc_top.specs.Judging.{is_cut_short}
 use Rattle.aioc_top.specs.Reasons.{Reason, MayNotRun, CannotBeMended}
 
 -- how a command ends when it has written its text, and that text
@@ -133,6 +136,49 @@ resumed_or_no options b None = run_reply options b (resume_history options b)
 abbrev pub resume_reply : Options → PlainBundle → Reply
 resume_reply options b = resumed_or_no options b (resume_stray options b)
 
+-- ---- driven traces
+
+-- the number in the section of its visible entry of that number, both counted from 1
+abbrev pub section_number : List Entry → ℕ → ℕ
+section_number [] n = 0
+section_number (e ∷ es) zero = 0
+section_number (e ∷ es) (suc n) =
+    suc (if is_aux e then section_number es (suc n) else section_number es n)
+
+-- the number, among the visible entries of the trace section, of the first that can't come
+abbrev pub trace_stray : PlainBundle → Option ℕ
+trace_stray b = drive_stray b (visible b.trace.entries)
+
+-- the history of `drive`: the driven one of the visible entries of the trace section
+abbrev pub drive_history : PlainBundle → List Entry
+drive_history b = unwrap_or (driven b (visible b.trace.entries)) []
+
+-- the reply that prints it, auxiliary entries included; `no` with one past the last entry where the
+-- section says `ended` and the network has not ended
+abbrev pub driven_reply : PlainBundle → List Entry → Reply
+driven_reply b H =
+    if is_cut_short b.trace.last (is_finished b H) then no (suc (length b.trace.entries)) else
+    record {
+      end = end.Done;
+      text = run_text true false H (last_of (is_finished b H) (length H));
+    }
+
+abbrev pub driven_or_no : PlainBundle → Option ℕ → Reply
+driven_or_no b (Some n) = no (section_number b.trace.entries n)
+driven_or_no b None = driven_reply b (drive_history b)
+
+-- whether the section has more visible entries than are allowed
+abbrev pub is_too_long : Options → PlainBundle → Bool
+is_too_long options b = nat_lt options.steps (length (visible b.trace.entries))
+
+-- Nothing where the section has more visible entries than are allowed; else `no` with the number of
+-- the first that can't come, or the driven history. Auxiliary entries of the section are passed
+-- over, and have numbers all the same.
+abbrev pub drive_reply : Options → PlainBundle → Reply
+drive_reply options b =
+    if is_too_long options b then record { end = end.Limit; text = [] }
+    else driven_or_no b (trace_stray b)
+
 -- ---- made bundles
 
 -- the line of `gen`, for the made bundle and its run: the follower never refuses, so the words at
@@ -203,6 +249,7 @@ Replies (command.Run options) b reply =
 Replies command.Check b reply = reply ≡ done_reply (check_line b)
 Replies command.Project b reply = reply ≡ record { end = end.Done; text = project_text b }
 Replies command.Replay b reply = reply ≡ replay_reply b
+Replies (command.Drive options) b reply = reply ≡ drive_reply options b
 Replies (command.Resume options) b reply = reply ≡ resume_reply options b
 Replies command.Upgrade b reply = reply ≡ record { end = end.Done; text = upgrade_text b }
 Replies command.Mend b reply = reply ≡ record { end = end.Done; text = mend_text b }

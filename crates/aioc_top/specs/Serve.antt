@@ -1,10 +1,11 @@
 -- What the clauses of the top call say: each is a part of the table of calls, in words of its own.
-use Rattle.std.specs.Prelude.{◌≡◌, ◌⊎◌, ◌↔◌, ◌≤◌, ℕ, List, length, Bool, true, false, Option, Some, None, IfSome}
+use Rattle.std.specs.Prelude.{◌≡◌, ◌⊎◌, ◌↔◌, ◌≤◌, ◌<◌, ℕ, List, length, Bool, true, false, Option, Some, None, IfSome}
 use Rattle.std.specs.Io.KnownBytes.{Appends, IsAtEnd}
 use Rattle.aioc_io.specs.Faults.{Rose}
 use Rattle.aioc_io.specs.Sink.{SinkState, TakesPart}
 use Rattle.aioc_io.specs.Source.{SourceState}
 use Rattle.dioc_terms.specs.declared.entries.Entry.{Entry}
+use Rattle.dioc_terms.specs.Messages.{visible}
 use Rattle.dioc_terms.specs.Plain.{PlainBundle}
 use Rattle.limits.specs.Limits.{most_bytes}
 use Rattle.bundle_text.specs.Grammar.{Spells}
@@ -13,6 +14,8 @@ use Rattle.marked_laws.specs.Network.{Network, network_ended, network_run}
 use Rattle.marked_laws.specs.Versions.{with_version}
 use Rattle.net_core.specs.Schedule.{sched}
 use Rattle.net_core.specs.Headline.{Headline}
+use Rattle.net_drive.specs.Driven.{driven}
+use Rattle.net_drive.specs.Strays.{IsDriveStray}
 use Rattle.rule_checks.specs.Refusals.{IsAccepted, refusal}
 use Rattle.mend.specs.Traces.{mended_bundle}
 use Rattle.bundle_mend.specs.Refusals.{mend_refusal}
@@ -23,9 +26,10 @@ use Rattle.load_gen.specs.Made.{made}
 use Rattle.command_words.specs.declared.commands.Command.{Command}
 use Rattle.command_words.specs.declared.commands.Command.TheVariants as command
 use Rattle.aioc_top.specs.Calls.{IsRead, ReadsNothing, SaysLine}
+use Rattle.aioc_top.specs.Judging.{is_cut_short}
 use Rattle.aioc_top.specs.Messages.{usage_line, read_fault_line, write_fault_line, too_long_line, memory_line, syntax_line, refusal_line}
 use Rattle.aioc_top.specs.Reasons.{Reason}
-use Rattle.aioc_top.specs.Replies.{Reply, Replies, refusal_of, run_reply, step_history, resume_history, resume_reply, resume_stray, line_of_text, check_line, project_text, replay_reply, upgrade_text, mend_text, unread_reply, gen_line, gen_history}
+use Rattle.aioc_top.specs.Replies.{Reply, Replies, drive_history, drive_reply, is_finished, refusal_of, run_reply, step_history, resume_history, resume_reply, resume_stray, line_of_text, check_line, project_text, replay_reply, trace_stray, upgrade_text, mend_text, unread_reply, gen_line, gen_history}
 use Rattle.aioc_top.specs.Verdicts.{Replied, Comes, Cause, Refuses, status_of_end}
 use Rattle.aioc_top.specs.declared.status.Status.{Status}
 use Rattle.aioc_top.specs.declared.status.Status.TheVariants as status
@@ -125,6 +129,35 @@ abbrev pub ResumeText : Option Command → Status → SourceState → SinkState 
 ResumeText asked result source out out_after =
     (options : Options) → asked ≡ Some (command.Resume options) → has_printed result ≡ true
     → ResumePrinted options result source out out_after
+
+-- the history is the driven one of the visible entries of the trace section, which are exactly what
+-- is visible of it, and the headline holds of it
+pub record IsDrivenRun (b : PlainBundle) (history : List Entry) : Type 0 where
+  pub driven : driven b (visible b.trace.entries) ≡ Some history
+  pub shows : visible history ≡ visible b.trace.entries
+  pub network : Network
+  pub headline : Headline b history network
+
+-- what the status of `drive` tells: there is a driven run; one of the visible entries is the first
+-- that makes a trace which isn't both played and settled, or the section says `ended` too soon;
+-- there are more of them than the options allow
+abbrev pub DriveTold : Options → PlainBundle → Status → Type 0
+DriveTold options b status.Done =
+    (length (visible b.trace.entries) ≤ options.steps) × IsDrivenRun b (drive_history b)
+DriveTold options b status.No =
+    (length (visible b.trace.entries) ≤ options.steps)
+    × (((n : ℕ) × (trace_stray b ≡ Some n) × IsDriveStray b (visible b.trace.entries) n)
+    ⊎ (IsDrivenRun b (drive_history b)
+    × (is_cut_short b.trace.last (is_finished b (drive_history b)) ≡ true)))
+DriveTold options b status.Limit = options.steps < length (visible b.trace.entries)
+DriveTold options b _ = Unit {0}
+
+-- with `drive` it is the text of the driven run, or `no` with the number of an entry, or nothing
+abbrev pub DriveText : Option Command → Status → SourceState → SinkState → SinkState → Type 0
+DriveText asked result source out out_after =
+    (options : Options) → asked ≡ Some (command.Drive options) → has_printed result ≡ true
+    → (judged : JudgementPrinted (drive_reply options) result source out out_after)
+    × DriveTold options judged.bundle result
 
 -- A bundle with version 2: it is accepted, and its text spells it where it isn't too long. It has
 -- the same first refusal, plays, runs and schedules as before.

@@ -3,7 +3,7 @@ use Rattle.std.specs.Prelude.{◌≡◌, ◌≤◌, ℕ, List, Bool, true, false
 use Rattle.command_words.specs.Commands.{command_of, most_steps}
 use Rattle.command_words.specs.declared.commands.Command.{Command}
 use Rattle.command_words.specs.declared.commands.Command.TheVariants as command
-use Rattle.command_words.specs.declared.commands.Verb.TheVariants.{Resume, Step}
+use Rattle.command_words.specs.declared.commands.Verb.TheVariants.{Drive, Resume, Step}
 
 -- the commands that are built
 abbrev pub is_built : Command → Bool
@@ -13,6 +13,7 @@ is_built command.Project = true
 is_built command.Replay = true
 is_built command.Upgrade = true
 is_built command.Mend = true
+is_built (command.Drive options) = true
 is_built (command.Resume options) = true
 is_built (command.Gen number size) = true
 is_built _ = false
@@ -25,6 +26,7 @@ asked words =
 -- A run is to have no more entries than words can ask for, and what is made is no larger.
 abbrev pub IsShort : Command → Type 0
 IsShort (command.Step options) = options.steps ≤ most_steps Step
+IsShort (command.Drive options) = options.steps ≤ most_steps Drive
 IsShort (command.Resume options) = options.steps ≤ most_steps Resume
 IsShort (command.Gen number size) = (1 ≤ size) × (size ≤ 400)
 IsShort _ = Unit {0}

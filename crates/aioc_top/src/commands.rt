@@ -1,6 +1,7 @@
 //! The commands: one module for each, from a bundle to its text.
 
 pub mod check;
+pub mod drive;
 pub mod generate;
 pub mod mending;
 pub mod project;

@@ -11,6 +11,7 @@ ghost use Rattle.aioc_top.specs.Verdicts.{ComesOfText, Replied, IsReplied};
 ghost use Rattle.aioc_top.specs.Words.{IsServed};
 
 use crate::commands::check::check;
+use crate::commands::drive::drive;
 use crate::commands::mending::mend;
 use crate::commands::project::project;
 use crate::commands::replay::replay;
@@ -133,6 +134,7 @@ fn do_command(alloc: Global, command: &Command, bundle: &mut Bundle) -> Result<W
         Command::Check => check(alloc, bundle),
         Command::Project => project(alloc, bundle),
         Command::Replay => replay(alloc, bundle),
+        Command::Drive(options) => drive(alloc, options, bundle),
         Command::Resume(options) => resume(alloc, options, bundle),
         Command::Upgrade => upgrade(alloc, bundle),
         _ => unreachable!(),

@@ -3,12 +3,12 @@
 ghost use Rattle.std.specs.Prelude.{◌≡◌, IfOk};
 ghost use Rattle.dioc_terms.specs.Plain.{plain};
 ghost use Rattle.bundle_text.specs.Writing.{bundle_text};
-ghost use Rattle.aioc_top.specs.Replies.{no, reply_of, yes};
+ghost use Rattle.aioc_top.specs.Replies.{last_of, no, reply_of, yes};
 ghost use Rattle.aioc_top.specs.Verdicts.{status_of_end};
 
 use crate::status::Status;
 use bundle_text::write_bundle;
-use dioc_terms::{Bundle, Memory};
+use dioc_terms::{Bundle, Last, Memory};
 use std::alloc::Global;
 use text_pieces::{write_bytes, write_number};
 
@@ -17,9 +17,10 @@ use text_pieces::{write_bytes, write_number};
 pub enum End {
     /// It did its work; of a run: the network has ended.
     Done,
-    /// The run has as many entries as are allowed, and its network has not ended.
+    /// The run has as many entries as are allowed, and its network has not ended; of a trace that
+    /// is to be driven: it has more.
     Limit,
-    /// A judged trace has an entry that isn't played.
+    /// A trace has an entry that isn't played, or that can't come.
     No,
 }
 
@@ -81,4 +82,15 @@ pub fn say_no(alloc: Global, number: u64) -> Result<Written, Memory>
     write_number(number, &mut text)?;
     write_bytes(b"\n", &mut text)?;
     Ok(Written { end: End::No, text })
+}
+
+/// The last line of a run: whether it has ended, and how many entries it has.
+pub fn last_line(is_over: bool, entries: u64) -> Last
+    ensures { result ≡ last_of is_over entries }
+{
+    if is_over {
+        Last::Ended(entries)
+    } else {
+        Last::Stopped(entries)
+    }
 }

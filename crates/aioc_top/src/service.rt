@@ -7,12 +7,14 @@ ghost use Rattle.bundle_text.specs.Laws.{OneBundle, SpelledIsFormed, WrittenIsSp
 ghost use Rattle.net_core.specs.Headline.{EveryRun};
 ghost use Rattle.load_gen.specs.Laws.{MadeAreAccepted};
 ghost use Rattle.marked_laws.specs.Versions.{RunsReadNoVersion};
-ghost use Rattle.net_core.specs.Laws.{RunsAreSound, SchedulesReadNoVersion};
+ghost use Rattle.net_core.specs.Laws.{AcceptedIsSound, RunsAreSound, SchedulesReadNoVersion};
+ghost use Rattle.net_drive.specs.Laws.{DrivenExactly, DrivenRuns};
+ghost use Rattle.net_drive.specs.Strays.{DriveStraysAreExact};
 ghost use Rattle.net_drive.specs.ResumedLaws.{ResumedRuns, RunStraysAreExact};
 ghost use Rattle.aioc_top.specs.Calls.{Happens, PrintsReply, SaysLine};
 ghost use Rattle.aioc_top.specs.Faults.{line_of, status_of};
 ghost use Rattle.aioc_top.specs.Replies.{reply_of};
-ghost use Rattle.aioc_top.specs.Serve.{CheckText, ComesExactly, Complete, GenText, HeadlineHolds, MendText, ProjectText, ReadsAll, ReplayText, ResumeText, SaysWhy, Silent, StepText, UpgradeText, UsageComes};
+ghost use Rattle.aioc_top.specs.Serve.{CheckText, ComesExactly, Complete, DriveText, GenText, HeadlineHolds, MendText, ProjectText, ReadsAll, ReplayText, ResumeText, SaysWhy, Silent, StepText, UpgradeText, UsageComes};
 ghost use Rattle.aioc_top.specs.Words.{asked, IsServed};
 ghost use Rattle.command_words.specs.Commands.{word_texts};
 
@@ -28,8 +30,10 @@ use command_words::Command;
 use dioc_terms::Memory;
 use load_gen::made_are_accepted;
 use marked_laws::runs_read_no_version;
-use net_core::{every_run, runs_are_sound, schedules_read_no_version};
-use net_drive::{resumed_runs, run_strays_are_exact};
+use net_core::{accepted_is_sound, every_run, runs_are_sound, schedules_read_no_version};
+use net_drive::{
+    drive_strays_are_exact, driven_exactly, driven_runs, resumed_runs, run_strays_are_exact,
+};
 use std::alloc::Global;
 
 /// Does what the words after the program's name say: reads a bundle from the source, and writes the
@@ -51,14 +55,17 @@ pub fn serve_alone<S: Source, O: Sink, E: Sink>(
         (O.state out.old) (O.state out.new) }
 
     // With `check` the line that says how large the bundle is, with `project` a line for each role,
-    // with `replay` the judgement of the trace, with `resume` the run that goes on from its
-    // entries, with `upgrade` the bundle in its second version, with `mend` the bundle connected by
-    // added messages, with `gen` the line of the bundle that is made of its numbers.
+    // with `replay` the judgement of the trace, with `drive` the run that shows exactly this trace,
+    // with `resume` the run that goes on from its entries, with `upgrade` the bundle in its second
+    // version, with `mend` the bundle connected by added messages, with `gen` the line of the
+    // bundle that is made of its numbers.
     ensures check_text { CheckText (asked (word_texts words.now)) result (S.state source.old)
         (O.state out.old) (O.state out.new) }
     ensures project_text { ProjectText (asked (word_texts words.now)) result (S.state source.old)
         (O.state out.old) (O.state out.new) }
     ensures replay_text { ReplayText (asked (word_texts words.now)) result (S.state source.old)
+        (O.state out.old) (O.state out.new) }
+    ensures drive_text { DriveText (asked (word_texts words.now)) result (S.state source.old)
         (O.state out.old) (O.state out.new) }
     ensures resume_text { ResumeText (asked (word_texts words.now)) result (S.state source.old)
         (O.state out.old) (O.state out.new) }
@@ -117,6 +124,10 @@ fn know_laws()
     ensures made { MadeAreAccepted }
     ensures resumed { ResumedRuns }
     ensures strays { RunStraysAreExact }
+    ensures driven { DrivenRuns }
+    ensures exactly { DrivenExactly }
+    ensures drive_strays { DriveStraysAreExact }
+    ensures accepted { AcceptedIsSound }
     ensures every_run { EveryRun }
     ensures sound { RunsAreSound }
     ensures runs { RunsReadNoVersion }
@@ -129,6 +140,10 @@ fn know_laws()
     made_are_accepted();
     resumed_runs();
     run_strays_are_exact();
+    driven_runs();
+    driven_exactly();
+    drive_strays_are_exact();
+    accepted_is_sound();
     every_run();
     runs_are_sound();
     runs_read_no_version();

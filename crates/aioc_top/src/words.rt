@@ -35,7 +35,7 @@ fn is_built(command: &Command) -> bool
     ensures { result ≡ is_built command.now }
 {
     match command {
-        Command::Step(_) | Command::Resume(_) => true,
+        Command::Step(_) | Command::Drive(_) | Command::Resume(_) => true,
         Command::Check | Command::Project | Command::Replay => true,
         Command::Upgrade | Command::Mend => true,
         Command::Gen { .. } => true,

@@ -55,8 +55,8 @@ fn say_whole(
     }
 }
 
-// Whether the section says that the run has ended, and the choreography has not.
-fn is_cut_short(last: &Option<Last>, is_over: bool) -> bool
+/// Whether the section says that the run has ended, and it has not.
+pub fn is_cut_short(last: &Option<Last>, is_over: bool) -> bool
     ensures { result ≡ is_cut_short last.now is_over }
 {
     match last {
@@ -106,8 +106,8 @@ fn plays_on(alloc: Global, follower: &mut Follower<'_>, entry: &Entry) -> Result
     }
 }
 
-// How many of the entries are visible.
-fn visible_len(entries: &[Entry]) -> u64
+/// How many of the entries are visible.
+pub fn visible_len(entries: &[Entry]) -> u64
     ensures { result ≡ length (visible entries.now) }
 {
     let mut count: u64 = 0;

@@ -7,11 +7,11 @@ ghost use Rattle.role_network.specs.Nets.{IsSoundRun, bundle_of};
 ghost use Rattle.rule_checks.specs.Refusals.{IsAccepted};
 ghost use Rattle.command_words.specs.Commands.{most_steps};
 ghost use Rattle.command_words.specs.declared.commands.Verb.{Verb};
-ghost use Rattle.aioc_top.specs.Replies.{last_of, reply_of, resume_reply, run_reply};
+ghost use Rattle.aioc_top.specs.Replies.{reply_of, resume_reply, run_reply};
 
-use crate::replies::{End, Written, say_no};
+use crate::replies::{End, Written, last_line, say_no};
 use command_words::Options;
-use dioc_terms::{Bundle, Last, Memory};
+use dioc_terms::{Bundle, Memory};
 use dpoc_process::RoleState;
 use net_drive::{ResumeFault, run_strays_are_exact};
 use role_network::Net;
@@ -68,14 +68,4 @@ fn say_run(alloc: Global, options: &Options, net: &Net<RoleState>) -> Result<Wri
     )?;
     let end = if is_over { End::Done } else { End::Limit };
     Ok(Written { end, text })
-}
-
-fn last_line(is_over: bool, entries: u64) -> Last
-    ensures { result ≡ last_of is_over entries }
-{
-    if is_over {
-        Last::Ended(entries)
-    } else {
-        Last::Stopped(entries)
-    }
 }

@@ -3,6 +3,7 @@ use Rattle.std.proofs.Common.{refl}
 use Rattle.aioc_top.specs.declared.status.Status.TheVariants as status
 use Rattle.aioc_top.proofs.Asked as asking
 use Rattle.aioc_top.proofs.Clauses as clauses
+use Rattle.aioc_top.proofs.Driven.{drive_told}
 use Rattle.aioc_top.proofs.service.serve_alone.Goals as goal
 
 pub returns-clause-step_text : goal.returns-clause-step_text
@@ -25,6 +26,12 @@ returns-clause-upgrade_text g c =
 pub returns-clause-mend_text : goal.returns-clause-mend_text
 returns-clause-mend_text g c =
     clauses.mend_text c.know_laws.ensures.written c.know_laws.ensures.mended c.know_laws.ensures.formed _ c.do_words.result c.do_words.ensures
+
+pub returns-clause-drive_text : goal.returns-clause-drive_text
+returns-clause-drive_text g c options is prints =
+    let k = c.know_laws.ensures in
+    let judged = clauses.drive_judged k.formed options _ c.do_words.result c.do_words.ensures is prints in
+    (judged, drive_told k.drive_strays k.driven k.exactly k.every_run k.accepted options judged.bundle judged.accepted c.do_words.result judged.told)
 
 pub returns-clause-resume_text : goal.returns-clause-resume_text
 returns-clause-resume_text g c options is prints =
