@@ -89,6 +89,12 @@ fn refused_resume(rt: HostRuntime) -> Result<(), Fail> {
 }
 
 #[test]
+fn refused_drive(rt: HostRuntime) -> Result<(), Fail> {
+    assert!(rt; end_as_they_may(&rt, &["drive"], PLAYED, Status::Done));
+    Ok(())
+}
+
+#[test]
 fn refused_gen(rt: HostRuntime) -> Result<(), Fail> {
     assert!(rt; end_as_they_may(&rt, &["gen", "1", "3"], b"", Status::Done));
     Ok(())
