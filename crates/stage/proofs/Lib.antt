@@ -1,2 +1,10 @@
 pub mod Runs
+pub mod PromptRuns
+pub mod HomeLemmas
+pub mod TakeLemmas
+pub mod ChangedHome
+pub mod OwnLemmas
+pub mod OpeningLemmas
+pub mod SeatLemmas
+pub mod SeatingLemmas
 pub mod Examples

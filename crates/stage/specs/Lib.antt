@@ -1,3 +1,5 @@
+pub mod Faults
+pub mod Homes
 pub mod Owners
 pub mod Roles
 pub mod Seats

@@ -1,6 +1,13 @@
 //! The stage on which roles run: what they share lies under a turn lock.
 #![tactic(auto)]
 
+mod committing;
+mod faults;
+mod home;
 mod laws;
+mod messages;
+mod opening;
 
+pub use faults::{CommitFault, Why};
+pub use home::Home;
 pub use laws::{deeds_move, others_leave_alone};

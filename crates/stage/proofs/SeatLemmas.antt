@@ -1,0 +1,128 @@
+-- What a hold leaves its seat.
+use Rattle.std.proofs.Common.{◌≡◌, ◌≢◌, ◌≤◌, ℕ, List, [], ◌∷◌, ◌++◌, length, Option, Some, None, refl, sym, ap, ◌∙◌, subst}
+use Rattle.dioc_terms.specs.declared.entries.Act.{Act}
+use Rattle.dioc_terms.specs.declared.entries.Entry.{Entry}
+use Rattle.dioc_terms.specs.declared.names.Role.{Role}
+use Rattle.dioc_terms.specs.declared.processes.Key.{Key}
+use Rattle.dioc_terms.specs.Messages.{doer, act_of}
+use Rattle.dioc_terms.specs.Plain.{plain, setting}
+use Rattle.marked_laws.proofs.Shapes.{some_same}
+use Rattle.marked_laws.specs.Network.{given_at}
+use Rattle.process_steps.specs.Steps.{Deed, Given, Alone, entry_of, step, store_after}
+use Rattle.turn_lock.specs.declared.views.View.{View}
+use Rattle.turn_lock.specs.Items.{BeginsWith, items_of}
+use Rattle.turn_lock.specs.Views.{number, mine, entered, left, left_with}
+use Rattle.stage.specs.declared.faults.CommitFault.{CommitFault}
+use Rattle.stage.specs.declared.faults.CommitFault.TheVariants as fault
+use Rattle.stage.specs.Homes.{HomeState, IsSoundHome}
+use Rattle.stage.specs.Laws.{DeedsMove, OthersLeaveAlone}
+use Rattle.stage.specs.Owners.{cast_place, owner_in}
+use Rattle.stage.specs.Roles.{RoleStandsAt, CanAdd, CanDo, CanTake}
+use Rattle.stage.proofs.OwnLemmas.{is_own}
+use Rattle.process_steps.specs.Laws.{StepsShowTheirActs}
+use Rattle.stage.specs.Seats.{Base, CanCommit, CanCommitOwn, CanReceive, Committed, CommittedOwn, RefusedFor, StillStands}
+
+module _ (v : View Entry Base) (home : HomeState) (base : v.base ≡ Some (home.bundle, home.limit)) where
+  base_is : (b : Base) → v.base ≡ Some b → (home.bundle, home.limit) ≡ b
+  base_is b h = some_same (sym base ∙ h)
+
+  -- what the turn lock says of a seat that enters, said of roles
+  pub still_stands : OthersLeaveAlone → BeginsWith home.history v.seen → items_of (owner_in home.bundle.cast) (number v) home.history ≡ mine v
+      → items_of (owner_in home.bundle.cast) (number v) v.seen ≡ mine v → IsSoundHome home → StillStands v home.history
+  still_stands law begins own met sound = record {
+    begins = begins;
+    stands = λ b q P s sits at.
+        let same = base_is b sits.0 in
+        let place : number v ≡ cast_place home.bundle.cast q = sits.1 ∙ ap (λ (c : Base). cast_place c.0.cast q) (sym same) in
+        subst (λ (c : Base). RoleStandsAt (plain c.0) v.seen q P s → RoleStandsAt (plain c.0) home.history q P s) same
+        (law (plain home.bundle) v.seen home.history (mine v) sound.network q P s begins
+        (subst (λ n. items_of (owner_in home.bundle.cast) n home.history ≡ mine v) place own)
+        (subst (λ n. items_of (owner_in home.bundle.cast) n v.seen ≡ mine v) place met) sound.runs) at;
+  }
+
+  -- a take that its role offered is one that it offers still
+  pub take_now : StillStands v home.history → (q : Role) (k : Key) (x : Option (List ℕ)) → CanReceive v q k x → CanTake (plain home.bundle) home.history q k x
+  take_now still q k x can =
+      let here = can (home.bundle, home.limit) base in
+      record {
+        process = here.1.process;
+        store = here.1.store;
+        stands = still.stands (home.bundle, home.limit) q here.1.process here.1.store (base, here.0) here.1.stands;
+        offers = here.1.offers;
+        shows = here.1.shows;
+      }
+
+  module _ (still : StillStands v home.history) (q : Role) (a : Act) (given : Given) (d : Deed) where
+    -- what the role could do after what its seat had seen, it can do in the home that is found
+    pub can_now : CanCommit v q a given d → CanDo (plain home.bundle) home.history q a given d
+    can_now can =
+        let here = can (home.bundle, home.limit) base in
+        record {
+          process = here.1.process;
+          store = here.1.store;
+          stands = still.stands (home.bundle, home.limit) q here.1.process here.1.store (base, here.0) here.1.stands;
+          next = here.1.next;
+          does = here.1.does;
+        }
+
+    -- what a commit leaves its seat
+    pub committed : (fault_of : HomeState → Option CommitFault) → DeedsMove → (sound : IsSoundHome home) → given ≡ given_at (setting (plain home.bundle)) sound.network q a
+        → doer (entry_of d) ≡ Some q → act_of (entry_of d) ≡ Some a → fault_of home ≡ None
+        → length (home.history ++ entry_of d ∷ []) ≤ home.limit → (w : View Entry Base) → w ≡ left_with (entered v home.history) (entry_of d ∷ [])
+        → Committed fault_of v w q a given d
+    committed fault_of law sound fits who acts free within w is = subst (λ u. Committed fault_of v u q a given d) (sym is) (record {
+      same_base = refl;
+      same_number = refl;
+      one_more = refl;
+      home = home;
+      found = record { base = base; history = refl; sound = sound };
+      free = free;
+      begins = still.begins;
+      seen = refl;
+      within = within;
+      moved = λ b P Q s sits at does.
+          subst (λ (c : Base). RoleStandsAt (plain c.0) home.history q P s → RoleStandsAt (plain c.0) (home.history ++ entry_of d ∷ []) q Q (store_after d s)) (base_is b sits.0)
+          (λ here. law (plain home.bundle) home.history sound.network q P s a d Q sound.runs here (ap (step q s P a) (sym fits) ∙ does) who acts)
+          (still.stands b q P s sits at);
+    })
+
+  -- what a refusal leaves its seat
+  pub refused : StillStands v home.history → IsSoundHome home → (fault_of : HomeState → Option CommitFault) (f : CommitFault) → (f ≢ fault.Memory → fault_of home ≡ Some f)
+      → (w : View Entry Base) → w ≡ left (entered v home.history) → RefusedFor fault_of v w f
+  refused still sound fault_of f first w is = subst (λ u. RefusedFor fault_of v u f) (sym is) (record {
+    looked = record { same_base = refl; same_number = refl; same_mine = refl; still = still };
+    home = home;
+    found = record { base = base; history = refl; sound = sound };
+    first = first;
+  })
+
+  -- what a role could do alone it can do in the home that is found
+  pub can_add_now : StillStands v home.history → (e : Entry) → CanCommitOwn v e → CanAdd (plain home.bundle) home.history e
+  can_add_now still e can = record {
+    role = can.role;
+    act = can.act;
+    deed = can.deed;
+    is_own = can.is_own;
+    who = can.who;
+    can = can_now still can.role can.act Alone can.deed can.can;
+  }
+
+  -- what its commit leaves its seat
+  pub committed_own : StillStands v home.history → (e : Entry) → (can : CanCommitOwn v e) → (fault_of : HomeState → Option CommitFault) → DeedsMove → StepsShowTheirActs → IsSoundHome home
+      → fault_of home ≡ None → length (home.history ++ e ∷ []) ≤ home.limit → (w : View Entry Base) → w ≡ left_with (entered v home.history) (e ∷ []) → CommittedOwn fault_of v w e
+  committed_own still e can fault_of law shows sound free within w is =
+      let own = is_own e can.deed can.is_own in
+      let here = can.can (home.bundle, home.limit) base in
+      let acts = shows can.role here.1.store here.1.process can.act Alone can.deed here.1.next here.1.does in
+      record {
+        role = can.role;
+        act = can.act;
+        deed = can.deed;
+        is_own = can.is_own;
+        who = can.who;
+        done = committed still can.role can.act Alone can.deed fault_of law sound
+            (own.alone (setting (plain home.bundle)) sound.network can.role can.act acts)
+            (ap doer own.shows ∙ can.who) acts free
+            (subst (λ x. length (home.history ++ x ∷ []) ≤ home.limit) (sym own.shows) within) w
+            (is ∙ ap (λ x. left_with (entered v home.history) (x ∷ [])) (sym own.shows));
+      }
