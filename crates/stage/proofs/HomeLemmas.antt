@@ -22,7 +22,7 @@ use Rattle.marked_laws.proofs.Shapes.{some_same}
 use Rattle.marked_laws.specs.Laws.{IsSound, UniqueKeys}
 use Rattle.marked_laws.specs.MailLaws.{MailIsAMap}
 use Rattle.marked_laws.specs.Network.{Network, given_at, network_run, pending_at}
-use Rattle.net_core.specs.Schedule.{due_after, change_due}
+use Rattle.net_core.specs.Schedule.{change_is_due, change_due}
 use Rattle.process_steps.specs.Laws.{is_done, OffersAreSteps, StepsShowTheirActs}
 use Rattle.process_steps.specs.Steps.{Deed, Puts, Takes, Sets, Inputs, Picks, Chooses, Given, Alone, Got, entry_of, ended, is_offered, offers, step}
 use Rattle.role_mailbox.specs.declared.mail.Mail.{Mail}
@@ -78,7 +78,7 @@ both is not = cc
 
 module _ (b : PlainBundle) (limit : ℕ) (H : List Entry) (mail : Mail) (book : KeptBook) (script : List ScriptedChange) (count : ℕ) (is : IsSharedAfter b limit H mail book script count) where
   -- whether the script's next change is due
-  pub due_is : is_first_due script (length (visible H)) ≡ due_after b H
+  pub due_is : is_first_due script (length (visible H)) ≡ change_is_due b H
   due_is = ap (λ s. is_first_due s (length (visible H))) is.rest
       ∙ first_due b.rules b.script is.network.changes (length (visible H))
       ∙ ap (λ n. change_due b.script n (length (visible H))) is.changes
@@ -128,7 +128,7 @@ module _ (b : PlainBundle) (limit : ℕ) (H : List Entry) (mail : Mail) (book : 
         is.sound is.runs (ap (deed_outcome is.network q) does)
 
     -- what the roles share after the deed
-    pub shared_did : length H < limit → due_after b H ≡ false → (mail' : Mail) (count' : ℕ) (H' : List Entry) → MailAfter d mail mail'
+    pub shared_did : length H < limit → change_is_due b H ≡ false → (mail' : Mail) (count' : ℕ) (H' : List Entry) → MailAfter d mail mail'
         → count' ≡ updates_after (entry_of d) count → H' ≡ H ++ entry_of d ∷ [] → IsSharedAfter b limit H' mail' book script count'
     shared_did room calm mail' count' H' changed counted pushed = subst (λ h. IsSharedAfter b limit h mail' book script count') (sym pushed) (record {
       sound = is.sound;
@@ -229,16 +229,16 @@ no_fault_if true f h = cc
 pub record IsFree (home : HomeState) : Type 0 where
   pub goes : home.stopped ≡ None
   pub room : length home.history < home.limit
-  pub calm : due_after (plain home.bundle) home.history ≡ false
+  pub calm : change_is_due (plain home.bundle) home.history ≡ false
 
 pub role_free : (home : HomeState) → role_fault home ≡ None → IsFree home
 role_free home h =
-    let stop = or_none (stop_fault home.stopped) (option_or (full_fault home) (fault_if (due_after (plain home.bundle) home.history) fault.NotYet)) h in
-    let full = or_none (full_fault home) (fault_if (due_after (plain home.bundle) home.history) fault.NotYet) stop.1 in
+    let stop = or_none (stop_fault home.stopped) (option_or (full_fault home) (fault_if (change_is_due (plain home.bundle) home.history) fault.NotYet)) h in
+    let full = or_none (full_fault home) (fault_if (change_is_due (plain home.bundle) home.history) fault.NotYet) stop.1 in
     record {
       goes = no_stop home.stopped stop.0;
       room = not_full home.limit home.history (no_fault_if (nat_le home.limit (length home.history)) fault.Full full.0);
-      calm = no_fault_if (due_after (plain home.bundle) home.history) fault.NotYet full.1;
+      calm = no_fault_if (change_is_due (plain home.bundle) home.history) fault.NotYet full.1;
     }
 
 pub take_free : (k : Key) (home : HomeState) → take_fault k home ≡ None

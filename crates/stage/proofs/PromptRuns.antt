@@ -8,7 +8,7 @@ use Rattle.dioc_terms.specs.declared.entries.Entry.{Entry}
 use Rattle.dioc_terms.specs.Messages.{doer}
 use Rattle.dioc_terms.specs.Plain.{PlainBundle, PlainRule}
 use Rattle.marked_laws.proofs.Shapes.{same_head, some_nil}
-use Rattle.net_core.specs.Schedule.{change_due, changes_in, due_after, IsPrompt}
+use Rattle.net_core.specs.Schedule.{change_due, changes_in, change_is_due, IsPrompt}
 use Rattle.role_network.specs.MovesIn.{is_first_due}
 use Rattle.role_network.specs.Standing.{due_of}
 
@@ -25,9 +25,9 @@ split_last (g ∷ gs) (y ∷ ys) e x rest h = ⊎_elim
     (split_last gs ys e x rest (same_head h).1)
 
 -- a prompt history is so with one entry more, which is a change or comes where none is due
-pub prompt_more : (b : PlainBundle) (H : List Entry) (e : Entry) → IsPrompt b H → (is_some (doer e) ≡ true → due_after b H ≡ false) → IsPrompt b (H ++ e ∷ [])
+pub prompt_more : (b : PlainBundle) (H : List Entry) (e : Entry) → IsPrompt b H → (is_some (doer e) ≡ true → change_is_due b H ≡ false) → IsPrompt b (H ++ e ∷ [])
 prompt_more b H e prompt last before x rest is does = ⊎_elim
-    (λ here. ap (due_after b) here.0 ∙ last (ap (λ y. is_some (doer y)) (sym here.1) ∙ does))
+    (λ here. ap (change_is_due b) here.0 ∙ last (ap (λ y. is_some (doer y)) (sym here.1) ∙ does))
     (λ inside. prompt before x inside.0 inside.1 does)
     (split_last H before e x rest is)
 

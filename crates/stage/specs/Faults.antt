@@ -7,7 +7,7 @@ use Rattle.dioc_terms.specs.declared.processes.Key.{Key}
 use Rattle.dioc_terms.specs.Messages.{visible}
 use Rattle.dioc_terms.specs.Plain.{plain}
 use Rattle.marked_laws.specs.Network.{pending_at}
-use Rattle.net_core.specs.Schedule.{changes_in, due_after}
+use Rattle.net_core.specs.Schedule.{changes_in, change_is_due}
 use Rattle.role_network.specs.Nets.{network_at}
 use Rattle.stage.specs.declared.faults.CommitFault.{CommitFault}
 use Rattle.stage.specs.declared.faults.CommitFault.TheVariants as fault
@@ -32,7 +32,7 @@ abbrev pub role_fault : HomeState → Option CommitFault
 role_fault home =
     option_or (stop_fault home.stopped)
     (option_or (full_fault home)
-    (fault_if (due_after (plain home.bundle) home.history) fault.NotYet))
+    (fault_if (change_is_due (plain home.bundle) home.history) fault.NotYet))
 
 -- of a take: those, and its message isn't pending
 abbrev pub take_fault : Key → HomeState → Option CommitFault

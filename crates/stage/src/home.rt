@@ -2,7 +2,7 @@
 
 ghost use Rattle.std.specs.Prelude.{◌≡◌, nat_le, length};
 ghost use Rattle.dioc_terms.specs.Plain.{plain};
-ghost use Rattle.net_core.specs.Schedule.{due_after};
+ghost use Rattle.net_core.specs.Schedule.{change_is_due};
 ghost use Rattle.stage.specs.Faults.{role_fault, take_fault};
 ghost use Rattle.stage.specs.Homes.{IsSoundHome};
 
@@ -123,7 +123,7 @@ impl Home {
 
     /// Whether the script's next change is due.
     fn is_due(&self) -> bool
-        ensures { result ≡ due_after (plain self.now.bundle) self.now.history }
+        ensures { result ≡ change_is_due (plain self.now.bundle) self.now.history }
     {
         is_first_due(&self.coming, self.history.visible_len())
     }

@@ -2,7 +2,7 @@
 use Rattle.std.proofs.Common.{ap, ◌∙◌}
 use Rattle.std.specs.Prelude.{map}
 use Rattle.dioc_terms.specs.Plain.{plain}
-use Rattle.net_core.specs.Schedule.{due_after}
+use Rattle.net_core.specs.Schedule.{change_is_due}
 use Rattle.role_network.specs.KeptParts.{due_seen}
 use Rattle.role_network.specs.MovesIn.{is_first_due}
 use Rattle.stage.proofs.HomeLemmas.{due_is}
@@ -14,4 +14,4 @@ returns c =
     let i = c.self.inside in
     c.is_first_due.ensures ∙ ap (is_first_due (map due_seen i.coming.items)) c.visible_len.ensures
     ∙ due_is (plain i.of.value) i.limit i.history.entries i.mail i.book (map due_seen i.coming.items) i.updates c.self.invariant.shared
-    ∙ ap (λ (home : HomeState). due_after (plain home.bundle) home.history) c.self.view_is
+    ∙ ap (λ (home : HomeState). change_is_due (plain home.bundle) home.history) c.self.view_is
