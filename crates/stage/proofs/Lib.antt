@@ -6,5 +6,6 @@ pub mod ChangedHome
 pub mod OwnLemmas
 pub mod OpeningLemmas
 pub mod SeatLemmas
+pub mod HoldLemmas
 pub mod SeatingLemmas
 pub mod Examples

@@ -1,5 +1,5 @@
 -- What a commit asks of its seat, and what a call of a stage leaves it.
-use Rattle.std.specs.Prelude.{◌≡◌, ◌≢◌, ℕ, zero, suc, ◌≤◌, List, [], ◌∷◌, ◌++◌, length, false, Option, Some, None}
+use Rattle.std.specs.Prelude.{◌≡◌, ◌≢◌, ℕ, zero, suc, List, [], ◌∷◌, ◌++◌, false, Option, Some, None}
 use Rattle.dioc_terms.specs.declared.bundles.Bundle.{Bundle}
 use Rattle.dioc_terms.specs.declared.entries.Act.{Act}
 use Rattle.dioc_terms.specs.declared.entries.Entry.{Entry}
@@ -7,9 +7,10 @@ use Rattle.dioc_terms.specs.declared.names.Role.{Role}
 use Rattle.dioc_terms.specs.declared.processes.Key.{Key}
 use Rattle.dioc_terms.specs.Attempts.{Does}
 use Rattle.dioc_terms.specs.Messages.{doer}
-use Rattle.dioc_terms.specs.Plain.{plain}
+use Rattle.dioc_terms.specs.Plain.{plain, setting}
 use Rattle.dioc_terms.specs.Processes.{Process}
 use Rattle.dioc_terms.specs.Stores.{Store}
+use Rattle.marked_laws.specs.Network.{given_at}
 use Rattle.process_steps.specs.Steps.{Deed, Given, Alone, entry_of, step, store_after}
 use Rattle.turn_lock.specs.declared.views.Claim.{Claim}
 use Rattle.turn_lock.specs.declared.views.View.{View}
@@ -17,7 +18,7 @@ use Rattle.turn_lock.specs.Items.{BeginsWith, Shares, claim}
 use Rattle.turn_lock.specs.Views.{number, mine}
 use Rattle.stage.specs.declared.faults.CommitFault.{CommitFault}
 use Rattle.stage.specs.declared.faults.CommitFault.TheVariants as fault
-use Rattle.stage.specs.Homes.{HomeState, IsSoundHome}
+use Rattle.stage.specs.Homes.{HomeState, IsSoundHome, with_entry}
 use Rattle.stage.specs.Owners.{cast_place, owner_in}
 use Rattle.stage.specs.Roles.{RoleStandsAt, CanDo, CanTake, own_deed}
 
@@ -63,6 +64,7 @@ pub record StillStands (v : View Entry Base) (H : List Entry) : Type 0 where
 pub record LookedOn (v w : View Entry Base) : Type 0 where
   pub same_base : w.base ≡ v.base
   pub same_number : number w ≡ number v
+  pub same_made : w.made ≡ v.made
   pub same_mine : mine w ≡ mine v
   pub still : StillStands v w.seen
 
@@ -81,22 +83,31 @@ pub record RefusedFor (fault_of : HomeState → Option CommitFault) (v w : View 
   pub found : IsFound v w.seen home
   pub first : f ≢ fault.Memory → fault_of home ≡ Some f
 
--- A commit did the deed: the home that was found has no fault, and the seat has added the entry,
--- its own, right behind what was found. The role stands where its step took it.
-pub record Committed (fault_of : HomeState → Option CommitFault) (v w : View Entry Base) (q : Role)
-    (a : Act) (given : Given) (d : Deed) : Type 0 where
+-- A commit added the entry: the home that was found has no fault, and the seat has added the entry,
+-- its own, right behind what was found.
+pub record Added (fault_of : HomeState → Option CommitFault) (v w : View Entry Base) (e : Entry)
+    : Type 0 where
   pub same_base : w.base ≡ v.base
   pub same_number : number w ≡ number v
-  pub one_more : mine w ≡ mine v ++ entry_of d ∷ []
+  pub same_made : w.made ≡ v.made
+  pub one_more : mine w ≡ mine v ++ e ∷ []
   pub home : HomeState
   pub found : IsFound v home.history home
   pub free : fault_of home ≡ None
   pub begins : BeginsWith home.history v.seen
-  pub seen : w.seen ≡ home.history ++ entry_of d ∷ []
-  pub within : length w.seen ≤ home.limit
-  pub moved : (base : Base) (P Q : Process) (s : Store) → SitsFor v base q
-      → RoleStandsAt (plain base.0) v.seen q P s → step q s P a given ≡ Does d Q
-      → RoleStandsAt (plain base.0) w.seen q Q (store_after d s)
+  pub seen : w.seen ≡ home.history ++ e ∷ []
+  pub after : IsSoundHome (with_entry home e)
+
+-- A commit did the deed: it added the deed's entry. What came to the act is what the network of the
+-- home that was found has for it, and the role stands where its step took it.
+pub record Committed (fault_of : HomeState → Option CommitFault) (v w : View Entry Base) (q : Role)
+    (a : Act) (given : Given) (d : Deed) : Type 0 where
+  pub added : Added fault_of v w (entry_of d)
+  pub came : given ≡ given_at (setting (plain added.home.bundle)) added.found.sound.network q a
+  pub moved : (base : Base) (P : Process) (s : Store) → SitsFor v base q
+      → RoleStandsAt (plain base.0) v.seen q P s
+      → (Q : Process) × (step q s P a given ≡ Does d Q)
+      × RoleStandsAt (plain base.0) w.seen q Q (store_after d s)
 
 -- a commit added what the role of this entry did alone
 pub record CommittedOwn (fault_of : HomeState → Option CommitFault) (v w : View Entry Base)

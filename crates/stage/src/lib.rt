@@ -7,7 +7,11 @@ mod home;
 mod laws;
 mod messages;
 mod opening;
+mod pulse;
+mod seating;
+mod stage;
 
 pub use faults::{CommitFault, Why};
 pub use home::Home;
 pub use laws::{deeds_move, others_leave_alone};
+pub use stage::Stage;
