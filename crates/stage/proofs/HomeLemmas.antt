@@ -217,11 +217,11 @@ sound_home of limit H cast names mail book script count finished stopped is = re
   marks = is.marks;
 }
 
-no_stop : (o : Option Why) → stop_fault o ≡ None → o ≡ None
+pub no_stop : (o : Option Why) → stop_fault o ≡ None → o ≡ None
 no_stop None h = refl
 no_stop (Some w) h = cc
 
-no_fault_if : (t : Bool) (f : CommitFault) → fault_if t f ≡ None → t ≡ false
+pub no_fault_if : (t : Bool) (f : CommitFault) → fault_if t f ≡ None → t ≡ false
 no_fault_if false f h = refl
 no_fault_if true f h = cc
 

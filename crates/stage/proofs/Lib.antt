@@ -3,6 +3,9 @@ pub mod PromptRuns
 pub mod HomeLemmas
 pub mod TakeLemmas
 pub mod ChangedHome
+pub mod FeederLemmas
+pub mod BeginLemmas
+pub mod EndingLemmas
 pub mod OwnLemmas
 pub mod OpeningLemmas
 pub mod SeatLemmas

@@ -4,3 +4,6 @@ pub mod Owners
 pub mod Roles
 pub mod Seats
 pub mod Laws
+pub mod Changes
+pub mod Begins
+pub mod Marks

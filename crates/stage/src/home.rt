@@ -115,7 +115,7 @@ impl Home {
     }
 
     /// Whether the history has as many entries as it may.
-    fn is_full(&self) -> bool
+    pub(crate) fn is_full(&self) -> bool
         ensures { result ≡ nat_le self.now.limit (length self.now.history) }
     {
         self.history.len() >= self.limit

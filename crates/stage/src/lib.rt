@@ -1,10 +1,13 @@
 //! The stage on which roles run: what they share lies under a turn lock.
 #![tactic(auto)]
 
+mod changing;
 mod committing;
+mod ending;
 mod faults;
 mod home;
 mod laws;
+mod leading;
 mod messages;
 mod opening;
 mod pulse;
