@@ -69,7 +69,7 @@ can_lead steps b H head s can decide =
     }
 
 -- the entry shows what the leader decides by what the book says
-shows_decision : (cast : List Role) (count : ℕ) (head : ScopeHead) (says : BookChoice) → shown_choice count says ≡ chosen_by (decision cast count head says)
+pub shows_decision : (cast : List Role) (count : ℕ) (head : ScopeHead) (says : BookChoice) → shown_choice count says ≡ chosen_by (decision cast count head says)
 shows_decision cast count head KeepsBody = refl
 shows_decision cast count head (TakesRule name body) = refl
 

@@ -10,5 +10,6 @@ pub mod OwnLemmas
 pub mod OpeningLemmas
 pub mod SeatLemmas
 pub mod HoldLemmas
+pub mod MarkLemmas
 pub mod SeatingLemmas
 pub mod Examples

@@ -65,7 +65,7 @@ module _ (v : View Entry Base) (home : HomeState) (base : v.base ≡ Some (home.
       }
 
   -- what an entry more leaves its seat
-  pub added_one : StillStands v home.history → (fault_of : HomeState → Option CommitFault) → IsSoundHome home → (e : Entry) → fault_of home ≡ None → IsSoundHome (with_entry home e)
+  abbrev pub added_one : StillStands v home.history → (fault_of : HomeState → Option CommitFault) → IsSoundHome home → (e : Entry) → fault_of home ≡ None → IsSoundHome (with_entry home e)
       → Added fault_of v (left_with (entered v home.history) (e ∷ [])) e
   added_one still fault_of sound e free after = record {
     same_base = refl;
@@ -93,25 +93,33 @@ module _ (v : View Entry Base) (home : HomeState) (base : v.base ≡ Some (home.
           does = here.1.does;
         }
 
+    -- the role stands where its step took it
+    pub moved_on : DeedsMove → (sound : IsSoundHome home) → (can : CanDo (plain home.bundle) home.history q a given d) → given ≡ given_at (setting (plain home.bundle)) sound.network q a
+        → doer (entry_of d) ≡ Some q → act_of (entry_of d) ≡ Some a → (b : Base) (P : Process) (s : Store) → SitsFor v b q → RoleStandsAt (plain b.0) v.seen q P s
+        → (Q : Process) × (step q s P a given ≡ Does d Q) × RoleStandsAt (plain b.0) (home.history ++ entry_of d ∷ []) q Q (store_after d s)
+    moved_on law sound can fits who acts b P s sits at =
+        let same = base_is b sits.0 in
+        let now : RoleStandsAt (plain home.bundle) home.history q P s =
+        subst (λ (c : Base). RoleStandsAt (plain c.0) home.history q P s) (sym same) (still.stands b q P s sits at) in
+        let does = does_there (plain home.bundle) home.history q a given d P s now can in
+        (can.next, does, subst (λ (c : Base). RoleStandsAt (plain c.0) (home.history ++ entry_of d ∷ []) q can.next (store_after d s)) same
+        (law (plain home.bundle) home.history sound.network q P s a d can.next sound.runs now (ap (step q s P a) (sym fits) ∙ does) who acts))
+
     -- what a commit leaves its seat
+    abbrev pub committed_here : (fault_of : HomeState → Option CommitFault) → DeedsMove → (sound : IsSoundHome home) → CanDo (plain home.bundle) home.history q a given d
+        → given ≡ given_at (setting (plain home.bundle)) sound.network q a → doer (entry_of d) ≡ Some q → act_of (entry_of d) ≡ Some a → fault_of home ≡ None
+        → IsSoundHome (with_entry home (entry_of d)) → Committed fault_of v (left_with (entered v home.history) (entry_of d ∷ [])) q a given d
+    committed_here fault_of law sound can fits who acts free after = record {
+      added = added_one still fault_of sound (entry_of d) free after;
+      came = fits;
+      moved = moved_on law sound can fits who acts;
+    }
+
     pub committed : (fault_of : HomeState → Option CommitFault) → DeedsMove → (sound : IsSoundHome home) → CanDo (plain home.bundle) home.history q a given d
         → given ≡ given_at (setting (plain home.bundle)) sound.network q a → doer (entry_of d) ≡ Some q → act_of (entry_of d) ≡ Some a → fault_of home ≡ None
         → IsSoundHome (with_entry home (entry_of d)) → (w : View Entry Base) → w ≡ left_with (entered v home.history) (entry_of d ∷ []) → Committed fault_of v w q a given d
-    committed fault_of law sound can fits who acts free after w is = subst (λ u. Committed fault_of v u q a given d) (sym is) (record {
-      added = added_one still fault_of sound (entry_of d) free after;
-      came = fits;
-      moved = λ b P s sits at. (can.next, moved_to b P s sits at);
-    })
-      where
-        moved_to : (b : Base) (P : Process) (s : Store) → SitsFor v b q → RoleStandsAt (plain b.0) v.seen q P s
-            → (step q s P a given ≡ Does d can.next) × RoleStandsAt (plain b.0) (home.history ++ entry_of d ∷ []) q can.next (store_after d s)
-        moved_to b P s sits at =
-            let same = base_is b sits.0 in
-            let now : RoleStandsAt (plain home.bundle) home.history q P s =
-            subst (λ (c : Base). RoleStandsAt (plain c.0) home.history q P s) (sym same) (still.stands b q P s sits at) in
-            let does = does_there (plain home.bundle) home.history q a given d P s now can in
-            (does, subst (λ (c : Base). RoleStandsAt (plain c.0) (home.history ++ entry_of d ∷ []) q can.next (store_after d s)) same
-            (law (plain home.bundle) home.history sound.network q P s a d can.next sound.runs now (ap (step q s P a) (sym fits) ∙ does) who acts))
+    committed fault_of law sound can fits who acts free after w is =
+        subst (λ u. Committed fault_of v u q a given d) (sym is) (committed_here fault_of law sound can fits who acts free after)
 
   -- what a refusal leaves its seat
   pub refused : StillStands v home.history → IsSoundHome home → (fault_of : HomeState → Option CommitFault) (f : CommitFault) → (f ≢ fault.Memory → fault_of home ≡ Some f)

@@ -16,10 +16,13 @@ later_more base n (suc count) =
 abbrev pub first_of : Base → ℕ → View Entry Base
 first_of base count = record (first_view base) { made = suc count }
 
-pub splits_to : (base : Base) (count : ℕ) (v left : View Entry Base) → v ≡ first_of base count → left ≡ split_view v → left ≡ first_of base (suc count)
-splits_to base count v left is made = made ∙ ap split_view is
+pub splits_to : (base : Base) (count n : ℕ) (v left : View Entry Base) → v ≡ first_of base count → left ≡ split_view v → n ≡ suc count → left ≡ first_of base n
+splits_to base count n v left is made same =
+    made ∙ ap (λ (x : View Entry Base). split_view x) is ∙ ap (λ m. record (first_view base) { made = m }) (omega (arith, same))
 
-pub one_seat_more : (base : Base) (count : ℕ) (v next : View Entry Base) (views : List (View Entry Base)) → v ≡ first_of base count → next ≡ new_view v → views ≡ later_views base 1 count
-    → views ++ next ∷ [] ≡ later_views base 1 (suc count)
-one_seat_more base count v next views is made so_far =
-    (λ i. so_far i ++ (made ∙ ap new_view is) i ∷ []) ∙ sym (later_more base 1 count)
+pub one_seat_more : (base : Base) (count n : ℕ) (v next : View Entry Base) (views : List (View Entry Base)) → v ≡ first_of base count → next ≡ new_view v → views ≡ later_views base 1 count → n ≡ suc count
+    → views ++ next ∷ [] ≡ later_views base 1 n
+one_seat_more base count n v next views is made so_far same =
+    let number : suc count ≡ 1 + count = omega arith in
+    let last : next ≡ later_view base (1 + count) = made ∙ ap (λ (x : View Entry Base). new_view x) is ∙ ap (later_view base) number in
+    (λ i. so_far i ++ last i ∷ []) ∙ sym (later_more base 1 count) ∙ ap (later_views base 1) (sym same)

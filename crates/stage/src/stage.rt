@@ -28,8 +28,8 @@ use turn_lock::{Missing, Seat, Turn, Turns};
 /// feeder of changes.
 #[derive(Drop)]
 pub struct Stage {
-    turns: Turns<Home>,
-    pulse: Pulse,
+    pub(crate) turns: Turns<Home>,
+    pub(crate) pulse: Pulse,
 }
 
 impl Stage {
@@ -59,7 +59,7 @@ impl Stage {
     }
 
     /// Waits for the turn. The seat's role stands in what is found where it stood.
-    fn enter<R: Wait>(&self, rt: &R, seat: Seat<Home>) -> Turn<Home>
+    pub(crate) fn enter<R: Wait>(&self, rt: &R, seat: Seat<Home>) -> Turn<Home>
         requires of { IsSeatOf self.now.turns seat }
         ensures of { IsTurnOf self.now.turns result }
         ensures view { turn_view result ≡ entered (view seat) result.home.history }
