@@ -39,12 +39,11 @@ grown_by v u home lent next e view same added = record { view = view; added = ad
 -- the entry is the one item more of the seat
 pub own_item : (v u : View Entry Base) (home next : HomeState) (e : Entry) → Grown v u home next e → owner_in home.bundle.cast e ≡ number v
     → (x : Entry) × (next.history ≡ u.seen ++ x ∷ []) × (owner_in next.bundle.cast x ≡ number u)
-own_item v u home next e grown owns =
-    (
-      e,
-      ap (λ (h : HomeState). h.history) grown.added ∙ ap (λ (w : View Entry Base). w.seen ++ e ∷ []) (sym grown.view),
-      ap (λ (h : HomeState). owner_in h.bundle.cast e) grown.added ∙ owns ∙ ap (λ (w : View Entry Base). number w) (sym grown.view),
-    )
+own_item v u home next e grown owns = (
+  e,
+  ap (λ (h : HomeState). h.history) grown.added ∙ ap (λ (w : View Entry Base). w.seen ++ e ∷ []) (sym grown.view),
+  ap (λ (h : HomeState). owner_in h.bundle.cast e) grown.added ∙ owns ∙ ap (λ (w : View Entry Base). number w) (sym grown.view),
+)
 
 -- what the seat knows once it has left
 pub left_grown : (v u w : View Entry Base) (home next : HomeState) (e : Entry) → Grown v u home next e

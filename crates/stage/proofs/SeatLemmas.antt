@@ -101,9 +101,12 @@ module _ (v : View Entry Base) (home : HomeState) (base : v.base ≡ Some (home.
         let same = base_is b sits.0 in
         let now : RoleStandsAt (plain home.bundle) home.history q P s =
         subst (λ (c : Base). RoleStandsAt (plain c.0) home.history q P s) (sym same) (still.stands b q P s sits at) in
-        let does = does_there (plain home.bundle) home.history q a given d P s now can in
-        (can.next, does, subst (λ (c : Base). RoleStandsAt (plain c.0) (home.history ++ entry_of d ∷ []) q can.next (store_after d s)) same
-        (law (plain home.bundle) home.history sound.network q P s a d can.next sound.runs now (ap (step q s P a) (sym fits) ∙ does) who acts))
+        let does = does_there (plain home.bundle) home.history q a given d P s now can in (
+          can.next,
+          does,
+          subst (λ (c : Base). RoleStandsAt (plain c.0) (home.history ++ entry_of d ∷ []) q can.next (store_after d s)) same
+              (law (plain home.bundle) home.history sound.network q P s a d can.next sound.runs now (ap (step q s P a) (sym fits) ∙ does) who acts),
+        )
 
     -- what a commit leaves its seat
     abbrev pub committed_here : (fault_of : HomeState → Option CommitFault) → DeedsMove → (sound : IsSoundHome home) → CanDo (plain home.bundle) home.history q a given d

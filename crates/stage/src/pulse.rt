@@ -43,9 +43,11 @@ impl Pulse {
 
     /// Waits until more than `count` holds changed the home, or it is over.
     pub(crate) fn wait_past<R: Wait>(&self, rt: &R, count: u64) {
-        let beats = self
-            .changed
-            .wait_while(rt, self.beats.lock(rt), |beats| beats.count <= count && !beats.over);
+        let beats = self.changed.wait_while(
+            rt,
+            self.beats.lock(rt),
+            |beats| beats.count <= count && !beats.over,
+        );
         drop(beats);
     }
 }

@@ -235,10 +235,7 @@ impl Stage {
 
     /// Ends the stage and gives its history, where the seats are all that were made, the first seat
     /// first. Else the stage and the seats come back.
-    pub fn close(
-        self,
-        seats: Vec<Seat<Home>>,
-    ) -> Result<History, (Stage, Vec<Seat<Home>>)>
+    pub fn close(self, seats: Vec<Seat<Home>>) -> Result<History, (Stage, Vec<Seat<Home>>)>
         requires of { All (λ s. IsSeatOf self.turns s) seats.items }
         requires first { 0 < length seats.items
             → IfSome (slice_get seats.items 0) (λ s. 0 < (view s).made) }

@@ -12,5 +12,5 @@ invariant-loop-role l = record {
   others : All (λ s. IsSeatOf l.turns s) l.seats.items;
   made : (view l.first).made ≡ suc l._role-index;
   views : (base : Base) → view l.fn.first ≡ first_view base
-    → (view l.first ≡ first_of base l._role-index) × (map view l.seats.items ≡ later_views base 1 l._role-index);
+      → (view l.first ≡ first_of base l._role-index) × (map view l.seats.items ≡ later_views base 1 l._role-index);
 }

@@ -48,4 +48,3 @@ returns-in-Ok-clause-done g c =
     k.from (acts.Put k) (Puts k l) c.requires.can refl refl refl
     (grown_by v u home c.home.result.now c.home-in-Ok.result.now e c.enter-turn.ensures.view c.home.ensures.value (c.home-in-Ok.ensures.value ∙ c.in-Ok.ensures.added))
     c.leave_with-seat.ensures.view
-
