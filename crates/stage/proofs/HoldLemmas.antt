@@ -17,8 +17,8 @@ use Rattle.role_network.specs.Deeds.{message_given}
 use Rattle.role_network.specs.Nets.{network_at}
 use Rattle.turn_lock.specs.declared.views.Claim.{Claim}
 use Rattle.turn_lock.specs.declared.views.View.{View}
-use Rattle.turn_lock.specs.Items.{Shares}
-use Rattle.turn_lock.specs.Views.{number, entered, left, left_with}
+use Rattle.turn_lock.specs.Items.{Shares, items_of}
+use Rattle.turn_lock.specs.Views.{number, mine, entered, left, left_with}
 use Rattle.stage.proofs.HomeLemmas.{Laws, take_can}
 use Rattle.stage.proofs.SeatLemmas.{can_now, committed, committed_own, take_now}
 use Rattle.stage.specs.declared.faults.CommitFault.{CommitFault}
@@ -45,12 +45,24 @@ own_item v u home next e grown owns = (
   ap (λ (h : HomeState). owner_in h.bundle.cast e) grown.added ∙ owns ∙ ap (λ (w : View Entry Base). number w) (sym grown.view),
 )
 
+-- the seat has left with the one item more that it finds there, and knows all of its number
+pub record Leaves (u w : View Entry Base) (next : HomeState) : Type 0 where
+  pub view : (x : Entry) → next.history ≡ u.seen ++ x ∷ [] → w ≡ left_with u (x ∷ [])
+  pub own : items_of (owner_in next.bundle.cast) (number w) next.history ≡ mine w
+
 -- what the seat knows once it has left
 pub left_grown : (v u w : View Entry Base) (home next : HomeState) (e : Entry) → Grown v u home next e
-    → ((x : Entry) → next.history ≡ u.seen ++ x ∷ [] → w ≡ left_with u (x ∷ [])) → w ≡ left_with (entered v home.history) (e ∷ [])
+    → Leaves u w next → w ≡ left_with (entered v home.history) (e ∷ [])
 left_grown v u w home next e grown leaves =
-    leaves e (ap (λ (h : HomeState). h.history) grown.added ∙ ap (λ (x : View Entry Base). x.seen ++ e ∷ []) (sym grown.view))
+    leaves.view e (ap (λ (h : HomeState). h.history) grown.added ∙ ap (λ (x : View Entry Base). x.seen ++ e ∷ []) (sym grown.view))
     ∙ ap (λ (x : View Entry Base). left_with x (e ∷ [])) grown.view
+
+-- the seat's own entries are all of its number
+pub own_grown : (v u w : View Entry Base) (home next : HomeState) (e : Entry) → Grown v u home next e → Leaves u w next
+    → items_of (owner_in home.bundle.cast) (number v) (home.history ++ e ∷ []) ≡ mine v ++ e ∷ []
+own_grown v u w home next e grown leaves =
+    subst (λ (x : View Entry Base). items_of (owner_in home.bundle.cast) (number x) (home.history ++ e ∷ []) ≡ mine x) (left_grown v u w home next e grown leaves)
+    (subst (λ (h : HomeState). items_of (owner_in h.bundle.cast) (number w) h.history ≡ mine w) grown.added leaves.own)
 
 -- what the seat knows once it has left what it found
 pub left_same : (v u w : View Entry Base) (home : HomeState) → u ≡ entered v home.history → w ≡ left u → w ≡ left (entered v home.history)
@@ -85,14 +97,14 @@ module _ (v u w : View Entry Base) (home next : HomeState) (base : v.base ≡ So
   -- a role's deed that needs nothing from outside
   pub did_alone : (q : Role) (a : Act) (d : Deed) → CanCommit v q a Alone d → Alone ≡ given_at (setting (plain home.bundle)) sound.network q a
       → doer (entry_of d) ≡ Some q → act_of (entry_of d) ≡ Some a → Grown v u home next (entry_of d)
-      → ((x : Entry) → next.history ≡ u.seen ++ x ∷ [] → w ≡ left_with u (x ∷ [])) → Committed fault_of v w q a Alone d
+      → Leaves u w next → Committed fault_of v w q a Alone d
   did_alone q a d can fits who acts grown leaves =
       committed v home base still q a Alone d fault_of law sound (can_now v home base still q a Alone d can) fits who acts free
-      (subst IsSoundHome grown.added after) w (left_grown v u w home next (entry_of d) grown leaves)
+      (subst IsSoundHome grown.added after) (own_grown v u w home next (entry_of d) grown leaves) w (left_grown v u w home next (entry_of d) grown leaves)
 
   -- a take, with the message that is pending
   pub did_take : Laws → (k : Key) (x : Option (List ℕ)) (l : Load) → CanReceive v k.to k x → pending_at k (network_at (plain home.bundle) home.history).pending ≡ Some l
-      → Grown v u home next (entry_of (Takes k x l)) → ((y : Entry) → next.history ≡ u.seen ++ y ∷ [] → w ≡ left_with u (y ∷ []))
+      → Grown v u home next (entry_of (Takes k x l)) → Leaves u w next
       → Committed fault_of v w k.to (act.Take k) (Got l) (Takes k x l)
   did_take laws k x l can there grown leaves =
       let pending : pending_at k sound.network.pending ≡ Some l =
@@ -100,11 +112,12 @@ module _ (v u w : View Entry Base) (home next : HomeState) (base : v.base ≡ So
       committed v home base still k.to (act.Take k) (Got l) (Takes k x l) fault_of law sound
       (take_can laws (plain home.bundle) home.history sound.network sound.sound sound.runs k.to k x (take_now v home base still k.to k x can) l pending)
       (sym (ap message_given pending)) refl refl free
-      (subst IsSoundHome grown.added after) w (left_grown v u w home next (entry_of (Takes k x l)) grown leaves)
+      (subst IsSoundHome grown.added after) (own_grown v u w home next (entry_of (Takes k x l)) grown leaves) w
+      (left_grown v u w home next (entry_of (Takes k x l)) grown leaves)
 
   -- what a role does alone, by its entry
   pub did_own : StepsShowTheirActs → (e : Entry) → CanCommitOwn v e → Grown v u home next e
-      → ((x : Entry) → next.history ≡ u.seen ++ x ∷ [] → w ≡ left_with u (x ∷ [])) → CommittedOwn fault_of v w e
+      → Leaves u w next → CommittedOwn fault_of v w e
   did_own shows e can grown leaves =
       committed_own v home base still e can fault_of law shows sound free
-      (subst IsSoundHome grown.added after) w (left_grown v u w home next e grown leaves)
+      (subst IsSoundHome grown.added after) (own_grown v u w home next e grown leaves) w (left_grown v u w home next e grown leaves)

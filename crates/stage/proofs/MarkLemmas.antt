@@ -16,11 +16,11 @@ use Rattle.process_steps.specs.Steps.{Deed, Chooses, Decision, FromBook, entry_o
 use Rattle.role_network.proofs.NetLemmas.{network_is}
 use Rattle.role_network.specs.Scopes.{chosen_by}
 use Rattle.turn_lock.specs.declared.views.View.{View}
-use Rattle.turn_lock.specs.Items.{BeginsWith}
-use Rattle.turn_lock.specs.Views.{number, entered, left_with}
+use Rattle.turn_lock.specs.Items.{BeginsWith, items_of}
+use Rattle.turn_lock.specs.Views.{number, mine, entered, left_with}
 use Rattle.stage.proofs.BeginLemmas.{can_lead, shows_decision}
 use Rattle.stage.proofs.FeederLemmas.{next_nobodys}
-use Rattle.stage.proofs.HoldLemmas.{Grown, left_grown}
+use Rattle.stage.proofs.HoldLemmas.{Grown, Leaves, left_grown, own_grown}
 use Rattle.stage.proofs.SeatLemmas.{added_one, committed_here}
 use Rattle.stage.specs.Begins.{CanBegin, begin_in, network_in, scope_entry, update_in}
 use Rattle.stage.specs.Changes.{next_entry}
@@ -71,23 +71,24 @@ module _ (v : View Entry Base) (home : HomeState) (base : v.base ≡ Some (home.
   module _ (u w : View Entry Base) (next : HomeState) (sound : IsSoundHome home) (after : IsSoundHome next) where
     -- what the script's next change leaves its seat
     pub did_change : feeder_fault home ≡ None → (e : Entry) → next_entry home ≡ Some e → Grown v u home next e
-        → ((x : Entry) → next.history ≡ u.seen ++ x ∷ [] → w ≡ left_with u (x ∷ [])) → CommittedChange v w
+        → Leaves u w next → CommittedChange v w
     did_change free e is grown leaves = subst (λ x. CommittedChange v x) (sym (left_grown v u w home next e grown leaves)) (record {
       entry = e;
-      added = added_one v home base still feeder_fault sound e free (subst IsSoundHome grown.added after);
+      added = added_one v home base still feeder_fault sound e free (subst IsSoundHome grown.added after) (own_grown v u w home next e grown leaves);
       next = is;
     })
 
     -- what the begin of a scope leaves its seat
     pub did_begin : OffersAreSteps → DeedsMove → role_fault home ≡ None → (head : ScopeHead) (s : Store) → CanCommitScope v head s → (update : Option (ℕ × ℕ)) → update ≡ update_in home head s
-        → Grown v u home next (begin_in home head s) → ((x : Entry) → next.history ≡ u.seen ++ x ∷ [] → w ≡ left_with u (x ∷ [])) → CommittedScope v w head s update
+        → Grown v u home next (begin_in home head s) → Leaves u w next → CommittedScope v w head s update
     did_begin offers law free head s can update chosen grown leaves =
         subst (λ x. CommittedScope v x head s update) (sym is) (record {
           given = FromBook decide;
           deed = deed;
           done = committed_here v home base still head.leader (act.Scope head.index) (FromBook decide) deed role_fault law sound
               (can_lead offers (plain home.bundle) home.history head s there decide) refl refl refl free
-              (subst IsSoundHome (grown.added ∙ ap (with_entry home) shown) after);
+              (subst IsSoundHome (grown.added ∙ ap (with_entry home) shown) after)
+              (subst (λ e. items_of (owner_in home.bundle.cast) (number v) (home.history ++ e ∷ []) ≡ mine v ++ e ∷ []) shown (own_grown v u w home next (begin_in home head s) grown leaves));
           chosen = chosen;
           shows = sym shown;
         })

@@ -43,6 +43,7 @@ module _ (v : View Entry Base) (home : HomeState) (base : v.base ≡ Some (home.
       → items_of (owner_in home.bundle.cast) (number v) v.seen ≡ mine v → IsSoundHome home → StillStands v home.history
   still_stands law begins own met sound = record {
     begins = begins;
+    own = λ b is. subst (λ (c : Base). items_of (owner_in c.0.cast) (number v) home.history ≡ mine v) (base_is b is) own;
     stands = λ b q P s sits at.
         let same = base_is b sits.0 in
         let place : number v ≡ cast_place home.bundle.cast q = sits.1 ∙ ap (λ (c : Base). cast_place c.0.cast q) (sym same) in
@@ -66,8 +67,9 @@ module _ (v : View Entry Base) (home : HomeState) (base : v.base ≡ Some (home.
 
   -- what an entry more leaves its seat
   abbrev pub added_one : StillStands v home.history → (fault_of : HomeState → Option CommitFault) → IsSoundHome home → (e : Entry) → fault_of home ≡ None → IsSoundHome (with_entry home e)
+      → items_of (owner_in home.bundle.cast) (number v) (home.history ++ e ∷ []) ≡ mine v ++ e ∷ []
       → Added fault_of v (left_with (entered v home.history) (e ∷ [])) e
-  added_one still fault_of sound e free after = record {
+  added_one still fault_of sound e free after own = record {
     same_base = refl;
     same_number = refl;
     same_made = refl;
@@ -77,6 +79,7 @@ module _ (v : View Entry Base) (home : HomeState) (base : v.base ≡ Some (home.
     free = free;
     begins = still.begins;
     seen = refl;
+    own = own;
     after = after;
   }
 
@@ -111,18 +114,20 @@ module _ (v : View Entry Base) (home : HomeState) (base : v.base ≡ Some (home.
     -- what a commit leaves its seat
     abbrev pub committed_here : (fault_of : HomeState → Option CommitFault) → DeedsMove → (sound : IsSoundHome home) → CanDo (plain home.bundle) home.history q a given d
         → given ≡ given_at (setting (plain home.bundle)) sound.network q a → doer (entry_of d) ≡ Some q → act_of (entry_of d) ≡ Some a → fault_of home ≡ None
-        → IsSoundHome (with_entry home (entry_of d)) → Committed fault_of v (left_with (entered v home.history) (entry_of d ∷ [])) q a given d
-    committed_here fault_of law sound can fits who acts free after = record {
-      added = added_one still fault_of sound (entry_of d) free after;
+        → IsSoundHome (with_entry home (entry_of d)) → items_of (owner_in home.bundle.cast) (number v) (home.history ++ entry_of d ∷ []) ≡ mine v ++ entry_of d ∷ []
+        → Committed fault_of v (left_with (entered v home.history) (entry_of d ∷ [])) q a given d
+    committed_here fault_of law sound can fits who acts free after own = record {
+      added = added_one still fault_of sound (entry_of d) free after own;
       came = fits;
       moved = moved_on law sound can fits who acts;
     }
 
     pub committed : (fault_of : HomeState → Option CommitFault) → DeedsMove → (sound : IsSoundHome home) → CanDo (plain home.bundle) home.history q a given d
         → given ≡ given_at (setting (plain home.bundle)) sound.network q a → doer (entry_of d) ≡ Some q → act_of (entry_of d) ≡ Some a → fault_of home ≡ None
-        → IsSoundHome (with_entry home (entry_of d)) → (w : View Entry Base) → w ≡ left_with (entered v home.history) (entry_of d ∷ []) → Committed fault_of v w q a given d
-    committed fault_of law sound can fits who acts free after w is =
-        subst (λ u. Committed fault_of v u q a given d) (sym is) (committed_here fault_of law sound can fits who acts free after)
+        → IsSoundHome (with_entry home (entry_of d)) → items_of (owner_in home.bundle.cast) (number v) (home.history ++ entry_of d ∷ []) ≡ mine v ++ entry_of d ∷ []
+        → (w : View Entry Base) → w ≡ left_with (entered v home.history) (entry_of d ∷ []) → Committed fault_of v w q a given d
+    committed fault_of law sound can fits who acts free after own w is =
+        subst (λ u. Committed fault_of v u q a given d) (sym is) (committed_here fault_of law sound can fits who acts free after own)
 
   -- what a refusal leaves its seat
   pub refused : StillStands v home.history → IsSoundHome home → (fault_of : HomeState → Option CommitFault) (f : CommitFault) → (f ≢ fault.Memory → fault_of home ≡ Some f)
@@ -147,8 +152,9 @@ module _ (v : View Entry Base) (home : HomeState) (base : v.base ≡ Some (home.
 
   -- what its commit leaves its seat
   pub committed_own : StillStands v home.history → (e : Entry) → (can : CanCommitOwn v e) → (fault_of : HomeState → Option CommitFault) → DeedsMove → StepsShowTheirActs → IsSoundHome home
-      → fault_of home ≡ None → IsSoundHome (with_entry home e) → (w : View Entry Base) → w ≡ left_with (entered v home.history) (e ∷ []) → CommittedOwn fault_of v w e
-  committed_own still e can fault_of law shows sound free after w is =
+      → fault_of home ≡ None → IsSoundHome (with_entry home e) → items_of (owner_in home.bundle.cast) (number v) (home.history ++ e ∷ []) ≡ mine v ++ e ∷ []
+      → (w : View Entry Base) → w ≡ left_with (entered v home.history) (e ∷ []) → CommittedOwn fault_of v w e
+  committed_own still e can fault_of law shows sound free after counts w is =
       let own = is_own e can.deed can.is_own in
       let here = can_now still can.role can.act Alone can.deed can.can in
       let acts = shows can.role here.store here.process can.act Alone can.deed here.next here.does in
@@ -161,6 +167,7 @@ module _ (v : View Entry Base) (home : HomeState) (base : v.base ≡ Some (home.
         done = committed still can.role can.act Alone can.deed fault_of law sound here
             (own.alone (setting (plain home.bundle)) sound.network can.role can.act acts)
             (ap doer own.shows ∙ can.who) acts free
-            (subst (λ x. IsSoundHome (with_entry home x)) (sym own.shows) after) w
+            (subst (λ x. IsSoundHome (with_entry home x)) (sym own.shows) after)
+            (subst (λ x. items_of (owner_in home.bundle.cast) (number v) (home.history ++ x ∷ []) ≡ mine v ++ x ∷ []) (sym own.shows) counts) w
             (is ∙ ap (λ x. left_with (entered v home.history) (x ∷ [])) (sym own.shows));
       }

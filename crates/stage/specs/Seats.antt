@@ -14,7 +14,7 @@ use Rattle.marked_laws.specs.Network.{given_at}
 use Rattle.process_steps.specs.Steps.{Deed, Given, Alone, entry_of, step, store_after}
 use Rattle.turn_lock.specs.declared.views.Claim.{Claim}
 use Rattle.turn_lock.specs.declared.views.View.{View}
-use Rattle.turn_lock.specs.Items.{BeginsWith, Shares, claim}
+use Rattle.turn_lock.specs.Items.{BeginsWith, Shares, claim, items_of}
 use Rattle.turn_lock.specs.Views.{number, mine}
 use Rattle.stage.specs.declared.faults.CommitFault.{CommitFault}
 use Rattle.stage.specs.declared.faults.CommitFault.TheVariants as fault
@@ -54,9 +54,11 @@ pub record CanCommitOwn (v : View Entry Base) (e : Entry) : Type 0 where
   pub can : CanCommit v role act Alone deed
 
 -- The history begins with what the seat has seen, and others alone have acted since: the seat's
--- role stands where it stood.
+-- own entries are all of its number, and its role stands where it stood.
 pub record StillStands (v : View Entry Base) (H : List Entry) : Type 0 where
   pub begins : BeginsWith H v.seen
+  pub own : (base : Base) → v.base ≡ Some base
+      → items_of (owner_in base.0.cast) (number v) H ≡ mine v
   pub stands : (base : Base) (q : Role) (P : Process) (s : Store) → SitsFor v base q
       → RoleStandsAt (plain base.0) v.seen q P s → RoleStandsAt (plain base.0) H q P s
 
@@ -96,6 +98,7 @@ pub record Added (fault_of : HomeState → Option CommitFault) (v w : View Entry
   pub free : fault_of home ≡ None
   pub begins : BeginsWith home.history v.seen
   pub seen : w.seen ≡ home.history ++ e ∷ []
+  pub own : items_of (owner_in home.bundle.cast) (number w) w.seen ≡ mine w
   pub after : IsSoundHome (with_entry home e)
 
 -- A commit did the deed: it added the deed's entry. What came to the act is what the network of the

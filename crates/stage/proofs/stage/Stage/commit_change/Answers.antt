@@ -29,4 +29,4 @@ returns-in-Ok-clause-done g c =
     did_change v home c.enter-turn.ensures.base c.enter-turn.ensures.still u (view c.leave_with-seat.result) c.home-in-Ok.result.now c.enter-turn.ensures.sound c.is_sound.ensures
     (subst (λ (h : HomeState). feeder_fault h ≡ None) c.home.ensures.value c.in-Ok.ensures.free) changed.entry is
     (grown_by v u home c.home.result.now c.home-in-Ok.result.now changed.entry c.enter-turn.ensures.view c.home.ensures.value (c.home-in-Ok.ensures.value ∙ changed.added))
-    c.leave_with-seat.ensures.view
+    (record { view = c.leave_with-seat.ensures.view; own = c.leave_with-seat.ensures.met })

@@ -36,7 +36,7 @@ returns-in-Ok-clause-done g c =
     role_fault (subst (λ (h : HomeState). role_fault h ≡ None) c.home.ensures.value c.in-Ok.ensures.free) c.deeds_move.ensures c.is_sound.ensures
     c.steps_show_their_acts.ensures c.args.entry c.requires.can
     (grown_by v u home c.home.result.now c.home-in-Ok.result.now c.args.entry c.enter-turn.ensures.view c.home.ensures.value (c.home-in-Ok.ensures.value ∙ c.in-Ok.ensures.added))
-    c.leave_with-seat.ensures.view
+    (record { view = c.leave_with-seat.ensures.view; own = c.leave_with-seat.ensures.met })
 
 pub returns-in-Err-clause-refused : goal.returns-in-Err-clause-refused
 returns-in-Err-clause-refused g c =

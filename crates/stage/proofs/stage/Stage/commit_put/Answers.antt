@@ -47,4 +47,4 @@ returns-in-Ok-clause-done g c =
     role_fault (subst (λ (h : HomeState). role_fault h ≡ None) c.home.ensures.value c.in-Ok.ensures.free) c.deeds_move.ensures c.is_sound.ensures
     k.from (acts.Put k) (Puts k l) c.requires.can refl refl refl
     (grown_by v u home c.home.result.now c.home-in-Ok.result.now e c.enter-turn.ensures.view c.home.ensures.value (c.home-in-Ok.ensures.value ∙ c.in-Ok.ensures.added))
-    c.leave_with-seat.ensures.view
+    (record { view = c.leave_with-seat.ensures.view; own = c.leave_with-seat.ensures.met })

@@ -43,4 +43,4 @@ returns-in-Ok-clause-done g c =
     (subst (λ (h : HomeState). Grown v u home c.home-in-Ok.result.now (begin_in h c.args.head.now s)) c.home.ensures.value
     (grown_by v u home c.home.result.now c.home-in-Ok.result.now (begin_in c.home.result.now c.args.head.now s) c.enter-turn.ensures.view c.home.ensures.value
     (c.home-in-Ok.ensures.value ∙ c.in-Ok.ensures.added)))
-    c.leave_with-seat.ensures.view
+    (record { view = c.leave_with-seat.ensures.view; own = c.leave_with-seat.ensures.met })

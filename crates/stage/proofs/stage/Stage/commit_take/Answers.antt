@@ -47,7 +47,7 @@ returns-in-Ok-clause-done g c =
     laws k c.args.var (load c.in-Ok.payload) c.requires.can
     (subst (λ (h : HomeState). pending_at k (network_at (plain h.bundle) h.history).pending ≡ Some (load c.in-Ok.payload)) c.home.ensures.value c.in-Ok.ensures.taken)
     (grown_by v u home c.home.result.now c.home-in-Ok.result.now e c.enter-turn.ensures.view c.home.ensures.value (c.home-in-Ok.ensures.value ∙ c.in-Ok.ensures.added))
-    c.leave_with-seat.ensures.view
+    (record { view = c.leave_with-seat.ensures.view; own = c.leave_with-seat.ensures.met })
 
 pub returns-in-Err-clause-refused : goal.returns-in-Err-clause-refused
 returns-in-Err-clause-refused g c =
