@@ -1,12 +1,12 @@
 -- The holds in which a scope is begun, a change is made or a mark is set.
-use Rattle.std.proofs.Common.{◌≡◌, ◌≤◌, ◌+◌, ℕ, List, [], ◌∷◌, ◌++◌, length, Option, Some, None, refl, sym, ap, ◌∙◌, subst, arith, length-append, append-nil}
+use Rattle.std.proofs.Common.{◌≡◌, ℕ, List, [], ◌∷◌, ◌++◌, length, Option, Some, None, refl, sym, ap, ◌∙◌, subst, arith, length-append, append-nil}
 use Rattle.std.specs.Option.{option_map_or}
 use Rattle.dioc_terms.specs.declared.entries.Act.TheVariants as act
 use Rattle.dioc_terms.specs.declared.entries.Entry.{Entry}
 use Rattle.dioc_terms.specs.declared.entries.Entry.TheVariants as entry
 use Rattle.dioc_terms.specs.declared.names.Role.{Role}
 use Rattle.dioc_terms.specs.declared.processes.ScopeHead.{ScopeHead}
-use Rattle.dioc_terms.specs.Plain.{plain, setting}
+use Rattle.dioc_terms.specs.Plain.{plain}
 use Rattle.dioc_terms.specs.Stores.{Store}
 use Rattle.global_steps.specs.Follow.{book_choice}
 use Rattle.marked_laws.proofs.Shapes.{some_same}
@@ -16,7 +16,7 @@ use Rattle.process_steps.specs.Steps.{Deed, Chooses, Decision, FromBook, entry_o
 use Rattle.role_network.proofs.NetLemmas.{network_is}
 use Rattle.role_network.specs.Scopes.{chosen_by}
 use Rattle.turn_lock.specs.declared.views.View.{View}
-use Rattle.turn_lock.specs.Items.{BeginsWith, items_of}
+use Rattle.turn_lock.specs.Items.{items_of}
 use Rattle.turn_lock.specs.Views.{number, mine, entered, left_with}
 use Rattle.stage.proofs.BeginLemmas.{can_lead, shows_decision}
 use Rattle.stage.proofs.FeederLemmas.{next_nobodys}
@@ -29,7 +29,7 @@ use Rattle.stage.specs.Holds.{CanCommitScope, CommittedChange, CommittedScope, H
 use Rattle.stage.specs.Homes.{HasEnded, HomeState, IsCut, IsSoundHome, with_entry}
 use Rattle.stage.specs.Laws.{DeedsMove}
 use Rattle.stage.specs.Owners.{cast_place, owner_in}
-use Rattle.stage.specs.Seats.{Base, Added, StillStands}
+use Rattle.stage.specs.Seats.{Base, StillStands}
 
 module _ (v : View Entry Base) (home : HomeState) (base : v.base ≡ Some (home.bundle, home.limit)) (still : StillStands v home.history) where
   -- a leader that could begin its scope can begin it still

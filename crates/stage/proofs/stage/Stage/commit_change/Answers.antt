@@ -1,5 +1,5 @@
 -- The script's next change, made in a hold.
-use Rattle.std.proofs.Common.{◌≡◌, None, Some, refl, sym, ap, ◌∙◌, subst}
+use Rattle.std.proofs.Common.{◌≡◌, None, Some, ◌∙◌, subst}
 use Rattle.stage.proofs.HoldLemmas.{grown_by, own_item}
 use Rattle.stage.proofs.MarkLemmas.{did_change, owns_change}
 use Rattle.stage.specs.Changes.{next_entry}

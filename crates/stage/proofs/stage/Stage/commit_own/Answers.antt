@@ -1,5 +1,5 @@
 -- What a role can do alone, done in a hold.
-use Rattle.std.proofs.Common.{◌≡◌, ◌≢◌, None, Some, refl, sym, ap, ◌∙◌, subst}
+use Rattle.std.proofs.Common.{◌≡◌, ◌≢◌, None, Some, sym, ◌∙◌, subst}
 use Rattle.dioc_terms.specs.Plain.{plain}
 use Rattle.stage.proofs.HoldLemmas.{did_own, grown_by, left_same, own_entry, own_item}
 use Rattle.stage.proofs.SeatLemmas.{can_add_now, refused}

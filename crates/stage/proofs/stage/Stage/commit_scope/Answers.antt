@@ -1,5 +1,5 @@
 -- A scope that its leader can begin, begun in a hold.
-use Rattle.std.proofs.Common.{◌≡◌, None, Some, refl, sym, ap, ◌∙◌, subst}
+use Rattle.std.proofs.Common.{◌≡◌, None, sym, ap, ◌∙◌, subst}
 use Rattle.dioc_terms.specs.KeptStores.{store_of}
 use Rattle.dioc_terms.specs.Plain.{plain}
 use Rattle.stage.proofs.HoldLemmas.{Grown, grown_by, own_item}

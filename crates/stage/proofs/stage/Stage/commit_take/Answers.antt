@@ -1,5 +1,5 @@
 -- A take whose message is there, done in a hold.
-use Rattle.std.proofs.Common.{◌≡◌, ◌≢◌, None, Some, refl, sym, ap, ◌∙◌, subst}
+use Rattle.std.proofs.Common.{◌≡◌, ◌≢◌, None, Some, sym, ◌∙◌, subst}
 use Rattle.dioc_terms.specs.declared.entries.Entry.TheVariants as entry
 use Rattle.dioc_terms.specs.Plain.{plain}
 use Rattle.dioc_terms.specs.Processes.{load}

@@ -1,5 +1,5 @@
 -- A stage that is stopped, marked in a hold.
-use Rattle.std.proofs.Common.{◌≡◌, sym, subst}
+use Rattle.std.proofs.Common.{sym, subst}
 use Rattle.dioc_terms.specs.Plain.{plain}
 use Rattle.stage.proofs.MarkLemmas.{cut_now}
 use Rattle.stage.specs.Homes.{HomeState, IsCut}
