@@ -1,2 +1,15 @@
 pub mod Runs
+pub mod PromptRuns
+pub mod HomeLemmas
+pub mod TakeLemmas
+pub mod ChangedHome
+pub mod FeederLemmas
+pub mod BeginLemmas
+pub mod EndingLemmas
+pub mod OwnLemmas
+pub mod OpeningLemmas
+pub mod SeatLemmas
+pub mod HoldLemmas
+pub mod MarkLemmas
+pub mod SeatingLemmas
 pub mod Examples

@@ -1,4 +1,10 @@
+pub mod Faults
+pub mod Homes
 pub mod Owners
 pub mod Roles
 pub mod Seats
+pub mod Holds
 pub mod Laws
+pub mod Changes
+pub mod Begins
+pub mod Marks

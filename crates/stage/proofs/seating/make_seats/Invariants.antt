@@ -1,0 +1,16 @@
+-- The first seat knows how many seats there are so far, and each of the others has the next number.
+use Rattle.std.proofs.Common.{◌≡◌, suc, map, All}
+use Rattle.stage.proofs.SeatingLemmas.{first_of}
+use Rattle.stage.specs.Seats.{Base, later_views}
+use Rattle.turn_lock.specs.Views.{first_view}
+use Rattle.turn_lock.specs.Words.{view, IsSeatOf}
+use Rattle.stage.proofs.seating.make_seats.Given as goal
+
+abbrev pub invariant-loop-role : goal.invariant-loop-role
+invariant-loop-role l = record {
+  first : IsSeatOf l.turns l.first;
+  others : All (λ s. IsSeatOf l.turns s) l.seats.items;
+  made : (view l.first).made ≡ suc l._role-index;
+  views : (base : Base) → view l.fn.first ≡ first_view base
+      → (view l.first ≡ first_of base l._role-index) × (map view l.seats.items ≡ later_views base 1 l._role-index);
+}

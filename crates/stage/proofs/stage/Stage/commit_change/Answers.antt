@@ -1,0 +1,32 @@
+-- The script's next change, made in a hold.
+use Rattle.std.proofs.Common.{◌≡◌, None, Some, ◌∙◌, subst}
+use Rattle.stage.proofs.HoldLemmas.{grown_by, own_item}
+use Rattle.stage.proofs.MarkLemmas.{did_change, owns_change}
+use Rattle.stage.specs.Changes.{next_entry}
+use Rattle.stage.specs.Faults.{feeder_fault}
+use Rattle.stage.specs.Homes.{HomeState}
+use Rattle.turn_lock.specs.Words.{view, turn_view}
+use Rattle.stage.proofs.stage.Stage.commit_change.Goals as goal
+
+pub leave_with-seat-requires-clause-item : goal.leave_with-seat-requires-clause-item
+leave_with-seat-requires-clause-item g c =
+    let v = view c.args.seat in
+    let u = turn_view c.enter-turn.result in
+    let home = c.enter-turn.result.home in
+    let changed = c.in-Ok.ensures.changed in
+    let is = subst (λ (h : HomeState). next_entry h ≡ Some changed.entry) c.home.ensures.value changed.next in
+    own_item v u home c.home-in-Ok.result.now changed.entry
+    (grown_by v u home c.home.result.now c.home-in-Ok.result.now changed.entry c.enter-turn.ensures.view c.home.ensures.value (c.home-in-Ok.ensures.value ∙ changed.added))
+    (owns_change v home changed.entry c.enter-turn.ensures.base c.requires.feeder is)
+
+pub returns-in-Ok-clause-done : goal.returns-in-Ok-clause-done
+returns-in-Ok-clause-done g c =
+    let v = view c.args.seat in
+    let u = turn_view c.enter-turn.result in
+    let home = c.enter-turn.result.home in
+    let changed = c.in-Ok.ensures.changed in
+    let is = subst (λ (h : HomeState). next_entry h ≡ Some changed.entry) c.home.ensures.value changed.next in
+    did_change v home c.enter-turn.ensures.base c.enter-turn.ensures.still u (view c.leave_with-seat.result) c.home-in-Ok.result.now c.enter-turn.ensures.sound c.is_sound.ensures
+    (subst (λ (h : HomeState). feeder_fault h ≡ None) c.home.ensures.value c.in-Ok.ensures.free) changed.entry is
+    (grown_by v u home c.home.result.now c.home-in-Ok.result.now changed.entry c.enter-turn.ensures.view c.home.ensures.value (c.home-in-Ok.ensures.value ∙ changed.added))
+    (record { view = c.leave_with-seat.ensures.view; own = c.leave_with-seat.ensures.met })

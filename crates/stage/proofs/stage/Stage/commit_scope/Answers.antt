@@ -1,0 +1,46 @@
+-- A scope that its leader can begin, begun in a hold.
+use Rattle.std.proofs.Common.{◌≡◌, None, sym, ap, ◌∙◌, subst}
+use Rattle.dioc_terms.specs.KeptStores.{store_of}
+use Rattle.dioc_terms.specs.Plain.{plain}
+use Rattle.stage.proofs.HoldLemmas.{Grown, grown_by, own_item}
+use Rattle.stage.proofs.MarkLemmas.{begin_now, did_begin, owns_begin}
+use Rattle.stage.specs.Begins.{CanBegin, begin_in, update_in}
+use Rattle.stage.specs.Faults.{role_fault}
+use Rattle.stage.specs.Homes.{HomeState}
+use Rattle.turn_lock.specs.Words.{view, turn_view}
+use Rattle.stage.proofs.stage.Stage.commit_scope.Goals as goal
+
+pub scope-requires : goal.scope-requires
+scope-requires g c =
+    let s = store_of c.args.store.now in
+    let found = c.enter-turn.ensures in
+    record {
+      can = subst (λ (h : HomeState). CanBegin (plain h.bundle) h.history c.args.head.now s) (sym c.home.ensures.value)
+          (begin_now (view c.args.seat) c.enter-turn.result.home found.base found.still c.args.head.now s c.requires.can);
+    }
+
+pub leave_with-seat-requires-clause-item : goal.leave_with-seat-requires-clause-item
+leave_with-seat-requires-clause-item g c =
+    let v = view c.args.seat in
+    let u = turn_view c.enter-turn.result in
+    let home = c.enter-turn.result.home in
+    let s = store_of c.args.store.now in
+    own_item v u home c.home-in-Ok.result.now (begin_in home c.args.head.now s)
+    (subst (λ (h : HomeState). Grown v u home c.home-in-Ok.result.now (begin_in h c.args.head.now s)) c.home.ensures.value
+    (grown_by v u home c.home.result.now c.home-in-Ok.result.now (begin_in c.home.result.now c.args.head.now s) c.enter-turn.ensures.view c.home.ensures.value
+    (c.home-in-Ok.ensures.value ∙ c.in-Ok.ensures.added)))
+    (owns_begin v home c.args.head.now s c.enter-turn.ensures.base c.requires.can)
+
+pub returns-in-Ok-clause-done : goal.returns-in-Ok-clause-done
+returns-in-Ok-clause-done g c =
+    let v = view c.args.seat in
+    let u = turn_view c.enter-turn.result in
+    let home = c.enter-turn.result.home in
+    let s = store_of c.args.store.now in
+    did_begin v home c.enter-turn.ensures.base c.enter-turn.ensures.still u (view c.leave_with-seat.result) c.home-in-Ok.result.now c.enter-turn.ensures.sound c.is_sound.ensures
+    c.offers_are_steps.ensures c.deeds_move.ensures (subst (λ (h : HomeState). role_fault h ≡ None) c.home.ensures.value c.in-Ok.ensures.free)
+    c.args.head.now s c.requires.can c.in-Ok.update (c.in-Ok.ensures.chosen ∙ ap (λ (h : HomeState). update_in h c.args.head.now s) c.home.ensures.value)
+    (subst (λ (h : HomeState). Grown v u home c.home-in-Ok.result.now (begin_in h c.args.head.now s)) c.home.ensures.value
+    (grown_by v u home c.home.result.now c.home-in-Ok.result.now (begin_in c.home.result.now c.args.head.now s) c.enter-turn.ensures.view c.home.ensures.value
+    (c.home-in-Ok.ensures.value ∙ c.in-Ok.ensures.added)))
+    (record { view = c.leave_with-seat.ensures.view; own = c.leave_with-seat.ensures.met })

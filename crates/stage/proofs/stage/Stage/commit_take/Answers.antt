@@ -1,0 +1,59 @@
+-- A take whose message is there, done in a hold.
+use Rattle.std.proofs.Common.{◌≡◌, ◌≢◌, None, Some, sym, ◌∙◌, subst}
+use Rattle.dioc_terms.specs.declared.entries.Entry.TheVariants as entry
+use Rattle.dioc_terms.specs.Plain.{plain}
+use Rattle.dioc_terms.specs.Processes.{load}
+use Rattle.marked_laws.specs.Network.{pending_at}
+use Rattle.role_network.specs.Nets.{network_at}
+use Rattle.stage.proofs.HomeLemmas.{Laws}
+use Rattle.stage.proofs.HoldLemmas.{did_take, grown_by, left_same, own_item}
+use Rattle.stage.proofs.SeatLemmas.{refused, take_now}
+use Rattle.stage.specs.declared.faults.CommitFault.TheVariants as fault
+use Rattle.stage.specs.Faults.{take_fault}
+use Rattle.stage.specs.Homes.{HomeState}
+use Rattle.stage.specs.Roles.{CanTake}
+use Rattle.turn_lock.specs.Words.{view, turn_view}
+use Rattle.stage.proofs.stage.Stage.commit_take.Goals as goal
+
+pub take-requires : goal.take-requires
+take-requires g c =
+    let k = c.args.key.now in
+    let found = c.enter-turn.ensures in
+    record {
+      can = subst (λ (h : HomeState). CanTake (plain h.bundle) h.history k.to k c.args.var) (sym c.home.ensures.value)
+          (take_now (view c.args.seat) c.enter-turn.result.home found.base found.still k.to k c.args.var c.requires.can);
+    }
+
+pub leave_with-seat-requires-clause-item : goal.leave_with-seat-requires-clause-item
+leave_with-seat-requires-clause-item g c =
+    let v = view c.args.seat in
+    let u = turn_view c.enter-turn.result in
+    let home = c.enter-turn.result.home in
+    let e = entry.Take c.args.key.now c.args.var in
+    own_item v u home c.home-in-Ok.result.now e
+    (grown_by v u home c.home.result.now c.home-in-Ok.result.now e c.enter-turn.ensures.view c.home.ensures.value (c.home-in-Ok.ensures.value ∙ c.in-Ok.ensures.added))
+    (sym (c.requires.can (home.bundle, home.limit) c.enter-turn.ensures.base).0)
+
+pub returns-in-Ok-clause-done : goal.returns-in-Ok-clause-done
+returns-in-Ok-clause-done g c =
+    let v = view c.args.seat in
+    let u = turn_view c.enter-turn.result in
+    let home = c.enter-turn.result.home in
+    let k = c.args.key.now in
+    let e = entry.Take k c.args.var in
+    let laws : Laws = record { steps = c.steps_run.ensures; keys = c.unique_keys.ensures; maps = c.mail_is_a_map.ensures; offers = c.offers_are_steps.ensures } in
+    did_take v u (view c.leave_with-seat.result) home c.home-in-Ok.result.now c.enter-turn.ensures.base c.enter-turn.ensures.still c.enter-turn.ensures.sound
+    (take_fault k) (subst (λ (h : HomeState). take_fault k h ≡ None) c.home.ensures.value c.in-Ok.ensures.free) c.deeds_move.ensures c.is_sound.ensures
+    laws k c.args.var (load c.in-Ok.payload) c.requires.can
+    (subst (λ (h : HomeState). pending_at k (network_at (plain h.bundle) h.history).pending ≡ Some (load c.in-Ok.payload)) c.home.ensures.value c.in-Ok.ensures.taken)
+    (grown_by v u home c.home.result.now c.home-in-Ok.result.now e c.enter-turn.ensures.view c.home.ensures.value (c.home-in-Ok.ensures.value ∙ c.in-Ok.ensures.added))
+    (record { view = c.leave_with-seat.ensures.view; own = c.leave_with-seat.ensures.met })
+
+pub returns-in-Err-clause-refused : goal.returns-in-Err-clause-refused
+returns-in-Err-clause-refused g c =
+    let v = view c.args.seat in
+    let home = c.enter-turn.result.home in
+    let k = c.args.key.now in
+    refused v home c.enter-turn.ensures.base c.enter-turn.ensures.still c.enter-turn.ensures.sound (take_fault k) c.in-Err.fault
+    (subst (λ (h : HomeState). c.in-Err.fault ≢ fault.Memory → take_fault k h ≡ Some c.in-Err.fault) c.home.ensures.value c.in-Err.ensures.first)
+    (view c.leave.result) (left_same v (turn_view c.enter-turn.result) (view c.leave.result) home c.enter-turn.ensures.view c.leave.ensures.view)

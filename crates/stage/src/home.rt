@@ -1,0 +1,144 @@
+//! What lies under the lock of a stage: all that the roles share.
+
+ghost use Rattle.std.specs.Prelude.{◌≡◌, nat_le, length};
+ghost use Rattle.dioc_terms.specs.Plain.{plain};
+ghost use Rattle.net_core.specs.Schedule.{change_is_due};
+ghost use Rattle.stage.specs.Faults.{role_fault, take_fault};
+ghost use Rattle.stage.specs.Homes.{IsSoundHome};
+
+use crate::faults::{CommitFault, Why};
+use dioc_terms::{Bundle, Entry, Key, Name, Roles};
+use role_mailbox::Mail;
+use role_network::{Coming, is_first_due};
+use rule_book::Book;
+use std::alloc::Global;
+use std::collections::VecDeque;
+use std::marker::Model;
+use std::snapshot::Snapshot;
+use trace_book::History;
+use turn_lock::Chronicle;
+
+/// The history, and what the network of the bundle has after it but for the processes and stores,
+/// which the roles keep. The bundle is kept for contracts alone.
+#[derive(Drop)]
+pub struct Home {
+    pub(crate) alloc: Global,
+    pub(crate) of: Snapshot<Bundle>,
+    pub(crate) limit: u64,
+    pub(crate) cast: Roles,
+    // By the numbers of the rules.
+    pub(crate) names: Vec<Name>,
+    pub(crate) mail: Mail,
+    pub(crate) book: Book,
+    pub(crate) coming: VecDeque<Coming>,
+    pub(crate) updates: u32,
+    pub(crate) history: History,
+    // For each role of the cast.
+    pub(crate) finished: Vec<bool>,
+    pub(crate) stopped: Option<Why>,
+}
+
+impl Model for Home {
+    ghost use Rattle.std.specs.Prelude.{map};
+    ghost use Rattle.std.specs.Coded.{codes};
+    ghost use Rattle.dioc_terms.specs.contracts.choreographies.Choreo as choreo;
+    ghost use Rattle.dioc_terms.specs.contracts.expressions.Expr as expr;
+    ghost use Rattle.role_network.specs.KeptParts.{due_seen};
+    ghost use Rattle.stage.specs.Homes.{HomeState, IsHome};
+
+    ghost Value = { HomeState };
+
+    ghost coded = { Prim.hlevel (codes, choreo.the_row.coded, expr.the_row.coded) };
+
+    ghost view = { λ home. record {
+      bundle = home.of.value;
+      limit = home.limit;
+      history = home.history.entries;
+      finished = home.finished.items;
+      stopped = home.stopped;
+    } };
+
+    ghost invariant = { λ home. IsHome home.of.value home.limit home.history.entries home.cast
+        home.names.items home.mail home.book (map due_seen home.coming.items) home.updates
+        home.finished.items home.stopped };
+}
+
+impl Chronicle for Home {
+    ghost use Rattle.stage.specs.Owners.{owner_in};
+
+    type Item = Entry;
+
+    type Base = (Bundle, u64);
+
+    ghost items = { λ home. home.history };
+
+    ghost base = { λ home. (home.bundle, home.limit) };
+
+    ghost owner = { λ base entry. owner_in base.0.cast entry };
+
+    fn count(&self) -> u64 {
+        self.history.len()
+    }
+}
+
+impl Home {
+    /// What holds of every home: its history is a prompt run of its bundle within the limit, and
+    /// its marks stand only where they may. It does nothing.
+    pub(crate) fn is_sound(&self)
+        ensures { IsSoundHome self.now }
+    {
+        let _limit = self.limit;
+    }
+
+    /// The history, with what holds of every home.
+    pub(crate) fn into_history(self) -> History
+        ensures entries { result.entries ≡ self.history }
+        ensures sound { IsSoundHome self }
+    {
+        self.history
+    }
+
+    /// Why no role may commit now, whatever it does.
+    pub(crate) fn role_fault(&self) -> Option<CommitFault>
+        ensures { result ≡ role_fault self.now }
+    {
+        if let Some(why) = self.stopped {
+            return Some(CommitFault::Stopped(why));
+        }
+        if self.is_full() {
+            return Some(CommitFault::Full);
+        }
+        if self.is_due() {
+            return Some(CommitFault::NotYet);
+        }
+        None
+    }
+
+    /// Whether the history has as many entries as it may.
+    pub(crate) fn is_full(&self) -> bool
+        ensures { result ≡ nat_le self.now.limit (length self.now.history) }
+    {
+        self.history.len() >= self.limit
+    }
+
+    /// Whether the script's next change is due.
+    fn is_due(&self) -> bool
+        ensures { result ≡ change_is_due (plain self.now.bundle) self.now.history }
+    {
+        is_first_due(&self.coming, self.history.visible_len())
+    }
+
+    /// Why the take of a role is refused now.
+    pub(crate) fn take_fault(&self, key: &Key) -> Option<CommitFault>
+        ensures { result ≡ take_fault key.now self.now }
+    {
+        if let Some(fault) = self.role_fault() {
+            return Some(fault);
+        }
+        if self.mail.holds(key) {
+            None
+        } else {
+            Some(CommitFault::NotYet)
+        }
+    }
+}

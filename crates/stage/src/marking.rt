@@ -1,0 +1,48 @@
+//! The calls of a stage that add no entry: a role has finished, or the stage is to stop.
+
+ghost use Rattle.std.specs.Prelude.{◌≡◌};
+ghost use Rattle.stage.specs.Holds.{HasFinished, SawHome, SawLimit};
+
+use crate::faults::Why;
+use crate::home::Home;
+use crate::stage::Stage;
+use dioc_terms::Role;
+use std::sync::Wait;
+use turn_lock::Seat;
+
+impl Stage {
+    ghost use Rattle.turn_lock.specs.Words.{view, IsSeatOf};
+
+    /// Marks the seat's role, whose process has ended, as finished. Once all are, changes are
+    /// refused and nobody waits any more.
+    pub fn finish<R: Wait>(&self, rt: &R, seat: Seat<Home>, role: &Role) -> Seat<Home>
+        requires of { IsSeatOf self.now.turns seat }
+        requires ended { HasFinished (view seat) role.now }
+        ensures of { IsSeatOf self.now.turns result }
+        ensures saw { SawHome (view seat) (view result) }
+    {
+        let mut turn = self.enter(rt, seat);
+        let home = turn.home();
+        home.finish(role);
+        let over = home.all_finished();
+        let seat = self.turns.leave(turn);
+        self.pulse.beat(rt, over);
+        seat
+    }
+
+    /// Stops the stage: from then on each commit is refused for this, and nobody waits any more.
+    /// The first mark stays. The mark of the limit asks that the seat has seen as many entries as
+    /// there may be, and that the network has not ended after them.
+    pub fn stop<R: Wait>(&self, rt: &R, seat: Seat<Home>, why: Why) -> Seat<Home>
+        requires of { IsSeatOf self.now.turns seat }
+        requires cut { why ≡ Why.Limit → SawLimit (view seat) }
+        ensures of { IsSeatOf self.now.turns result }
+        ensures saw { SawHome (view seat) (view result) }
+    {
+        let mut turn = self.enter(rt, seat);
+        turn.home().stop(why);
+        let seat = self.turns.leave(turn);
+        self.pulse.beat(rt, true);
+        seat
+    }
+}
