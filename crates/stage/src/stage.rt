@@ -69,7 +69,8 @@ impl Stage {
     {
         others_leave_alone();
         let mut turn = self.turns.enter(rt, seat);
-        turn.home().is_sound();
+        let home = turn.home();
+        home.is_sound();
         turn
     }
 

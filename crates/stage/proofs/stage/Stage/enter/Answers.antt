@@ -8,7 +8,7 @@ use Rattle.stage.proofs.stage.Stage.enter.Goals as goal
 
 pub returns-clause-still : goal.returns-clause-still
 returns-clause-still g c =
-    let same = c.home.ensures.value in
+    let same = c.home-home.ensures.value in
     let entered = c.enter-turn.ensures in
     subst (λ (h : HomeState). StillStands (view c.args.seat) h.history) (sym same)
     (still_stands (view c.args.seat) c.enter-turn.result.home entered.base c.others_leave_alone.ensures entered.begins entered.own entered.met (subst IsSoundHome same c.is_sound.ensures))
