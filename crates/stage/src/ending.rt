@@ -24,7 +24,8 @@ impl Home {
     /// Keeps why the stage is stopped. Where it was stopped before, that stays. Nothing else is
     /// changed.
     pub(crate) fn stop(&mut self, why: Why)
-        requires { why ≡ Why.Limit → IsCut (plain self.old.bundle) self.old.limit self.old.history }
+        requires { why ≡ Why.Limit
+            → IsCut (plain self.old.bundle) self.old.limit self.old.history }
         ensures { self.new ≡ with_stop self.old why }
     {
         if self.stopped.is_none() {

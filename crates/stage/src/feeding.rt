@@ -32,7 +32,8 @@ impl Stage {
         ensures of { IsSeatOf self.now.turns result.0 }
         ensures done { IfOk result.1 (λ update. CommittedScope (view seat) (view result.0)
             head.now (store_of store.now) update) }
-        ensures refused { IfErr result.1 (λ f. RefusedFor role_fault (view seat) (view result.0) f) }
+        ensures refused { IfErr result.1
+            (λ f. RefusedFor role_fault (view seat) (view result.0) f) }
     {
         deeds_move();
         process_steps::offers_are_steps();

@@ -89,7 +89,8 @@ impl Stage {
         ensures of { IsSeatOf self.now.turns result.0 }
         ensures done { IfOk result.1 (λ _. Committed role_fault (view seat) (view result.0)
             key.from (acts.Put key) Alone (Puts key (load payload))) }
-        ensures refused { IfErr result.1 (λ f. RefusedFor role_fault (view seat) (view result.0) f) }
+        ensures refused { IfErr result.1
+            (λ f. RefusedFor role_fault (view seat) (view result.0) f) }
     {
         deeds_move();
         let mut turn = self.enter(rt, seat);
@@ -152,7 +153,8 @@ impl Stage {
         ensures of { IsSeatOf self.now.turns result.0 }
         ensures done { IfOk result.1
             (λ _. CommittedOwn role_fault (view seat) (view result.0) entry) }
-        ensures refused { IfErr result.1 (λ f. RefusedFor role_fault (view seat) (view result.0) f) }
+        ensures refused { IfErr result.1
+            (λ f. RefusedFor role_fault (view seat) (view result.0) f) }
     {
         self.commit_own(rt, seat, entry)
     }
@@ -171,7 +173,8 @@ impl Stage {
         ensures of { IsSeatOf self.now.turns result.0 }
         ensures done { IfOk result.1
             (λ _. CommittedOwn role_fault (view seat) (view result.0) entry) }
-        ensures refused { IfErr result.1 (λ f. RefusedFor role_fault (view seat) (view result.0) f) }
+        ensures refused { IfErr result.1
+            (λ f. RefusedFor role_fault (view seat) (view result.0) f) }
     {
         self.commit_own(rt, seat, entry)
     }
@@ -190,7 +193,8 @@ impl Stage {
         ensures of { IsSeatOf self.now.turns result.0 }
         ensures done { IfOk result.1
             (λ _. CommittedOwn role_fault (view seat) (view result.0) entry) }
-        ensures refused { IfErr result.1 (λ f. RefusedFor role_fault (view seat) (view result.0) f) }
+        ensures refused { IfErr result.1
+            (λ f. RefusedFor role_fault (view seat) (view result.0) f) }
     {
         self.commit_own(rt, seat, entry)
     }
@@ -207,7 +211,8 @@ impl Stage {
         ensures of { IsSeatOf self.now.turns result.0 }
         ensures done { IfOk result.1
             (λ _. CommittedOwn role_fault (view seat) (view result.0) entry) }
-        ensures refused { IfErr result.1 (λ f. RefusedFor role_fault (view seat) (view result.0) f) }
+        ensures refused { IfErr result.1
+            (λ f. RefusedFor role_fault (view seat) (view result.0) f) }
     {
         deeds_move();
         process_steps::steps_show_their_acts();
