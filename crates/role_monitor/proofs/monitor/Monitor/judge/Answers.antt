@@ -54,7 +54,7 @@ returns-in_default-clause-same c = λ b r entries read. read
 pub returns-in-Ok-true-clause-read : goal.returns-in-Ok-true-clause-read
 returns-in-Ok-true-clause-read c = λ b r entries read.
     let own = c.requires.own in
-    let kept = rw c.in-Ok-true.field-0-is at c.in-Ok-true.ensures.kept in
+    let kept = rw c.in-Ok-true.field-0-test at c.in-Ok-true.ensures.kept in
     read_kept b r c.args.self.now entries read c.args.entry.now c.leaders_tell.ensures c.mail_is_a_map.ensures own.0 own.1 own.2 c.in-Ok.act c.in-Ok.ensures _
     (subst (λ x. KeepsOwn (setting x) (local_of c.args.self.now.state) c.args.self.now.mail (book_of c.args.self.now.book) c.args.self.now.updates.items c.args.entry.now c.in-Ok.act
     (local_of c.judge.new.state) c.judge.new.mail c.judge.new.updates.items) read.bundle kept)
@@ -63,7 +63,7 @@ returns-in-Ok-true-clause-read c = λ b r entries read.
 pub returns-in-Ok-false-clause-deviates : goal.returns-in-Ok-false-clause-deviates
 returns-in-Ok-false-clause-deviates c = λ b r entries read.
     let own = c.requires.own in
-    let refuses = rw c.in-Ok-false.field-0-is at c.in-Ok-false.ensures.refused in
+    let refuses = rw c.in-Ok-false.field-0-test at c.in-Ok-false.ensures.refused in
     (omega (arith, read.fed),
     read_refused b r c.args.self.now entries read c.args.entry.now c.leaders_tell.ensures c.mail_is_a_map.ensures own.0 own.1 own.2 c.in-Ok.act c.in-Ok.ensures
     (subst (λ x. RefusesOwn (setting x) (local_of c.args.self.now.state) c.args.self.now.mail (book_of c.args.self.now.book) c.args.self.now.updates.items c.args.entry.now c.in-Ok.act)
@@ -71,9 +71,9 @@ returns-in-Ok-false-clause-deviates c = λ b r entries read.
 
 pub returns-in-Ok-false-clause-same : goal.returns-in-Ok-false-clause-same
 returns-in-Ok-false-clause-same c = λ b r entries read.
-    let local = rw c.in-Ok-false.field-0-is at c.in-Ok-false.ensures.same_local in
-    let mail = rw c.in-Ok-false.field-0-is at c.in-Ok-false.ensures.same_mail in
-    let updates = rw c.in-Ok-false.field-0-is at c.in-Ok-false.ensures.same_updates in
+    let local = rw c.in-Ok-false.field-0-test at c.in-Ok-false.ensures.same_local in
+    let mail = rw c.in-Ok-false.field-0-test at c.in-Ok-false.ensures.same_mail in
+    let updates = rw c.in-Ok-false.field-0-test at c.in-Ok-false.ensures.same_updates in
     read_same b r c.args.self.now _ entries read local mail updates refl refl refl refl refl refl
 
 pub returns-in-Err-clause-same : goal.returns-in-Err-clause-same
