@@ -222,13 +222,13 @@ read_same b r old new es read local mail updates book changes bundle role fed ju
   state = read.state;
   runs = read.runs;
   shows = record {
-        local = local ∙ read.shows.local;
-        mail = record { at = λ k. mail.at k ∙ read.shows.mail.at k };
-        book = ap book_of book ∙ read.shows.book;
-        changes = changes ∙ read.shows.changes;
-        updates = updates ∙ read.shows.updates;
-        script = subst (λ k. HoldsScript b k new.changes) (sym book) (subst (HoldsScript b old.book) (sym changes) read.shows.script);
-      };
+    local = local ∙ read.shows.local;
+    mail = record { at = λ k. mail.at k ∙ read.shows.mail.at k };
+    book = ap book_of book ∙ read.shows.book;
+    changes = changes ∙ read.shows.changes;
+    updates = updates ∙ read.shows.updates;
+    script = subst (λ k. HoldsScript b k new.changes) (sym book) (subst (HoldsScript b old.book) (sym changes) read.shows.script);
+  };
   fed = fed ∙ read.fed;
   judged = judged ∙ read.judged;
 }

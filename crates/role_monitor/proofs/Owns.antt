@@ -48,8 +48,8 @@ put_back old mid new k l was taken put = record { at = λ j. put.at j ∙ by_key
 pub taken_holds : MailIsAMap → (old new : Mail) (k : Key) (l : Load) → ChangesOnly old new k None → TakenBy (act.Take k) old new
 taken_holds maps old new k l taken = record {
   holds = λ pending distinct held. record {
-        at = λ j. taken.at j ∙ ap (λ o. if key_eq j k then None else o) (held.at j) ∙ sym (maps.taken pending k None l j distinct);
-      };
+    at = λ j. taken.at j ∙ ap (λ o. if key_eq j k then None else o) (held.at j) ∙ sym (maps.taken pending k None l j distinct);
+  };
 }
 
 -- the mail with one message more

@@ -54,11 +54,7 @@ pub struct Monitor<'a> {
 
 impl<'a> Monitor<'a> {
     /// The monitor of a role of a bundle, before the first entry.
-    pub fn new(
-        alloc: Global,
-        bundle: &'a Bundle,
-        role: &'a Role,
-    ) -> Result<Monitor<'a>, Memory>
+    pub fn new(alloc: Global, bundle: &'a Bundle, role: &'a Role) -> Result<Monitor<'a>, Memory>
         requires { IsSound (plain bundle.now) }
         ensures { IfOk result (λ monitor. HasRead (plain bundle.now) role.now monitor []) }
     {

@@ -68,7 +68,9 @@ pub(crate) fn judge_scope<R: Runs>(
         None => Ok(keep(state, entry, act, head)),
         Some(number) => {
             let rule = rule_at(bundle, number);
-            match replace(alloc, bundle, updates, state, entry, act, head, rule, number) {
+            match replace(
+                alloc, bundle, updates, state, entry, act, head, rule, number,
+            ) {
                 Ok(kept) => Ok(kept),
                 Err(fault) => Err(fault),
             }
@@ -157,7 +159,10 @@ fn replace<R: Runs>(
         → IsStep (R.local state.old) act.now (FromBook decide) (R.local state.new))) }
     ensures listed { IfOk result (λ kept. OnTrue kept
         (updates.new.items ≡ updates.old.items ++ record {
-          epoch = suc (length updates.old.items); rule = number; level = suc head.level } ∷ [])) }
+          epoch = suc (length updates.old.items);
+          rule = number;
+          level = suc head.level;
+        } ∷ [])) }
     ensures same_local { IfOk result
         (λ kept. OnFalse kept (R.local state.new ≡ R.local state.old)) }
     ensures same_updates { IfOk result

@@ -63,11 +63,12 @@ returns-in-Ok-true-clause-read c = λ b r entries read.
 pub returns-in-Ok-false-clause-deviates : goal.returns-in-Ok-false-clause-deviates
 returns-in-Ok-false-clause-deviates c = λ b r entries read.
     let own = c.requires.own in
-    let refuses = rw c.in-Ok-false.field-0-test at c.in-Ok-false.ensures.refused in
-    (omega (arith, read.fed),
-    read_refused b r c.args.self.now entries read c.args.entry.now c.leaders_tell.ensures c.mail_is_a_map.ensures own.0 own.1 own.2 c.in-Ok.act c.in-Ok.ensures
-    (subst (λ x. RefusesOwn (setting x) (local_of c.args.self.now.state) c.args.self.now.mail (book_of c.args.self.now.book) c.args.self.now.updates.items c.args.entry.now c.in-Ok.act)
-    read.bundle refuses))
+    let refuses = rw c.in-Ok-false.field-0-test at c.in-Ok-false.ensures.refused in (
+      omega (arith, read.fed),
+      read_refused b r c.args.self.now entries read c.args.entry.now c.leaders_tell.ensures c.mail_is_a_map.ensures own.0 own.1 own.2 c.in-Ok.act c.in-Ok.ensures
+          (subst (λ x. RefusesOwn (setting x) (local_of c.args.self.now.state) c.args.self.now.mail (book_of c.args.self.now.book) c.args.self.now.updates.items c.args.entry.now c.in-Ok.act)
+          read.bundle refuses),
+    )
 
 pub returns-in-Ok-false-clause-same : goal.returns-in-Ok-false-clause-same
 returns-in-Ok-false-clause-same c = λ b r entries read.
