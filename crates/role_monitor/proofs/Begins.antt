@@ -1,10 +1,9 @@
 -- Entries of the role that begin scopes: what the parts of the program do is what the state's own entry is.
-use Rattle.std.proofs.Common.{◌≡◌, ◌<◌, ℕ, suc, List, [], ◌∷◌, ◌++◌, length, map, Bool, true, false, ◌&&◌, Option, Some, None, Result, Ok, Err, IfOk, OnOk, OnErr, slice_get, get_or, All, refl, sym, ap, ap₂, ◌∙◌, subst}
+use Rattle.std.proofs.Common.{◌≡◌, ◌<◌, ℕ, suc, List, [], ◌∷◌, ◌++◌, length, map, Bool, true, false, ◌&&◌, Option, Some, None, Result, Ok, Err, IfOk, OnOk, OnErr, slice_get, get_or, refl, sym, ap, ap₂, ◌∙◌, subst}
 use Rattle.std.specs.Prelude.{nat_lt, option_map, option_and_then}
 use Rattle.std.specs.Bool.{OnFalse, OnTrue}
 use Rattle.std.specs.List.{list_all}
 use Rattle.std.proofs.lemmas.Bool.{false≢true}
-use Rattle.std.proofs.lemmas.List.{length-map}
 use Rattle.std.proofs.lemmas.Option.{slice_get-map, slice_get_read, slice_get_within}
 use Rattle.dioc_terms.specs.declared.bundles.Rule.{Rule}
 use Rattle.dioc_terms.specs.declared.names.Role.{Role}
@@ -17,33 +16,30 @@ use Rattle.dioc_terms.specs.declared.entries.Entry.TheVariants as entry
 use Rattle.dioc_terms.specs.Attempts.{Does}
 use Rattle.dioc_terms.specs.Equality.{entry_eq, member}
 use Rattle.dioc_terms.specs.Messages.{act_of}
-use Rattle.dioc_terms.specs.Plain.{PlainBundle, PlainRule, Setting, plain_rule, setting}
+use Rattle.dioc_terms.specs.Plain.{PlainRule, Setting, plain_rule}
 use Rattle.dioc_terms.specs.Processes.{Process, Load}
 use Rattle.dioc_terms.specs.declared.processes.Key.{Key}
 use Rattle.dioc_terms.specs.RuleLaws.{ChoicesGoOn}
-use Rattle.dioc_terms.specs.Rules.{Book, choose, fits}
+use Rattle.dioc_terms.specs.Rules.{Book, choose}
 use Rattle.dioc_terms.specs.Stores.{Store}
-use Rattle.dioc_terms.specs.TermLaws.{MentionsAreRoles}
-use Rattle.dioc_terms.specs.Terms.{is_in, mentions}
+use Rattle.dioc_terms.specs.Terms.{mentions}
 use Rattle.dioc_terms.specs.Values.{holds, bound}
 use Rattle.dpoc_process.specs.Acting.{Lead, acting_lead}
 use Rattle.dpoc_process.specs.RoleSteps.{IsStep}
 use Rattle.dpoc_process.specs.LocalStates.{LocalState, local_done, step_at}
 use Rattle.global_steps.specs.Follow.{TakesRule, book_choice}
 use Rattle.marked_laws.proofs.Shapes.{some_same}
-use Rattle.marked_laws.specs.Laws.{IsSoundRule}
-use Rattle.marked_laws.specs.Network.{decision}
 use Rattle.process_steps.specs.Laws.{StepsShowTheirActs}
 use Rattle.process_steps.specs.Steps.{Deed, Chooses, Decision, FromBook, Keeps, Replaces, entry_of}
 use Rattle.role_monitor.proofs.Owns.{made, refused}
-use Rattle.role_monitor.specs.Judging.{FailsEntry, HoldsMail, KeepsOwn, KeepsScope, RefusesOwn, decides, monitor_state}
-use Rattle.role_monitor.specs.Monitoring.{MonitorState, after_own, begun_update, comes_to, own_entry, own_updates, with_update}
+use Rattle.role_monitor.specs.Judging.{FailsEntry, KeepsOwn, KeepsScope, RefusesOwn, decides, monitor_state}
+use Rattle.role_monitor.specs.Monitoring.{MonitorState, after_own, begun_update, comes_to, own_updates, with_update}
 use Rattle.role_monitor.specs.declared.updates.Update.{Update}
 use Rattle.role_mailbox.specs.declared.mail.Mail.{Mail}
-use Rattle.role_network.proofs.ScopeLemmas.{Answer, answer_of, begin_deed, body_in_cast, choice_is, choice_none}
+use Rattle.role_network.proofs.ScopeLemmas.{Answer, answer_of, begin_deed, choice_is}
 use Rattle.role_network.specs.Deeds.{asks_scope}
 use Rattle.role_network.specs.Scopes.{choice_of_body, chosen_by}
-use Rattle.role_network.specs.Standing.{Body, body_of}
+use Rattle.role_network.specs.Standing.{body_of}
 
 module _ (b : Setting) (s : LocalState) (book : Book) (us : List Update) (e : Entry) (a : Act) (scope : asks_scope a ≡ true) where
   abbrev state : List (Key × Load) → ℕ → MonitorState

@@ -1,7 +1,7 @@
 -- What every state of a monitor keeps: its messages have distinct keys, its process gathers ends alone and tells the others whom a scope's
 -- head shows, and so do the parts in its messages.
 use Rattle.std.proofs.Common.{◌≡◌, ℕ, zero, suc, List, [], ◌∷◌, ◌++◌, length, Bool, true, false, Option, Some, None, if◌then◌else◌, refl, sym, ap, ◌∙◌, subst, ⊎_elim}
-use Rattle.std.specs.Prelude.{is_some, option_map, option_and_then, slice_get}
+use Rattle.std.specs.Prelude.{is_some, option_and_then, slice_get}
 use Rattle.std.proofs.lemmas.Bool.{cases_Bool, cond-true, cond-false}
 use Rattle.dioc_terms.specs.declared.names.Role.{Role}
 use Rattle.dioc_terms.specs.declared.processes.Key.{Key}
@@ -18,23 +18,23 @@ use Rattle.dioc_terms.specs.Attempts.{Attempt, Stuck, Does}
 use Rattle.dioc_terms.specs.Equality.{role_eq, key_eq, entry_eq}
 use Rattle.dioc_terms.specs.Messages.{doer, act_of}
 use Rattle.dioc_terms.specs.Plain.{PlainRule, PlainBundle, Setting, setting}
-use Rattle.dioc_terms.specs.Processes.{Process, Load, Val, Flag, Keep, Part, Done}
+use Rattle.dioc_terms.specs.Processes.{Process, Load, Part}
 use Rattle.dioc_terms.specs.Terms.{stamped}
-use Rattle.dpoc_process.specs.LocalStates.{LocalState, step_at}
+use Rattle.dpoc_process.specs.LocalStates.{step_at}
 use Rattle.global_steps.specs.Follow.{BookChoice, KeepsBody, TakesRule, book_choice, shows}
-use Rattle.marked_laws.proofs.Equality.{key_same, key_itself}
+use Rattle.marked_laws.proofs.Equality.{key_same}
 use Rattle.marked_laws.proofs.Shapes.{none_some, some_same, if_some}
 use Rattle.marked_laws.specs.MailLaws.{HasDistinctKeys, MailIsAMap}
 use Rattle.marked_laws.specs.Network.{decision, pending_at, without}
-use Rattle.process_steps.specs.Laws.{is_done, load_fits}
-use Rattle.process_steps.specs.Steps.{Deed, Puts, Takes, Sets, Inputs, Picks, Chooses, Given, Got, entry_of}
+use Rattle.process_steps.specs.Laws.{is_done}
+use Rattle.process_steps.specs.Steps.{Deed, Puts, Takes, Sets, Inputs, Picks, Chooses, Got, entry_of}
 use Rattle.projection.specs.Projection.{projected}
 use Rattle.role_network.specs.Scopes.{Tells}
 use Rattle.scope_leader.specs.Leaders.{CarriesTelling, DecidesTelling, GivesTelling, LeadersTell, SendsTelling, TellsAll}
 use Rattle.role_monitor.proofs.Ends.{CarriesEnds, DecidesEnds, GathersEnds, GivesEnds, SendsEnds, ends_kept, misfit_stays, projection_ends}
 use Rattle.role_monitor.proofs.Listings.{map_some, then_some}
 use Rattle.role_monitor.specs.Judging.{MisfitsStay}
-use Rattle.role_monitor.specs.Monitoring.{MonitorState, update_numbered, rule_part, update_part, noted_load, arrived, comes_to, mail_with, mail_with_some, own_mail, received, heard, after_own, own_outcome, own_entry, others_entry, with_change, change_outcome, change_seen, judged_by, mon, mon_start, mon_from, mon_run}
+use Rattle.role_monitor.specs.Monitoring.{MonitorState, update_numbered, rule_part, update_part, noted_load, arrived, comes_to, mail_with, mail_with_some, own_mail, received, after_own, own_outcome, own_entry, others_entry, with_change, change_outcome, judged_by, mon, mon_start, mon_from, mon_run}
 use Rattle.role_monitor.specs.declared.updates.Update.{Update}
 
 -- a message whose part, if it is one, does so

@@ -1,5 +1,5 @@
 -- The level of an epoch that isn't the program's own.
-use Rattle.std.proofs.Common.{◌≡◌, ℕ, zero, suc, List, false, ◌==◌, Option, Some, None, refl, sym, ap, ◌∙◌}
+use Rattle.std.proofs.Common.{◌≡◌, ℕ, zero, suc, List, Some, None, refl, sym, ap, ◌∙◌}
 use Rattle.std.specs.Prelude.{option_map}
 use Rattle.role_monitor.specs.Monitoring.{update_numbered, epoch_level}
 use Rattle.role_monitor.specs.declared.updates.Update.{Update}

@@ -6,7 +6,7 @@ use Rattle.std.proofs.lemmas.Bool.Decides.{Decides-eqb}
 use Rattle.dioc_terms.specs.declared.names.Role.{Role}
 use Rattle.dioc_terms.specs.declared.processes.Payload.{Payload}
 use Rattle.dioc_terms.specs.Plain.{Setting}
-use Rattle.dioc_terms.specs.Processes.{Load, Part, load}
+use Rattle.dioc_terms.specs.Processes.{Part, load}
 use Rattle.marked_laws.proofs.Shapes.{none_some, some_same}
 use Rattle.role_monitor.specs.Monitoring.{rule_part, update_part, update_numbered}
 use Rattle.role_monitor.specs.declared.updates.Update.{Update}

@@ -1,5 +1,5 @@
 -- One entry more, by what the parts of a monitor did.
-use Rattle.std.proofs.Common.{◌≡◌, ◌≤◌, ◌<◌, ◌+◌, ℕ, suc, List, [], ◌∷◌, ◌++◌, length, filter, Bool, true, false, Option, Some, None, if◌then◌else◌, refl, sym, ap, ap₂, ◌∙◌, subst, arith, add-one, length-append}
+use Rattle.std.proofs.Common.{◌≡◌, ◌≤◌, ◌<◌, ◌+◌, suc, List, [], ◌∷◌, ◌++◌, length, filter, Bool, true, false, Some, None, if◌then◌else◌, refl, sym, ap, ap₂, ◌∙◌, subst, arith, length-append}
 use Rattle.std.proofs.lemmas.Bool.{cond-true, cond-false}
 use Rattle.std.specs.Option.{option_map_or}
 use Rattle.dioc_terms.specs.declared.names.Role.{Role}
@@ -10,18 +10,17 @@ use Rattle.dioc_terms.specs.declared.entries.Entry.{Entry}
 use Rattle.dioc_terms.specs.declared.entries.Entry.TheVariants as entry
 use Rattle.dioc_terms.specs.Equality.{member, role_eq}
 use Rattle.dioc_terms.specs.Messages.{doer, act_of}
-use Rattle.dioc_terms.specs.Plain.{PlainBundle, Setting, plain, setting}
+use Rattle.dioc_terms.specs.Plain.{PlainBundle, plain, setting}
 use Rattle.dioc_terms.specs.Processes.{Load}
 use Rattle.dpoc_process.specs.KeptStates.{local_of}
 use Rattle.dpoc_process.specs.LocalStates.{LocalState}
-use Rattle.marked_laws.proofs.Shapes.{none_some, some_same}
+use Rattle.marked_laws.proofs.Shapes.{none_some}
 use Rattle.dioc_terms.specs.TermLaws.{MentionsAreRoles}
 use Rattle.dioc_terms.specs.Terms.{mentions}
 use Rattle.marked_laws.proofs.Choices.{all_at}
 use Rattle.marked_laws.proofs.Premise.{all_member}
 use Rattle.marked_laws.specs.Laws.{IsSound, IsSoundRule}
-use Rattle.marked_laws.specs.MailLaws.{HasDistinctKeys, MailIsAMap}
-use Rattle.role_mailbox.specs.declared.mail.Mail.{Mail}
+use Rattle.marked_laws.specs.MailLaws.{MailIsAMap}
 use Rattle.role_monitor.proofs.Keeps.{IsKept, kept_misfits, kept_tells, run_keeps, run_more}
 use Rattle.role_monitor.specs.declared.monitor.Monitor.{Monitor}
 use Rattle.role_monitor.specs.declared.updates.Update.{Update}
@@ -29,7 +28,7 @@ use Rattle.role_monitor.specs.Judging.{Believes, HoldsMail, HoldsScript, KeepsOw
 use Rattle.role_monitor.specs.Monitoring.{MonitorState, change_seen, is_own, judged_by, mon, mon_run, mon_start, others_entry, own_entries, own_entry}
 use Rattle.role_monitor.specs.Monitors.{HasRead, Shows}
 use Rattle.role_network.specs.Scopes.{Tells}
-use Rattle.rule_book.specs.KeptBooks.{book_of, coming, IsBookOf}
+use Rattle.rule_book.specs.KeptBooks.{book_of}
 use Rattle.scope_leader.specs.Leaders.{LeadersTell}
 
 filter_more : {A : Type 0} (p : A → Bool) (x : A) (xs : List A) → filter p (xs ++ x ∷ []) ≡ filter p xs ++ (if p x then x ∷ [] else [])

@@ -5,7 +5,6 @@ use Rattle.std.specs.Prelude.{is_some, option_map}
 use Rattle.std.proofs.lemmas.Bool.{cases_Bool, cond-true, cond-false, false≢true}
 use Rattle.dioc_terms.specs.declared.names.Role.{Role}
 use Rattle.dioc_terms.specs.declared.processes.Key.{Key}
-use Rattle.dioc_terms.specs.declared.processes.Payload.{Payload}
 use Rattle.dioc_terms.specs.declared.entries.Act.{Act}
 use Rattle.dioc_terms.specs.declared.entries.Act.TheVariants as act
 use Rattle.dioc_terms.specs.declared.entries.Chosen.TheVariants as chosen
@@ -13,17 +12,17 @@ use Rattle.dioc_terms.specs.declared.entries.Entry.{Entry}
 use Rattle.dioc_terms.specs.Attempts.{Attempt, Stuck, Does}
 use Rattle.dioc_terms.specs.Equality.{role_eq, key_eq, entry_eq}
 use Rattle.dioc_terms.specs.Messages.{act_of}
-use Rattle.dioc_terms.specs.Plain.{PlainBundle, Setting}
+use Rattle.dioc_terms.specs.Plain.{Setting}
 use Rattle.dioc_terms.specs.Processes.{Process, Load, load}
 use Rattle.dioc_terms.specs.Rules.{Book}
 use Rattle.dpoc_process.specs.declared.runs.Prepared.{Prepared}
-use Rattle.dpoc_process.specs.RoleSteps.{entry_before, sent, IsPrepared, IsStep}
-use Rattle.dpoc_process.specs.LocalStates.{LocalState, local_done, offered, step_at}
-use Rattle.marked_laws.proofs.Equality.{key_same, key_itself}
-use Rattle.marked_laws.proofs.Shapes.{none_some, some_same}
-use Rattle.marked_laws.specs.MailLaws.{HasDistinctKeys, MailIsAMap}
-use Rattle.marked_laws.specs.Network.{pending_at, without}
-use Rattle.process_steps.specs.Laws.{OffersAreSteps, StepsShowTheirActs, given_fits, is_done, load_fits}
+use Rattle.dpoc_process.specs.RoleSteps.{sent, IsPrepared, IsStep}
+use Rattle.dpoc_process.specs.LocalStates.{LocalState, offered, step_at}
+use Rattle.marked_laws.proofs.Equality.{key_same}
+use Rattle.marked_laws.proofs.Shapes.{some_same}
+use Rattle.marked_laws.specs.MailLaws.{MailIsAMap}
+use Rattle.marked_laws.specs.Network.{pending_at}
+use Rattle.process_steps.specs.Laws.{OffersAreSteps, StepsShowTheirActs, given_fits, is_done}
 use Rattle.process_steps.specs.Steps.{Deed, Puts, Takes, Sets, Inputs, Picks, Chooses, Given, Alone, Got, entry_of, is_offered}
 use Rattle.role_mailbox.specs.declared.mail.Mail.{Mail}
 use Rattle.role_mailbox.specs.Pending.{messages, payload_at, ChangesOnly}

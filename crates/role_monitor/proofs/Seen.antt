@@ -1,5 +1,5 @@
 -- Changes of the script, and entries of others.
-use Rattle.std.proofs.Common.{◌≡◌, ◌+◌, ◌<◌, ℕ, zero, suc, List, [], ◌∷◌, ◌++◌, length, map, drop, Bool, true, false, Option, Some, None, slice_get, refl, sym, ap, ap₂, ◌∙◌, subst, add-one}
+use Rattle.std.proofs.Common.{◌≡◌, ◌+◌, ℕ, zero, suc, List, [], ◌∷◌, map, drop, true, false, Some, None, slice_get, refl, sym, ap, ap₂, ◌∙◌, add-one}
 use Rattle.std.specs.Prelude.{option_map}
 use Rattle.std.proofs.lemmas.Bool.{cond-true, cond-false}
 use Rattle.std.proofs.lemmas.Option.{slice_get-map}
@@ -14,17 +14,17 @@ use Rattle.dioc_terms.specs.declared.names.Role.{Role}
 use Rattle.dioc_terms.specs.declared.names.Index.{Index}
 use Rattle.dioc_terms.specs.declared.processes.Key.{Key}
 use Rattle.dioc_terms.specs.Equality.{role_eq}
-use Rattle.dioc_terms.specs.Plain.{PlainBundle, Setting, setting}
+use Rattle.dioc_terms.specs.Plain.{PlainBundle, Setting}
 use Rattle.dioc_terms.specs.Processes.{Load}
 use Rattle.dioc_terms.specs.Rules.{Book, apply}
 use Rattle.dpoc_process.specs.LocalStates.{LocalState}
 use Rattle.global_steps.specs.Follow.{shows}
 use Rattle.role_mailbox.specs.declared.mail.Mail.{Mail}
 use Rattle.role_monitor.specs.Judging.{Believes, HoldsMail, HoldsScript, monitor_state}
-use Rattle.role_monitor.specs.Monitoring.{MonitorState, change_outcome, change_seen, heard_update, mail_with_some, noted_load, received, with_change, with_update}
+use Rattle.role_monitor.specs.Monitoring.{change_outcome, change_seen, heard_update, mail_with_some, noted_load, received, with_change, with_update}
 use Rattle.role_monitor.specs.declared.updates.Update.{Update}
 use Rattle.rule_book.specs.declared.book.Book.{Book as KeptBook}
-use Rattle.rule_book.specs.KeptBooks.{book_of, coming, IsBookOf}
+use Rattle.rule_book.specs.KeptBooks.{coming, IsBookOf}
 
 abbrev change_in : Timed → Change
 change_in timed = timed.change

@@ -1,5 +1,5 @@
 -- What is judged of the role that was made ready is judged of the role.
-use Rattle.std.proofs.Common.{◌≡◌, Err, refl, sym, ap, ◌∙◌, subst}
+use Rattle.std.proofs.Common.{Err, sym, ap, ◌∙◌, subst}
 use Rattle.dioc_terms.specs.Plain.{plain, setting}
 use Rattle.dpoc_process.specs.RoleSteps.{IsPrepared}
 use Rattle.role_monitor.proofs.Begins.{any_err, on_false, on_true}

@@ -1,5 +1,5 @@
 -- What is judged of the parts is judged of the state.
-use Rattle.std.proofs.Common.{◌≡◌, refl, sym, ap, ◌∙◌}
+use Rattle.std.proofs.Common.{refl, sym, ◌∙◌}
 use Rattle.dioc_terms.specs.Plain.{plain, setting}
 use Rattle.role_monitor.proofs.Begins.{all_ok, any_err, any_false, if_ok, on_false, on_true, scope_keeps, scope_refuses}
 use Rattle.role_monitor.proofs.Owns.{plain_keeps, plain_refuses}

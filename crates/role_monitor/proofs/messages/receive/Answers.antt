@@ -1,5 +1,5 @@
 -- The message is there.
-use Rattle.std.proofs.Common.{◌≡◌, Some, None, sym, ap, ◌∙◌, subst}
+use Rattle.std.proofs.Common.{Some, sym, ap, ◌∙◌, subst}
 use Rattle.std.specs.Prelude.{option_map}
 use Rattle.dioc_terms.specs.Plain.{plain, setting}
 use Rattle.dioc_terms.specs.Processes.{load}

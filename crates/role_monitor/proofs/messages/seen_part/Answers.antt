@@ -1,5 +1,5 @@
 -- The part of an update that was heard of.
-use Rattle.std.proofs.Common.{◌≡◌, sym}
+use Rattle.std.proofs.Common.{sym}
 use Rattle.dioc_terms.specs.Plain.{plain, setting}
 use Rattle.role_monitor.proofs.Begins.{if_ok}
 use Rattle.role_monitor.proofs.Noted.{noted_none, noted_part}

@@ -1,9 +1,8 @@
 -- The entry is believed.
-use Rattle.std.proofs.Common.{◌≡◌, List, OnOk, ap, sym, ◌∙◌, subst, refl}
+use Rattle.std.proofs.Common.{List, OnOk, ap, sym, ◌∙◌, subst, refl}
 use Rattle.dioc_terms.specs.declared.processes.Key.{Key}
 use Rattle.dioc_terms.specs.Processes.{Load}
 use Rattle.std.proofs.lemmas.Bool.{not-true}
-use Rattle.dioc_terms.specs.declared.entries.Chosen.TheVariants as chosen
 use Rattle.dioc_terms.specs.declared.entries.Entry.TheVariants as entry
 use Rattle.dioc_terms.specs.Equality.{role_eq}
 use Rattle.dioc_terms.specs.Plain.{plain, setting}

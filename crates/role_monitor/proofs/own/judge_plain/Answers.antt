@@ -1,14 +1,13 @@
 -- The entry is the step's, or none.
-use Rattle.std.proofs.Common.{◌≡◌, true, false, sym, ap, ap₂, ◌∙◌, subst}
+use Rattle.std.proofs.Common.{sym, ap₂, ◌∙◌, subst}
 use Rattle.std.specs.Prelude.{option_map}
 use Rattle.dioc_terms.specs.Processes.{load}
 use Rattle.dpoc_process.specs.Acting.{acting_lead}
-use Rattle.dpoc_process.specs.Handed.{given_like, handed}
 use Rattle.dpoc_process.specs.LocalStates.{step_at}
 use Rattle.dpoc_process.specs.RoleSteps.{IsStep}
 use Rattle.process_steps.specs.Laws.{is_done}
 use Rattle.role_monitor.proofs.Owns.{makes, misfit_fails, other_fails}
-use Rattle.role_monitor.specs.Judging.{PutBy, is_entry, mail_given}
+use Rattle.role_monitor.specs.Judging.{PutBy, mail_given}
 use Rattle.role_monitor.proofs.own.judge_plain.Goals as goal
 
 pub returns-then-not-is_entry-clause-refused : goal.returns-then-not-is_entry-clause-refused

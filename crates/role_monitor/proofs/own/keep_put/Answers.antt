@@ -1,5 +1,5 @@
 -- The message is there, where it is the role's to itself.
-use Rattle.std.proofs.Common.{◌≡◌, sym, ap, ◌∙◌, subst}
+use Rattle.std.proofs.Common.{sym, ◌∙◌, subst}
 use Rattle.std.specs.Prelude.{option_map}
 use Rattle.std.proofs.lemmas.Bool.{not-true}
 use Rattle.dioc_terms.specs.declared.entries.Act.TheVariants as act

@@ -1,12 +1,11 @@
 -- The scope is begun as the book decides, or the entry is another one.
-use Rattle.std.proofs.Common.{◌≡◌, ◌<◌, Option, IsSome, Some, None, length, suc, map, refl, sym, ap, ◌∙◌, subst}
+use Rattle.std.proofs.Common.{◌≡◌, ◌<◌, Option, IsSome, Some, None, length, suc, refl, sym, ap, ◌∙◌, subst}
 use Rattle.std.proofs.lemmas.List.{length-map}
 use Rattle.std.specs.Prelude.{option_map}
 use Rattle.dioc_terms.specs.declared.processes.ScopeHead.{ScopeHead}
 use Rattle.dioc_terms.specs.KeptStores.{store_of}
 use Rattle.dioc_terms.specs.Plain.{plain, plain_rule, setting}
 use Rattle.dioc_terms.specs.Rules.{choose}
-use Rattle.dioc_terms.specs.Terms.{term}
 use Rattle.dpoc_process.specs.Acting.{lead_head}
 use Rattle.marked_laws.proofs.Shapes.{some_same}
 use Rattle.marked_laws.specs.Network.{decision}

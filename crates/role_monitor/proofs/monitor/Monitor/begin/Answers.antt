@@ -1,5 +1,5 @@
 -- The monitor before the first entry.
-use Rattle.std.proofs.Common.{refl, ap, sym, ◌∙◌}
+use Rattle.std.proofs.Common.{refl, ap}
 use Rattle.std.specs.Map.{lookup}
 use Rattle.dioc_terms.specs.Equality.{key_eq}
 use Rattle.dioc_terms.specs.Plain.{plain}

@@ -1,14 +1,7 @@
 -- An entry of another role was read.
-use Rattle.std.proofs.Common.{◌≡◌, ◌+◌, ◌<◌, List, IsSome, refl, ap, sym, ◌∙◌, subst, arith}
-use Rattle.dioc_terms.specs.declared.processes.Key.{Key}
+use Rattle.std.proofs.Common.{refl, sym, subst, arith}
 use Rattle.dioc_terms.specs.Plain.{PlainBundle, plain, setting}
-use Rattle.dioc_terms.specs.Processes.{Load}
-use Rattle.dpoc_process.specs.KeptStates.{local_of}
-use Rattle.dpoc_process.specs.LocalStates.{LocalState}
-use Rattle.role_monitor.specs.declared.updates.Update.{Update}
-use Rattle.role_monitor.specs.Judging.{Believes, HoldsScript, KeepsOwn, RefusesOwn, monitor_state}
-use Rattle.role_monitor.specs.Monitoring.{change_seen}
-use Rattle.role_network.specs.Scopes.{Tells}
+use Rattle.role_monitor.specs.Judging.{Believes}
 use Rattle.marked_laws.specs.Laws.{IsSound}
 use Rattle.rule_book.specs.KeptBooks.{book_of, IsBookOf}
 use Rattle.role_monitor.proofs.OneMore.{fed_fits, read_believed, read_same, rules_in_cast}

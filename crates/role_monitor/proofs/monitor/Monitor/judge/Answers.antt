@@ -1,13 +1,8 @@
 -- An entry of the role was read.
-use Rattle.std.proofs.Common.{◌≡◌, ◌+◌, ◌<◌, List, IsSome, refl, ap, sym, ◌∙◌, subst, arith}
-use Rattle.dioc_terms.specs.declared.processes.Key.{Key}
-use Rattle.dioc_terms.specs.Plain.{PlainBundle, plain, setting}
-use Rattle.dioc_terms.specs.Processes.{Load}
+use Rattle.std.proofs.Common.{IsSome, refl, sym, subst, arith}
+use Rattle.dioc_terms.specs.Plain.{PlainBundle, setting}
 use Rattle.dpoc_process.specs.KeptStates.{local_of}
-use Rattle.dpoc_process.specs.LocalStates.{LocalState}
-use Rattle.role_monitor.specs.declared.updates.Update.{Update}
-use Rattle.role_monitor.specs.Judging.{Believes, HoldsScript, KeepsOwn, RefusesOwn, monitor_state}
-use Rattle.role_monitor.specs.Monitoring.{change_seen}
+use Rattle.role_monitor.specs.Judging.{KeepsOwn, RefusesOwn}
 use Rattle.role_network.specs.Scopes.{Tells}
 use Rattle.marked_laws.specs.Laws.{IsSound}
 use Rattle.rule_book.specs.KeptBooks.{book_of, IsBookOf}

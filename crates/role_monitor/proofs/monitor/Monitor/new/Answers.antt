@@ -1,5 +1,4 @@
 -- What the monitor is begun with.
-use Rattle.std.proofs.Common.{refl, ap, sym, ◌∙◌}
 use Rattle.dioc_terms.specs.Plain.{plain}
 use Rattle.role_network.proofs.StartLemmas.{roles_of_cast}
 use Rattle.role_monitor.proofs.monitor.Monitor.new.Goals as goal
