@@ -7,3 +7,11 @@ pub mod Truths
 pub mod Shown
 pub mod Whole
 pub mod Examples
+pub mod Levels
+pub mod Ends
+pub mod Keeps
+pub mod Owns
+pub mod Begins
+pub mod Seen
+pub mod OneMore
+pub mod Noted

@@ -29,7 +29,7 @@ use Rattle.marked_laws.proofs.Networks.{RoleStep, ChangeStep, after_deed, given_
 use Rattle.marked_laws.proofs.Roles.{updated_here, updated_there, role_cases, role_swap}
 use Rattle.marked_laws.proofs.Shapes.{none_some, some_same}
 use Rattle.process_steps.specs.Steps.{Deed, Puts, Takes, Sets, Inputs, Picks, Chooses, FromBook, entry_of, store_after, step}
-use Rattle.role_monitor.specs.Monitoring.{MonitorState, update_numbered, epoch_level, noted_load, arrived, comes_to, mail_with, mail_with_some, received, own_mail, own_updates, after_own, own_outcome, own_entry, heard_update, with_update, others_entry, changed, change_outcome, judged_by, mon}
+use Rattle.role_monitor.specs.Monitoring.{MonitorState, update_numbered, epoch_level, noted_load, arrived, comes_to, mail_with, mail_with_some, received, own_mail, own_updates, after_own, own_outcome, own_entry, heard_update, with_update, others_entry, with_change, change_outcome, judged_by, mon}
 use Rattle.role_monitor.specs.declared.updates.Update.{Update}
 use Rattle.role_monitor.proofs.Books.{chosen_found}
 use Rattle.role_monitor.proofs.Goods.{Genuine, GoodDeed, head_good}
@@ -234,6 +234,6 @@ change_along b us N e N' truth s = subst (λ M. Along b us N e M) (sym s.gives) 
   all = λ r. let M = shown r us N in
       ap (λ o. judged_by b M e o (act_of e)) s.nobody
       ∙ ap Some (ap (change_outcome b M e) s.stands
-      ∙ cond-true (shows b.rules e (s.timed).change) (changed b M s.timed) M
+      ∙ cond-true (shows b.rules e (s.timed).change) (with_change b M s.timed) M
       (shows_is b.rules e (s.timed).change ∙ (ap (that_option e) s.shows ∙ entry_itself e)));
 })

@@ -1,2 +1,4 @@
+pub mod Judging
 pub mod Laws
 pub mod Monitoring
+pub mod Monitors

@@ -160,8 +160,8 @@ others_entry b M (entry.Scope i r (chosen.Rule name n)) = heard b M i name n
 others_entry b M _ = M
 
 -- the monitor after this change of the script
-abbrev pub changed : Setting → MonitorState → Timed → MonitorState
-changed b M timed = record M {
+abbrev pub with_change : Setting → MonitorState → Timed → MonitorState
+with_change b M timed = record M {
   book = apply b.rules M.book timed.change;
   changes = suc M.changes;
 }
@@ -169,7 +169,7 @@ changed b M timed = record M {
 abbrev pub change_outcome : Setting → MonitorState → Entry → Option Timed → MonitorState
 change_outcome b M e None = M
 change_outcome b M e (Some timed) =
-    if shows b.rules e timed.change then changed b M timed else M
+    if shows b.rules e timed.change then with_change b M timed else M
 
 -- a change that is the script's next; every other one changes nothing
 abbrev pub change_seen : Setting → MonitorState → Entry → MonitorState
