@@ -6,7 +6,8 @@ use native.Mathlib.Decide.{ℕ_discrete, dec_le}
 use lib.ListN.{get_elem?}
 use Rattle.atomic_table.specs.Table.{State, Final, Seen}
 use Rattle.turn_lock.specs.declared.views.View.{View}
-use Rattle.turn_lock.specs.Items.{items_of, EachClaim, IsOwn, times, Shares}
+use Rattle.turn_lock.specs.Items.{items_of, Each, IsOwn, times, Shares}
+use Rattle.turn_lock.specs.Views.{BeginsWithAll}
 use Rattle.turn_lock.specs.Rule.{Knows, LockRule}
 use Rattle.turn_lock.proofs.Lists.{total_one, total_two, some_number, each_once}
 use Rattle.turn_lock.proofs.Steps.{not_holder, at_most_once}
@@ -25,17 +26,18 @@ module _ {A : Type 0} where
 module _ {H I B : Type 0} (items : H → List I) (base : H → B) (owner : B → I → ℕ) where
   closes : (b : B) (id : ℕ) (v : View I B) → length v.claims ≡ v.made → 0 < v.made → v.holds ≡ false
       → (s : State (Option H) (View I B)) → Seen (LockRule items base owner b) id v s
-      → (h : H) × (get_elem? s.homes 0 ≡ some (some (Some h))) × (base h ≡ b) × (v.base ≡ Some b) × Shares (owner b) (items h) v.claims
+      → (h : H) × (get_elem? s.homes 0 ≡ some (some (Some h))) × (base h ≡ b) × (v.base ≡ Some b) × Shares (owner b) (items h) v.claims × BeginsWithAll (items h) v
   closes b id v all first waits s seen = (
     h.0,
     h.1,
     h.3,
     k.base (omega arith),
     record {
-      each = subst (λ (l : List I). EachClaim (IsOwn (owner b) l) v.claims) (sym h.2) k.own;
+      each = subst (λ (l : List I). Each (IsOwn (owner b) l) v.claims) (sym h.2) k.own;
       once = once;
       none = λ n le. ap (items_of (owner b) n) h.2 ∙ (r.none n (past n le)).1;
     },
+    subst (λ (l : List I). BeginsWithAll l v) (sym h.2) k.seen,
   )
     where
       r : LockRule items base owner b s
@@ -86,10 +88,10 @@ module _ {H I B : Type 0} (items : H → List I) (base : H → B) (owner : B →
 
   closed_with : (b : B) (id : ℕ) (v : View I B) → length v.claims ≡ v.made → 0 < v.made → v.holds ≡ false
       → (words : List ℕ) (slots : List (Option H)) (got : Option H) → Final (Seen (LockRule items base owner b) id v) words slots → get_elem? slots 0 ≡ some got
-      → (h : H) × (got ≡ Some h) × (base h ≡ b) × (v.base ≡ Some b) × Shares (owner b) (items h) v.claims
+      → (h : H) × (got ≡ Some h) × (base h ≡ b) × (v.base ≡ Some b) × Shares (owner b) (items h) v.claims × BeginsWithAll (items h) v
   closed_with b id v all first waits words slots got final at =
       let c = closes b id v all first waits final.0 final.1 in
-      (c.0, some-injective got (Some c.0) (sym at ∙ final.4 0 (Some c.0) c.1), c.2, c.3, c.4)
+      (c.0, some-injective got (Some c.0) (sym at ∙ final.4 0 (Some c.0) c.1), c.2, c.3, c.4, c.5)
 
   -- the slot has a value
   pub closed_some : (b : B) (id : ℕ) (v : View I B) → length v.claims ≡ v.made → 0 < v.made → v.holds ≡ false
@@ -99,14 +101,15 @@ module _ {H I B : Type 0} (items : H → List I) (base : H → B) (owner : B →
       let c = closed_with b id v all first waits words slots got final at in
       none_some (sym none ∙ c.1)
 
-  -- and each item of that value is an own item of one seat
+  -- each item of that value is an own item of one seat, and its list begins with what each seat has seen
   pub closed_value : (b : B) (id : ℕ) (v : View I B) → length v.claims ≡ v.made → 0 < v.made → v.holds ≡ false
       → (words : List ℕ) (slots : List (Option H)) (got : Option H) → Final (Seen (LockRule items base owner b) id v) words slots → get_elem? slots 0 ≡ some got
-      → (home : H) → got ≡ Some home → (v.base ≡ Some (base home)) × Shares (owner (base home)) (items home) v.claims
+      → (home : H) → got ≡ Some home → (v.base ≡ Some (base home)) × Shares (owner (base home)) (items home) v.claims × BeginsWithAll (items home) v
   closed_value b id v all first waits words slots got final at home is =
       let c = closed_with b id v all first waits words slots got final at in
       let same : c.0 ≡ home = some_same c.0 home (sym c.1 ∙ is) in
       let based : b ≡ base home = sym c.2 ∙ ap base same in (
         c.3 ∙ ap (λ (x : B). Some x) based,
         subst (λ (x : B). Shares (owner x) (items home) v.claims) based (subst (λ (h : H). Shares (owner b) (items h) v.claims) same c.4),
+        subst (λ (h : H). BeginsWithAll (items h) v) same c.5,
       )

@@ -1,13 +1,13 @@
 -- Totals, claims and items of one owner, as lists alone.
-use Rattle.std.proofs.Common.{◌≡◌, ◌≢◌, ℕ, zero, suc, ◌+◌, ◌<◌, ◌≤◌, List, [], ◌∷◌, ◌++◌, length, set, Bool, cond, ◌==◌, refl, sym, ap, ◌∙◌, subst, ⊎_elim, arith, append-nil, eq-eqb, ne_eqb, lt_of_not-le}
+use Rattle.std.proofs.Common.{◌≡◌, ◌≢◌, ℕ, zero, suc, ◌+◌, ◌<◌, ◌≤◌, List, [], ◌∷◌, ◌++◌, length, map, set, All, Bool, cond, ◌==◌, refl, sym, ap, ◌∙◌, subst, ⊎_elim, arith, append-nil, append_assoc, eq-eqb, ne_eqb, lt_of_not-le}
 use mathlib.Core.Option.{some, some-injective, some-ne-none}
 use mathlib.Core.Logic.{dite}
 use native.Mathlib.Decide.{ℕ_discrete}
 use lib.ListN.{get_elem?}
-use Rattle.std.proofs.lemmas.List.Elements.{filter-append}
+use Rattle.std.proofs.lemmas.List.Elements.{filter-append, All-nil, All-cons}
 use Rattle.atomic_table.proofs.Lists.{at_set}
 use Rattle.turn_lock.specs.declared.views.Claim.{Claim}
-use Rattle.turn_lock.specs.Items.{total, items_of, BeginsWith, claim, EachClaim, IsOwn, IsOwnOfOne, IsAllOf, one_if, times}
+use Rattle.turn_lock.specs.Items.{total, items_of, BeginsWith, claim, Each, IsOwn, IsOwnOfOne, IsAllOf, one_if, times}
 
 -- numbers
 
@@ -57,6 +57,27 @@ module _ {A : Type 0} where
       (λ (x : (j ≢ i) × (get_elem? xs j ≡ some u)). others j u x.0 x.1)
       (at_set xs i j w u at)
 
+  pub each_append : (P : A → Type 0) (xs ys : List A) → Each P xs → Each P ys → Each P (xs ++ ys)
+  each_append P [] ys p q = q
+  each_append P (x ∷ xs) ys p q = (p.0, each_append P xs ys p.1 q)
+
+  pub each_back : (P : A → Type 0) (xs ys : List A) → Each P (xs ++ ys) → Each P ys
+  each_back P [] ys p = p
+  each_back P (x ∷ xs) ys p = each_back P xs ys p.1
+
+  -- what holds of what a map makes of each, by recursion and by place
+  pub all_of_map : {X : Type 0} (f : X → A) (P : A → Type 0) (xs : List X) → Each P (map f xs) → All (λ x. P (f x)) xs
+  all_of_map f P [] p = All-nil (λ x. P (f x))
+  all_of_map f P (x ∷ xs) p = All-cons (λ x. P (f x)) x xs p.0 (all_of_map f P xs p.1)
+
+  -- a list that grows begins with what it began with
+  pub begins_longer : (items more seen : List A) → BeginsWith items seen → BeginsWith (items ++ more) seen
+  begins_longer items more seen begins = (begins.0 ++ more, ap (λ (l : List A). l ++ more) begins.1 ∙ append_assoc seen begins.0 more)
+
+  pub each_begins_longer : (items more : List A) (seens : List (List A)) → Each (BeginsWith items) seens → Each (BeginsWith (items ++ more)) seens
+  each_begins_longer items more [] begins = tt
+  each_begins_longer items more (seen ∷ seens) begins = (begins_longer items more seen begins.0, each_begins_longer items more seens begins.1)
+
   abbrev tail_of : List A → List A
   tail_of [] = []
   tail_of (x ∷ xs) = xs
@@ -91,16 +112,12 @@ module _ {I : Type 0} where
   pub times_append : (n : ℕ) (cs ds : List (Claim I)) → times n (cs ++ ds) ≡ times n cs + times n ds
   times_append n cs ds = total_append (λ (c : Claim I). one_if c.number n) cs ds
 
-  pub each_append : (P : Claim I → Type 0) (cs ds : List (Claim I)) → EachClaim P cs → EachClaim P ds → EachClaim P (cs ++ ds)
-  each_append P [] ds p q = q
-  each_append P (c ∷ cs) ds p q = (p.0, each_append P cs ds p.1 q)
-
   module _ (owner : I → ℕ) where
     pub items_append : (n : ℕ) (xs ys : List I) → items_of owner n (xs ++ ys) ≡ items_of owner n xs ++ items_of owner n ys
     items_append n xs ys = filter-append (λ x. owner x == n) xs ys
 
-    pub own_of_one : (items : List I) (cs : List (Claim I)) → EachClaim (IsOwn owner items) cs → IsOwnOfOne owner items cs
-    own_of_one items cs each n mine is = (subst (EachClaim (IsOwn owner items)) is each).0
+    pub own_of_one : (items : List I) (cs : List (Claim I)) → Each (IsOwn owner items) cs → IsOwnOfOne owner items cs
+    own_of_one items cs each n mine is = (subst (Each (IsOwn owner items)) is each).0
 
     -- where a list has no item of n, its front has none
     pub none_in_front : (n : ℕ) (items seen : List I) → BeginsWith items seen → items_of owner n items ≡ [] → items_of owner n seen ≡ []
@@ -116,7 +133,7 @@ module _ {I : Type 0} where
     all_of_other n m (x ∷ xs) apart all = ap (λ (b : Bool). cond b (x ∷ items_of owner m xs) (items_of owner m xs)) (ne_eqb (owner x) m (λ e. apart (sym all.0 ∙ e))) ∙ all_of_other n m xs apart all.1
 
     -- claims of other numbers stay true where items of n come
-    pub others_stay : (n : ℕ) (items more : List I) (cs : List (Claim I)) → IsAllOf owner n more → times n cs ≡ 0 → EachClaim (IsOwn owner items) cs → EachClaim (IsOwn owner (items ++ more)) cs
+    pub others_stay : (n : ℕ) (items more : List I) (cs : List (Claim I)) → IsAllOf owner n more → times n cs ≡ 0 → Each (IsOwn owner items) cs → Each (IsOwn owner (items ++ more)) cs
     others_stay n items more [] all free own = tt
     others_stay n items more (c ∷ cs) all free own =
         let first : one_if c.number n ≡ 0 = omega arith in

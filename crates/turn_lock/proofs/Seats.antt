@@ -14,6 +14,7 @@ left_none v single =
       seen = append-nil v.seen k;
       holds = false;
       made = v.made;
+      others_seen = v.others_seen;
     }
 
 module _ {A I B : Type 0} (me : Me A (View I B)) (v : View I B) where

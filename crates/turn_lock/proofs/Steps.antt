@@ -1,5 +1,5 @@
 -- Each step keeps the rule of the lock, and tells its seat what it is said to.
-use Rattle.std.proofs.Common.{◌≡◌, ◌≢◌, ℕ, zero, suc, ◌+◌, ◌*◌, ◌%◌, ◌<◌, ◌≤◌, List, [], ◌∷◌, ◌++◌, length, set, true, false, true≢false, ◌==◌, Option, Some, None, refl, sym, ap, ◌∙◌, subst, ⊎_elim, arith, append-nil, append_assoc, length-append, le_of_eq, lt_of_not-le}
+use Rattle.std.proofs.Common.{◌≡◌, ◌≢◌, ℕ, zero, suc, ◌+◌, ◌*◌, ◌%◌, ◌<◌, ◌≤◌, List, [], ◌∷◌, ◌++◌, length, set, true, false, true≢false, ◌==◌, Option, Some, None, refl, sym, ap, ◌∙◌, subst, ⊎_elim, arith, append-nil, length-append, le_of_eq, lt_of_not-le}
 use Rattle.std.specs.Prelude.{slice_index}
 use mathlib.Core.Option.{some, none, some-injective, some-ne-none}
 use mathlib.Core.Logic.{dite}
@@ -10,10 +10,10 @@ use Rattle.atomic_table.specs.Table.{State, Me, step, Act, keeps, takes, gives, 
 use Rattle.atomic_table.proofs.Lists.{set_here, set_else, set_again, at_longer, at_snoc, exchanged}
 use Rattle.turn_lock.specs.declared.views.Claim.{Claim}
 use Rattle.turn_lock.specs.declared.views.View.{View}
-use Rattle.turn_lock.specs.Items.{total, items_of, claim, IsOwn, IsOwnOfOne, IsAllOf, one_if, times}
+use Rattle.turn_lock.specs.Items.{total, items_of, BeginsWith, claim, IsOwn, IsOwnOfOne, IsAllOf, one_if, times}
 use Rattle.turn_lock.specs.Views.{number, mine, IsSingle, first_view, split_view, new_view, entered, left_with, joined, spent}
 use Rattle.turn_lock.specs.Rule.{Knows, LockRule, Fits, Tried, Left}
-use Rattle.turn_lock.proofs.Lists.{one_if_same, one_if_apart, total_append, total_set, total_one, total_two, within, each_set, append_cancel, one_claim, times_append, each_append, items_append, own_of_one, none_in_front, all_of_same, all_of_other, others_stay}
+use Rattle.turn_lock.proofs.Lists.{one_if_same, one_if_apart, total_append, total_set, total_one, total_two, within, each_set, append_cancel, one_claim, times_append, each_append, begins_longer, each_begins_longer, items_append, own_of_one, none_in_front, all_of_same, all_of_other, others_stay}
 
 off : false ≡ true → ⊥
 off e = true≢false (sym e)
@@ -75,7 +75,7 @@ module _ {H I B : Type 0} (items : H → List I) (base : H → B) (owner : B →
       first : Knows (owner (base h)) (base h) [] 1 0 0 0 (first_view (base h))
       first = record {
         base = λ _. refl;
-        seen = ([], refl);
+        seen = (([], refl), tt);
         own = (refl, tt);
         met = λ n l e. (one_claim 0 n [] l e).1;
         turn = λ e. absurd (off e);
@@ -103,9 +103,9 @@ module _ {H I B : Type 0} (items : H → List I) (base : H → B) (owner : B →
       let P : ℕ → View I B → Type 0 = λ j u. Knows (owner b) b r.list (r.made + 1) r.held r.holder j u in
       let fresh : (j : ℕ) → P j (new_view v) = λ j. record {
         base = λ _. known;
-        seen = k.seen;
+        seen = (k.seen.0, tt);
         own = (free.1, tt);
-        met = λ n l e. let o = one_claim v.made n [] l e in ap (λ (m : ℕ). items_of (owner b) m v.seen) (sym o.0) ∙ (none_in_front (owner b) v.made r.list v.seen k.seen free.1 ∙ o.1);
+        met = λ n l e. let o = one_claim v.made n [] l e in ap (λ (m : ℕ). items_of (owner b) m v.seen) (sym o.0) ∙ (none_in_front (owner b) v.made r.list v.seen k.seen.0 free.1 ∙ o.1);
         turn = λ e. absurd (off e);
         makes = λ (lt : 0 < 0). absurd (omega arith);
       } in
@@ -190,7 +190,7 @@ module _ {H I B : Type 0} (items : H → List I) (base : H → B) (owner : B →
           let own : IsOwnOfOne (owner b) (items h.0) v.claims = λ n l is. ap (items_of (owner b) n) h.2 ∙ own_of_one (owner b) r.list v.claims k.own n l is in
           let here : P id w = record {
             base = k.base;
-            seen = ([], sym (append-nil (items h.0) ∙ h.2));
+            seen = (([], sym (append-nil (items h.0) ∙ h.2)), k.seen.1);
             own = k.own;
             met = own;
             turn = λ _. (refl, refl, h.2);
@@ -220,7 +220,7 @@ module _ {H I B : Type 0} (items : H → List I) (base : H → B) (owner : B →
           } in
           let fits : Fits items base owner v h.0 = record {
             same_base = k.base (some_claim v single) ∙ ap (λ (x : B). Some x) (sym h.3);
-            begins = (k.seen.0, h.2 ∙ k.seen.1);
+            begins = (k.seen.0.0, h.2 ∙ k.seen.0.1);
             own = subst (λ (x : B). IsOwnOfOne (owner x) (items h.0) v.claims) (sym h.3) own;
             met = subst (λ (x : B). IsOwnOfOne (owner x) v.seen v.claims) (sym h.3) k.met;
           } in
@@ -299,7 +299,7 @@ module _ {H I B : Type 0} (items : H → List I) (base : H → B) (owner : B →
       here : Knows (owner b) b (r.list ++ more) r.made 0 0 id (left_with v more)
       here = record {
         base = λ _. k.base (some_claim v single);
-        seen = ([], sym (append-nil (v.seen ++ more) ∙ on_list));
+        seen = (([], sym (append-nil (v.seen ++ more) ∙ on_list)), each_begins_longer r.list more v.others_seen k.seen.1);
         own = (full, tt);
         met = λ n l e. let o = one_claim (number v) n (mine v ++ more) l e in ap (λ (m : ℕ). items_of (owner b) m (v.seen ++ more)) (sym o.0) ∙ (ap (items_of (owner b) (number v)) on_list ∙ (full ∙ o.1));
         turn = λ e. absurd (off e);
@@ -311,7 +311,7 @@ module _ {H I B : Type 0} (items : H → List I) (base : H → B) (owner : B →
           let q = r.each j u there in
           record {
             base = q.base;
-            seen = (q.seen.0 ++ more, ap (λ (l : List I). l ++ more) q.seen.1 ∙ append_assoc u.seen q.seen.0 more);
+            seen = (begins_longer r.list more u.seen q.seen.0, each_begins_longer r.list more u.others_seen q.seen.1);
             own = others_stay (owner b) (number v) r.list more u.claims all (free_of j u apart there) q.own;
             met = q.met;
             turn = λ e. absurd (apart ((q.turn e).0 ∙ sym t.0));
@@ -411,7 +411,7 @@ module _ {H I B : Type 0} (items : H → List I) (base : H → B) (owner : B →
           let q = r.each other w before in
           record {
             base = λ _. k.base some_here;
-            seen = k.seen;
+            seen = (k.seen.0, each_append (BeginsWith r.list) v.others_seen (w.seen ∷ []) k.seen.1 (q.seen.0, tt));
             own = each_append (IsOwn (owner b) r.list) v.claims w.claims k.own q.own;
             met = λ n l e. absurd (let one : length (v.claims ++ w.claims) ≡ 1 = ap length e in let two = length-append v.claims w.claims in let never : ⊥ = omega arith in never);
             turn = λ e. absurd (off e);
@@ -421,7 +421,7 @@ module _ {H I B : Type 0} (items : H → List I) (base : H → B) (owner : B →
       gone : Knows (owner b) b r.list r.made r.held r.holder other spent
       gone = record {
         base = λ (lt : 0 < 0). absurd (omega arith);
-        seen = (r.list, refl);
+        seen = ((r.list, refl), tt);
         own = tt;
         met = λ n l e. absurd (let one : 0 ≡ 1 = ap length e in let never : ⊥ = omega arith in never);
         turn = λ e. absurd (off e);

@@ -9,6 +9,10 @@ module _ {A : Type 0} where
   total f [] = 0
   total f (x ∷ xs) = f x + total f xs
 
+  abbrev pub Each : (A → Type 0) → List A → Type 0
+  Each P [] = Unit {0}
+  Each P (x ∷ xs) = P x × Each P xs
+
 abbrev pub one_if : ℕ → ℕ → ℕ
 one_if m n = cond (m == n) 1 0
 
@@ -22,10 +26,6 @@ module _ {I : Type 0} where
 
   abbrev pub claim : ℕ → List I → Claim I
   claim n mine = record { number = n; mine = mine }
-
-  abbrev pub EachClaim : (Claim I → Type 0) → List (Claim I) → Type 0
-  EachClaim P [] = Unit {0}
-  EachClaim P (c ∷ cs) = P c × EachClaim P cs
 
   -- the items of the claim's number are those of the claim
   abbrev pub IsOwn : (I → ℕ) → List I → Claim I → Type 0
@@ -47,6 +47,6 @@ module _ {I : Type 0} where
 
   -- Each item is in one claim, and each claim has the items of its number, in order
   pub record Shares (owner : I → ℕ) (items : List I) (cs : List (Claim I)) : Type 0 where
-    pub each : EachClaim (IsOwn owner items) cs
+    pub each : Each (IsOwn owner items) cs
     pub once : (n : ℕ) → n < length cs → times n cs ≡ 1
     pub none : (n : ℕ) → length cs ≤ n → items_of owner n items ≡ []

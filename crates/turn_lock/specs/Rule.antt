@@ -6,16 +6,16 @@ use mathlib.Core.Option.{some}
 use lib.ListN.{get_elem?}
 use Rattle.atomic_table.specs.Table.{State, Me, Step}
 use Rattle.turn_lock.specs.declared.views.View.{View}
-use Rattle.turn_lock.specs.Items.{total, items_of, BeginsWith, EachClaim, IsOwn, IsOwnOfOne, times}
-use Rattle.turn_lock.specs.Views.{number, mine, entered, left_with}
+use Rattle.turn_lock.specs.Items.{total, items_of, BeginsWith, Each, IsOwn, IsOwnOfOne, times}
+use Rattle.turn_lock.specs.Views.{number, mine, BeginsWithAll, entered, left_with}
 
 -- What holds of the view v of the seat in place j, where the list is `items`, `made` seats were
 -- made, and `holder` has the turn where `held` is 1
 pub record Knows {I B : Type 0} (owner : I → ℕ) (b : B) (items : List I) (made held holder j : ℕ)
     (v : View I B) : Type 0 where
   pub base : 0 < length v.claims → v.base ≡ Some b
-  pub seen : BeginsWith items v.seen
-  pub own : EachClaim (IsOwn owner items) v.claims
+  pub seen : BeginsWithAll items v
+  pub own : Each (IsOwn owner items) v.claims
   -- no item of the seat's came since the seat last looked
   pub met : IsOwnOfOne owner v.seen v.claims
   pub turn : v.holds ≡ true → (j ≡ holder) × (held ≡ 1) × (v.seen ≡ items)

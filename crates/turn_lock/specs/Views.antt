@@ -2,7 +2,7 @@
 use Rattle.std.specs.Prelude.{◌≡◌, ℕ, ◌+◌, List, [], ◌∷◌, ◌++◌, true, false, Some, None}
 use Rattle.turn_lock.specs.declared.views.Claim.{Claim}
 use Rattle.turn_lock.specs.declared.views.View.{View}
-use Rattle.turn_lock.specs.Items.{claim}
+use Rattle.turn_lock.specs.Items.{BeginsWith, Each, claim}
 
 module _ {I : Type 0} where
   abbrev number_in : List (Claim I) → ℕ
@@ -26,10 +26,21 @@ module _ {I B : Type 0} where
   abbrev pub IsSingle : View I B → Type 0
   IsSingle v = v.claims ≡ claim (number v) (mine v) ∷ []
 
+  -- the list begins with what the seat has seen, and with what each that was joined into it has
+  abbrev pub BeginsWithAll : List I → View I B → Type 0
+  BeginsWithAll items v = BeginsWith items v.seen × Each (BeginsWith items) v.others_seen
+
   -- of a new lock's seat
   abbrev pub first_view : B → View I B
   first_view b =
-      record { base = Some b; claims = claim 0 [] ∷ []; seen = []; holds = false; made = 1 }
+      record {
+        base = Some b;
+        claims = claim 0 [] ∷ [];
+        seen = [];
+        holds = false;
+        made = 1;
+        others_seen = [];
+      }
 
   -- of the seat that has made one more
   abbrev pub split_view : View I B → View I B
@@ -37,7 +48,8 @@ module _ {I B : Type 0} where
 
   -- of the seat that it made
   abbrev pub new_view : View I B → View I B
-  new_view v = record v { claims = claim v.made [] ∷ []; holds = false; made = 0 }
+  new_view v =
+      record v { claims = claim v.made [] ∷ []; holds = false; made = 0; others_seen = [] }
 
   -- of a seat that has the turn, where the list is this
   abbrev pub entered : View I B → List I → View I B
@@ -58,8 +70,21 @@ module _ {I B : Type 0} where
 
   -- of two seats that were joined into the first
   abbrev pub joined : View I B → View I B → View I B
-  joined v w = record v { claims = v.claims ++ w.claims; holds = false }
+  joined v w =
+      record v {
+        claims = v.claims ++ w.claims;
+        holds = false;
+        others_seen = v.others_seen ++ w.seen ∷ [];
+      }
 
   -- of the second of them
   abbrev pub spent : View I B
-  spent = record { base = None; claims = []; seen = []; holds = false; made = 0 }
+  spent =
+      record {
+        base = None;
+        claims = [];
+        seen = [];
+        holds = false;
+        made = 0;
+        others_seen = [];
+      }

@@ -1,7 +1,7 @@
 //! The lock, its seats and their turns.
 ghost use Rattle.std.specs.Prelude.{◌≡◌, ◌≢◌, ◌+◌, ◌*◌, ◌^◌, ◌<◌, ◌≤◌, List, [], ◌∷◌, ◌++◌, length, map, All, slice_get, IfOk, IfErr, IfSome, true, false, Some, None};
 ghost use Rattle.turn_lock.specs.Items.{items_of, BeginsWith, IsAllOf, Shares};
-ghost use Rattle.turn_lock.specs.Views.{number, mine, IsSingle, first_view, split_view, new_view, entered, left, left_with};
+ghost use Rattle.turn_lock.specs.Views.{number, mine, BeginsWithAll, IsSingle, first_view, split_view, new_view, entered, left, left_with};
 ghost use Rattle.turn_lock.specs.Rule.{Fits};
 
 use crate::chronicle::Chronicle;
@@ -248,8 +248,8 @@ impl<H: Chronicle> Turns<H> {
     ghost use Rattle.turn_lock.specs.Words.{view, IsSeatOf, claim_of};
 
     /// Ends the lock and gives the value, where the seats are all that were made, the first seat
-    /// first. Each item of the list is then an own item of just one seat, in order. Else the lock
-    /// and the seats come back.
+    /// first. Each item of the list is then an own item of just one seat, in order, and the list
+    /// begins with what each seat has seen. Else the lock and the seats come back.
     pub fn close(self, seats: Vec<Seat<H>>) -> Result<H, Missing<H>>
     where
         H: Drop,
@@ -264,6 +264,8 @@ impl<H: Chronicle> Turns<H> {
         ensures some { IfOk result (λ _. 0 < length seats.items) }
         ensures shares { IfOk result (λ h. Shares (H.owner (H.base h)) (H.items h)
             (map claim_of seats.items)) }
+        ensures begins { IfOk result (λ h.
+            All (λ s. BeginsWith (H.items h) (view s).seen) seats.items) }
     {
         let has_all = !seats.is_empty() && seats[0].made == seats.len() as u64;
         if !has_all {
@@ -282,6 +284,8 @@ impl<H: Chronicle> Turns<H> {
         ensures of { result.table_id ≡ self.now.table.shared.table_id }
         ensures waits { (result.me.1 ≡ []) × (result.me.0.holds ≡ false) }
         ensures claims { result.me.0.claims ≡ map claim_of seats.items }
+        ensures seen { (items : List H.Item) → BeginsWithAll items result.me.0
+            → All (λ s. BeginsWith items (view s).seen) seats.items }
         ensures first { IfSome (slice_get seats.items 0) (λ s.
             (result.me.0.made ≡ (view s).made) × (result.me.0.base ≡ (view s).base)) }
     {
@@ -309,6 +313,7 @@ impl<H: Chronicle> Turns<H> {
         requires all { (length token.me.0.claims ≡ token.me.0.made) × (0 < token.me.0.made) }
         ensures base { 0 < length token.me.0.claims → token.me.0.base ≡ Some (H.base result) }
         ensures shares { Shares (H.owner (H.base result)) (H.items result) token.me.0.claims }
+        ensures begins { BeginsWithAll (H.items result) token.me.0 }
     {
         let mut closed = self.table.close_with(token);
         let home = closed.take(0);

@@ -20,4 +20,6 @@ pub struct View<I, B> {
     pub holds: bool,
     /// At the seat that makes seats, how many there are, itself included. At each other it is 0.
     pub made: u64,
+    /// How the list began when each seat that was joined into this one last looked.
+    pub others_seen: LinkedList<LinkedList<I>>,
 }

@@ -15,3 +15,8 @@ pub returns-clause-shares : goal.returns-clause-shares
 returns-clause-shares g c =
     (closed_value g.H.Chronicle.items g.H.Chronicle.base g.H.Chronicle.owner _ _ c.args.token.me.0 c.requires.all.0 c.requires.all.1 c.requires.waits.1
     _ _ _ c.close_with-closed.ensures.values.2 c.take-home.ensures.value c.in-Some.home c.in-Some.is).1
+
+pub returns-clause-begins : goal.returns-clause-begins
+returns-clause-begins g c =
+    (closed_value g.H.Chronicle.items g.H.Chronicle.base g.H.Chronicle.owner _ _ c.args.token.me.0 c.requires.all.0 c.requires.all.1 c.requires.waits.1
+    _ _ _ c.close_with-closed.ensures.values.2 c.take-home.ensures.value c.in-Some.home c.in-Some.is).2
