@@ -9,6 +9,7 @@ pub mod EndingLemmas
 pub mod OwnLemmas
 pub mod OpeningLemmas
 pub mod SeatLemmas
+pub mod MetLemmas
 pub mod HoldLemmas
 pub mod MarkLemmas
 pub mod SeatingLemmas

@@ -3,6 +3,7 @@ pub mod Homes
 pub mod Owners
 pub mod Roles
 pub mod Seats
+pub mod Stages
 pub mod Holds
 pub mod Laws
 pub mod Changes

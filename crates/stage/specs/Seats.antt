@@ -62,6 +62,12 @@ pub record StillStands (v : View Entry Base) (H : List Entry) : Type 0 where
   pub stands : (base : Base) (q : Role) (P : Process) (s : Store) → SitsFor v base q
       → RoleStandsAt (plain base.0) v.seen q P s → RoleStandsAt (plain base.0) H q P s
 
+-- the entries of the seat's number in what it has seen are its own
+abbrev pub HasMet : View Entry Base → Type 0
+HasMet v =
+    (base : Base) → v.base ≡ Some base
+    → items_of (owner_in base.0.cast) (number v) v.seen ≡ mine v
+
 -- the seat is as it was, but for what it has seen
 pub record LookedOn (v w : View Entry Base) : Type 0 where
   pub same_base : w.base ≡ v.base
@@ -132,7 +138,14 @@ pub record IsClosed (v : View Entry Base) (H : List Entry) (claims : List (Claim
 -- of the seat of a new stage that has this number
 abbrev pub later_view : Base → ℕ → View Entry Base
 later_view base n =
-    record { base = Some base; claims = claim n [] ∷ []; seen = []; holds = false; made = 0 }
+    record {
+      base = Some base;
+      claims = claim n [] ∷ [];
+      seen = [];
+      holds = false;
+      made = 0;
+      others_seen = [];
+    }
 
 abbrev pub later_views : Base → ℕ → ℕ → List (View Entry Base)
 later_views base n zero = []
@@ -148,5 +161,6 @@ opening_views base count =
       seen = [];
       holds = false;
       made = suc count;
+      others_seen = [];
     }
     ∷ later_views base 1 count

@@ -37,7 +37,8 @@ impl Home {
 /// Marks a role at its place of the cast; one that isn't of the cast has none.
 fn mark(cast: &[Role], finished: &mut Vec<bool>, role: &Role)
     requires { length finished.old.items ≡ length cast.now }
-    ensures { finished.new.items ≡ slice_set finished.old.items (cast_place cast.now role.now) true }
+    ensures { finished.new.items
+        ≡ slice_set finished.old.items (cast_place cast.now role.now) true }
 {
     if let Some(place) = place_of(cast, role) {
         finished[place] = true;

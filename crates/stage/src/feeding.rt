@@ -15,7 +15,8 @@ use std::sync::Wait;
 use turn_lock::Seat;
 
 impl Stage {
-    ghost use Rattle.turn_lock.specs.Words.{view, IsSeatOf};
+    ghost use Rattle.stage.specs.Stages.{IsSeatIn};
+    ghost use Rattle.turn_lock.specs.Words.{view};
 
     /// Begins a scope for its leader, whose store this is. The answer is the rule that the book
     /// chooses in this hold, by its number, and the number of the update; `None` where the book
@@ -27,9 +28,9 @@ impl Stage {
         head: &ScopeHead,
         store: &Store,
     ) -> (Seat<Home>, Result<Option<(u32, u32)>, CommitFault>)
-        requires of { IsSeatOf self.now.turns seat }
+        requires of { IsSeatIn self.now seat }
         requires can { CanCommitScope (view seat) head.now (store_of store.now) }
-        ensures of { IsSeatOf self.now.turns result.0 }
+        ensures of { IsSeatIn self.now result.0 }
         ensures done { IfOk result.1 (λ update. CommittedScope (view seat) (view result.0)
             head.now (store_of store.now) update) }
         ensures refused { IfErr result.1
@@ -55,9 +56,9 @@ impl Stage {
         rt: &R,
         seat: Seat<Home>,
     ) -> (Seat<Home>, Result<(), CommitFault>)
-        requires of { IsSeatOf self.now.turns seat }
+        requires of { IsSeatIn self.now seat }
         requires feeder { IsFeeder (view seat) }
-        ensures of { IsSeatOf self.now.turns result.0 }
+        ensures of { IsSeatIn self.now result.0 }
         ensures done { OnOk result.1 (CommittedChange (view seat) (view result.0)) }
         ensures refused { IfErr result.1
             (λ f. RefusedFor feeder_fault (view seat) (view result.0) f) }

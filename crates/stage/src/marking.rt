@@ -11,14 +11,15 @@ use std::sync::Wait;
 use turn_lock::Seat;
 
 impl Stage {
-    ghost use Rattle.turn_lock.specs.Words.{view, IsSeatOf};
+    ghost use Rattle.stage.specs.Stages.{IsSeatIn};
+    ghost use Rattle.turn_lock.specs.Words.{view};
 
     /// Marks the seat's role, whose process has ended, as finished. Once all are, changes are
     /// refused and nobody waits any more.
     pub fn finish<R: Wait>(&self, rt: &R, seat: Seat<Home>, role: &Role) -> Seat<Home>
-        requires of { IsSeatOf self.now.turns seat }
+        requires of { IsSeatIn self.now seat }
         requires ended { HasFinished (view seat) role.now }
-        ensures of { IsSeatOf self.now.turns result }
+        ensures of { IsSeatIn self.now result }
         ensures saw { SawHome (view seat) (view result) }
     {
         let mut turn = self.enter(rt, seat);
@@ -34,9 +35,9 @@ impl Stage {
     /// The first mark stays. The mark of the limit asks that the seat has seen as many entries as
     /// there may be, and that the network has not ended after them.
     pub fn stop<R: Wait>(&self, rt: &R, seat: Seat<Home>, why: Why) -> Seat<Home>
-        requires of { IsSeatOf self.now.turns seat }
+        requires of { IsSeatIn self.now seat }
         requires cut { why ≡ Why.Limit → SawLimit (view seat) }
-        ensures of { IsSeatOf self.now.turns result }
+        ensures of { IsSeatIn self.now result }
         ensures saw { SawHome (view seat) (view result) }
     {
         let mut turn = self.enter(rt, seat);

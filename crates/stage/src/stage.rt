@@ -10,6 +10,7 @@ ghost use Rattle.stage.specs.Faults.{role_fault, take_fault};
 ghost use Rattle.stage.specs.Homes.{IsSoundHome};
 ghost use Rattle.stage.specs.Roles.{is_input, is_pick, is_set};
 ghost use Rattle.stage.specs.Seats.{CanCommit, CanCommitOwn, CanReceive, Committed, CommittedOwn, IsClosed, RefusedFor, StillStands, opening_views};
+ghost use Rattle.turn_lock.specs.Items.{BeginsWith};
 ghost use Rattle.turn_lock.specs.Views.{entered};
 
 use crate::faults::CommitFault;
@@ -33,7 +34,8 @@ pub struct Stage {
 }
 
 impl Stage {
-    ghost use Rattle.turn_lock.specs.Words.{view, turn_view, claim_of, IsSeatOf, IsTurnOf};
+    ghost use Rattle.stage.specs.Stages.{IsSameStage, IsSeatIn};
+    ghost use Rattle.turn_lock.specs.Words.{view, turn_view, claim_of, IsTurnOf};
 
     /// The stage of a bundle before its first entry, for a history of at most `limit` entries. Its
     /// seats are one for each role, in the cast's order, and the feeder's last; they are numbered
@@ -45,7 +47,7 @@ impl Stage {
     ) -> Result<(Stage, Vec<Seat<Home>>), Memory>
         requires sound { IsSound (plain bundle.now) }
         requires small { limit ≤ 4294967295 }
-        ensures of { IfOk result (λ made. All (λ s. IsSeatOf made.0.turns s) made.1.items) }
+        ensures of { IfOk result (λ made. All (λ s. IsSeatIn made.0 s) made.1.items) }
         ensures views { IfOk result (λ made. map view made.1.items
             ≡ opening_views (bundle.now, limit) (length bundle.now.cast)) }
     {
@@ -60,7 +62,7 @@ impl Stage {
 
     /// Waits for the turn. The seat's role stands in what is found where it stood.
     pub(crate) fn enter<R: Wait>(&self, rt: &R, seat: Seat<Home>) -> Turn<Home>
-        requires of { IsSeatOf self.now.turns seat }
+        requires of { IsSeatIn self.now seat }
         ensures of { IsTurnOf self.now.turns result }
         ensures view { turn_view result ≡ entered (view seat) result.home.history }
         ensures base { (view seat).base ≡ Some (result.home.bundle, result.home.limit) }
@@ -83,10 +85,10 @@ impl Stage {
         key: Key,
         payload: Payload,
     ) -> (Seat<Home>, Result<(), CommitFault>)
-        requires of { IsSeatOf self.now.turns seat }
+        requires of { IsSeatIn self.now seat }
         requires can { CanCommit (view seat) key.from (acts.Put key) Alone
             (Puts key (load payload)) }
-        ensures of { IsSeatOf self.now.turns result.0 }
+        ensures of { IsSeatIn self.now result.0 }
         ensures done { IfOk result.1 (λ _. Committed role_fault (view seat) (view result.0)
             key.from (acts.Put key) Alone (Puts key (load payload))) }
         ensures refused { IfErr result.1
@@ -114,9 +116,9 @@ impl Stage {
         key: &Key,
         var: Option<Name>,
     ) -> (Seat<Home>, Result<Payload, CommitFault>)
-        requires of { IsSeatOf self.now.turns seat }
+        requires of { IsSeatIn self.now seat }
         requires can { CanReceive (view seat) key.now.to key.now var }
-        ensures of { IsSeatOf self.now.turns result.0 }
+        ensures of { IsSeatIn self.now result.0 }
         ensures done { IfOk result.1 (λ payload. Committed (take_fault key.now) (view seat)
             (view result.0) key.now.to (acts.Take key.now) (Got (load payload))
             (Takes key.now var (load payload))) }
@@ -147,10 +149,10 @@ impl Stage {
         seat: Seat<Home>,
         entry: Entry,
     ) -> (Seat<Home>, Result<(), CommitFault>)
-        requires of { IsSeatOf self.now.turns seat }
+        requires of { IsSeatIn self.now seat }
         requires set { is_set entry ≡ true }
         requires can { CanCommitOwn (view seat) entry }
-        ensures of { IsSeatOf self.now.turns result.0 }
+        ensures of { IsSeatIn self.now result.0 }
         ensures done { IfOk result.1
             (λ _. CommittedOwn role_fault (view seat) (view result.0) entry) }
         ensures refused { IfErr result.1
@@ -167,10 +169,10 @@ impl Stage {
         seat: Seat<Home>,
         entry: Entry,
     ) -> (Seat<Home>, Result<(), CommitFault>)
-        requires of { IsSeatOf self.now.turns seat }
+        requires of { IsSeatIn self.now seat }
         requires input { is_input entry ≡ true }
         requires can { CanCommitOwn (view seat) entry }
-        ensures of { IsSeatOf self.now.turns result.0 }
+        ensures of { IsSeatIn self.now result.0 }
         ensures done { IfOk result.1
             (λ _. CommittedOwn role_fault (view seat) (view result.0) entry) }
         ensures refused { IfErr result.1
@@ -187,10 +189,10 @@ impl Stage {
         seat: Seat<Home>,
         entry: Entry,
     ) -> (Seat<Home>, Result<(), CommitFault>)
-        requires of { IsSeatOf self.now.turns seat }
+        requires of { IsSeatIn self.now seat }
         requires pick { is_pick entry ≡ true }
         requires can { CanCommitOwn (view seat) entry }
-        ensures of { IsSeatOf self.now.turns result.0 }
+        ensures of { IsSeatIn self.now result.0 }
         ensures done { IfOk result.1
             (λ _. CommittedOwn role_fault (view seat) (view result.0) entry) }
         ensures refused { IfErr result.1
@@ -206,9 +208,9 @@ impl Stage {
         seat: Seat<Home>,
         entry: Entry,
     ) -> (Seat<Home>, Result<(), CommitFault>)
-        requires of { IsSeatOf self.now.turns seat }
+        requires of { IsSeatIn self.now seat }
         requires can { CanCommitOwn (view seat) entry }
-        ensures of { IsSeatOf self.now.turns result.0 }
+        ensures of { IsSeatIn self.now result.0 }
         ensures done { IfOk result.1
             (λ _. CommittedOwn role_fault (view seat) (view result.0) entry) }
         ensures refused { IfErr result.1
@@ -240,19 +242,22 @@ impl Stage {
     }
 
     /// Ends the stage and gives its history, where the seats are all that were made, the first seat
-    /// first. Else the stage and the seats come back.
+    /// first. The history begins with what each seat has seen. Else the stage and the seats come
+    /// back.
     pub fn close(self, seats: Vec<Seat<Home>>) -> Result<History, (Stage, Vec<Seat<Home>>)>
-        requires of { All (λ s. IsSeatOf self.turns s) seats.items }
+        requires of { All (λ s. IsSeatIn self s) seats.items }
         requires first { 0 < length seats.items
             → IfSome (slice_get seats.items 0) (λ s. 0 < (view s).made) }
         ensures missing { IfErr result (λ back. IfSome (slice_get seats.items 0) (λ s.
             (view s).made ≢ length seats.items)) }
         ensures back { IfErr result (λ back.
-            (back.0.turns ≡ self.turns) × (back.1.items ≡ seats.items)) }
+            IsSameStage back.0 self × (back.1.items ≡ seats.items)) }
         ensures some { IfOk result (λ _. 0 < length seats.items) }
         ensures closed { IfOk result (λ history. IfSome (slice_get seats.items 0) (λ s.
             ((view s).made ≡ length seats.items)
             × IsClosed (view s) history.entries (map claim_of seats.items))) }
+        ensures begins { IfOk result (λ history.
+            All (λ s. BeginsWith history.entries (view s).seen) seats.items) }
     {
         let Stage { turns, pulse } = self;
         match turns.close(seats) {
