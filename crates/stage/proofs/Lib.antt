@@ -13,4 +13,5 @@ pub mod MetLemmas
 pub mod HoldLemmas
 pub mod MarkLemmas
 pub mod SeatingLemmas
+pub mod Crossing
 pub mod Examples
