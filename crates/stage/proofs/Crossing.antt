@@ -1,6 +1,6 @@
--- A home may go to another thread. It is shown a field at a time, since a struct of so many fields is too much for one search.
-use denote.Param.Send.{IsSend, view_send, sendable}
-use denote.Param.SendFields.{declared_send}
+-- A home may go to another thread, and a stage may be borrowed by several. A home is shown a field at a time, since a struct of so many fields is too much for one search.
+use denote.Param.Send.{IsSend, IsSync, view_send, sendable}
+use denote.Param.SendFields.{declared_send, declared_sync}
 use Rattle.std.proofs.Crossing.{crosses}
 use Rattle.dioc_terms.proofs.choreographies.Choreo.TheLaws.TheKnot as choreo_knot
 use Rattle.dioc_terms.proofs.expressions.Expr.TheLaws.TheKnot as expr_knot
@@ -16,12 +16,15 @@ use Rattle.dioc_terms.proofs.processes.Tag.TheSendSync as tag_sends
 use Rattle.dioc_terms.proofs.values.Value.TheSendSync as value_sends
 use Rattle.role_network.proofs.bodies.Coming.TheSendSync as change_sends
 use Rattle.trace_book.proofs.history.History.TheSendSync as entries_send
+use Rattle.turn_lock.proofs.turns.Seat.TheSendSync as seat_sends
+use Rattle.turn_lock.proofs.turns.Turns.TheSendSync as turns_sync
 use Rattle.role_mailbox.specs.contracts.mail.Mail as mail
 use Rattle.role_network.specs.contracts.bodies.Coming as coming
 use Rattle.rule_book.specs.contracts.book.Book as book
 use Rattle.trace_book.specs.contracts.history.History as history
 use Rattle.stage.specs.contracts.home.Home as home
 use Rattle.stage.specs.contracts.home.Home.TheInside as inside
+use Rattle.stage.specs.contracts.stage.Stage as stage
 
 ruleset parts = (crosses, choreo_knot.crosses, expr_knot.crosses, messages_knot.crosses, sendable)
 
@@ -98,3 +101,11 @@ home_sends = view_send inside.the_row _ _ _ _ (declared_send inside.the_type (
     ),
   ),
 ))
+
+pub stage_syncs : IsSync stage.the_row
+stage_syncs =
+    declared_sync stage.the_type
+    (search (home_sends, turns_sync.the_sync, turns_sync.the_field_sync, crosses, sendable) depth 60 fits 20000, (search (crosses, sendable) depth 60 fits 20000, tt))
+
+-- what whoever joins threads over seats and a stage gives to the search, beside `sendable` of the logic: `search (crossing, sendable) depth 60 fits 20000`
+pub ruleset crossing = (home_sends, stage_syncs, seat_sends.the_send, crosses)
