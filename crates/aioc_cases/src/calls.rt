@@ -87,6 +87,7 @@ fn answer_whole(alloc: Global, case: &Case, out: &mut Vec<u8>) -> Result<bool, P
         b"read_change" => rules::answer_change(alloc, case, out)?,
         b"read_bundle" => bundles::answer_read(alloc, case, out)?,
         b"write_bundle" => bundles::answer_written(alloc, case, out)?,
+        b"read_sessions" => bundles::answer_sessions(alloc, case, out)?,
         b"accept" => refusals::answer(alloc, case, out)?,
         b"read_words" => words::answer(alloc, case, out)?,
         _ => return Ok(false),

@@ -32,10 +32,10 @@ abbrev pub AllWritten : List Lexeme → Type 0
 AllWritten from = AllByRecursion CanBeWritten from
 
 -- what is read is of some form, and each lexeme behind it can be written
-abbrev Forms : {A : Type 0} → (List Lexeme → A → List Lexeme → Type 0) → (A → Type 0) → Type 0
+abbrev pub Forms : {A : Type 0} → (List Lexeme → A → List Lexeme → Type 0) → (A → Type 0) → Type 0
 Forms {A} Reads Fits = (from to : List Lexeme) (item : A) → Reads from item to → AllWritten from → Fits item × AllWritten to
 
-many_formed : {A : Type 0} {Reads : List Lexeme → A → List Lexeme → Type 0} {from to : List Lexeme} {items : List A} (Fits : A → Type 0) → Forms Reads Fits → Many Reads from items to → AllWritten from → AllByRecursion Fits items × AllWritten to
+pub many_formed : {A : Type 0} {Reads : List Lexeme → A → List Lexeme → Type 0} {from to : List Lexeme} {items : List A} (Fits : A → Type 0) → Forms Reads Fits → Many Reads from items to → AllWritten from → AllByRecursion Fits items × AllWritten to
 many_formed Fits each no_more valid = (tt, valid)
 many_formed Fits each (one_more {from = from} {middle = middle} {first = first} r s) valid =
     let one = each from middle first r valid in
@@ -95,7 +95,7 @@ term_formed is valid =
     let parts = stands_valid is.stands valid in
     ((record { indices = stands_marked is.stands; parts = parts.0; depth = is.shallow }, stands_fits is.stands), parts.1)
 
-section_formed : {version : ℕ} {from to : List Lexeme} {section : Section} → IsSection version from section to → AllWritten from → IsFormedSection version section × AllWritten to
+pub section_formed : {version : ℕ} {from to : List Lexeme} {section : Section} → IsSection version from section to → AllWritten from → IsFormedSection version section × AllWritten to
 section_formed (aioc begins is closes) valid =
     let all = term_formed is (subst AllWritten begins valid).1.1 in (all.0, (subst AllWritten closes all.1).1)
 section_formed {version} (rules begins stand closes) valid =

@@ -16,3 +16,5 @@ pub mod RoundTrip
 pub mod ScriptAgain
 pub mod BundleAgain
 pub mod Spells
+pub mod SessionSteps
+pub mod SessionLists

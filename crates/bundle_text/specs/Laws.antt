@@ -4,6 +4,7 @@ use Rattle.dioc_terms.specs.Bundles.{IsFormed}
 use Rattle.limits.specs.Limits.{most_bytes}
 use Rattle.dioc_terms.specs.Plain.{PlainBundle}
 use Rattle.bundle_text.specs.Grammar.{ReadsAs, Spells}
+use Rattle.bundle_text.specs.Sessions.{SpellsSessions}
 use Rattle.bundle_text.specs.Writing.{bundle_text}
 
 -- a text spells at most one bundle
@@ -27,3 +28,9 @@ WrittenIsSpelled = (b : PlainBundle) → IsFormed b → length (bundle_text b) �
 -- so what was read within the limits is written within them, that of bytes aside
 abbrev pub ReadIsWritten : Type 0
 ReadIsWritten = (bytes : List ℕ) (b : PlainBundle) → Spells bytes b → ReadsAs (bundle_text b) b
+
+-- a text spells at most one list of sessions
+abbrev pub OneListOfSessions : Type 0
+OneListOfSessions =
+    (bytes : List ℕ) (sessions others : List PlainBundle) → SpellsSessions bytes sessions
+    → SpellsSessions bytes others → sessions ≡ others

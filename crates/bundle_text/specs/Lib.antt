@@ -2,6 +2,8 @@ pub mod Many
 pub mod Grammar
 pub mod Readers
 pub mod Stops
+pub mod Sessions
+pub mod SessionReaders
 pub mod Writing
 pub mod Pieces
 pub mod Laws

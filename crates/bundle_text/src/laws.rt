@@ -1,6 +1,6 @@
 //! What holds of every text of a bundle.
 
-ghost use Rattle.bundle_text.specs.Laws.{OneBundle, SpelledIsFormed, WrittenIsRead, WrittenIsSpelled, ReadIsWritten};
+ghost use Rattle.bundle_text.specs.Laws.{OneBundle, SpelledIsFormed, WrittenIsRead, WrittenIsSpelled, ReadIsWritten, OneListOfSessions};
 
 /// A law: a text spells at most one bundle. It does nothing.
 pub fn one_bundle()
@@ -28,4 +28,9 @@ pub fn written_is_spelled()
 /// does nothing.
 pub fn read_is_written()
     ensures { ReadIsWritten }
+{}
+
+/// A law: a text spells at most one list of sessions. It does nothing.
+pub fn one_list_of_sessions()
+    ensures { OneListOfSessions }
 {}

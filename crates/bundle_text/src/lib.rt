@@ -7,11 +7,14 @@ mod laws;
 mod parts;
 mod reader;
 mod sections;
+mod sessions;
 mod stops;
 mod writer;
 
 pub use laws::{
-    one_bundle, read_is_written, spelled_is_formed, written_is_read, written_is_spelled,
+    one_bundle, one_list_of_sessions, read_is_written, spelled_is_formed, written_is_read,
+    written_is_spelled,
 };
 pub use reader::read_bundle;
+pub use sessions::read_sessions;
 pub use writer::write_bundle;

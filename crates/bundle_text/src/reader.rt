@@ -1,6 +1,6 @@
 //! From the bytes of a text to its bundle.
 
-ghost use Rattle.std.specs.Prelude.{◌≡◌, ◌≢◌, ◌≤◌, ℕ, [], length, Err, IfOk, IfErr};
+ghost use Rattle.std.specs.Prelude.{◌≡◌, ◌≢◌, ◌≤◌, ℕ, [], length, drop, Err, IfOk, IfErr};
 ghost use Rattle.dioc_terms.specs.Bundles.{IsFormed};
 ghost use Rattle.limits.specs.Limits.{greatest_place};
 ghost use Rattle.dioc_terms.specs.Plain.{plain};
@@ -57,24 +57,26 @@ fn bundle_at(alloc: Global, text: &Lexed<'_>) -> Result<Bundle, Stop>
     ensures stopped { IfErr result (λ stop. stop ≢ Stop.Memory →
         EndsAt text.now (place_in stop)) }
 {
-    let (version, at) = version_at(text);
+    let (version, at) = version_at(text, 0);
     let parts = sections_at(alloc, text, version, at)?;
     bundle_of(alloc, version, parts, text.len())
 }
 
-/// The version of the bundle that the text begins with, 1 where none is written, and the place
-/// behind it:
+/// The version of the bundle that begins at a place of the text, 1 where none is written, and how
+/// many tokens it takes:
 ///
 /// ```text
 /// [ "version" "2" ]
 /// ```
-fn version_at(text: &Lexed<'_>) -> (u32, usize)
-    ensures { FindsVersion text.now result.0 result.1 }
+pub fn version_at(text: &Lexed<'_>, at: usize) -> (u32, usize)
+    requires few { length text.now ≤ greatest_place }
+    requires within { at ≤ length text.now }
+    ensures { FindsVersion (drop at text.now) result.0 result.1 }
 {
-    if !text.named(0, b"version") {
+    if !text.named(at, b"version") {
         return (1, 0);
     }
-    match number_at(text, 1, 2) {
+    match number_at(text, at + 1, 2) {
         Some(2) => (2, 2),
         _ => (1, 0),
     }

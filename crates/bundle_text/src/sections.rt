@@ -69,7 +69,7 @@ fn choreography_at(
 ///         | "script" "{" { "after" number change } "}"
 ///         | "trace" "{" { line } [ last ] "}"
 /// ```
-fn section_at(
+pub fn section_at(
     alloc: Global,
     text: &Lexed<'_>,
     version: u32,

@@ -1,0 +1,44 @@
+-- What the looks show, said of the bytes.
+use Rattle.std.proofs.Common.{◌≡◌, ◌≢◌, ℕ, ◌≤◌, List, [], length, map, Err, refl, subst, ap, ◌∙◌, arith}
+use Rattle.limits.specs.Limits.{most_bytes}
+use Rattle.dioc_terms.specs.Plain.{plain}
+use Rattle.aioc_tokens.specs.declared.kinds.Token.{Token}
+use Rattle.aioc_tokens.specs.Lexing.{Lexes, place_of}
+use Rattle.aioc_tokens.specs.Lexemes.{Lexeme, lexemes}
+use Rattle.bundle_text.specs.declared.stops.Stop.{Stop}
+use Rattle.bundle_text.specs.declared.stops.Stop.TheVariants as stop
+use Rattle.bundle_text.specs.Many.{Many}
+use Rattle.bundle_text.specs.Sessions.{IsSession, EndsAmongSessions, SessionsEndAtByte, at_token}
+use Rattle.bundle_text.specs.Stops.{place_in}
+use Rattle.bundle_text.proofs.SessionLists.{bad_byte_no_sessions, byte_no_sessions, sessions_formed}
+use Rattle.bundle_text.proofs.sessions.read_sessions.Goals as goal
+
+pub returns-in-Err-BadByte-clause-syntax : goal.returns-in-Err-BadByte-clause-syntax
+returns-in-Err-BadByte-clause-syntax c =
+    λ other. bad_byte_no_sessions c.args.bytes.now c.in-Err-BadByte.at (c.tokens.ensures.bad c.in-Err-BadByte.at (c.in-Err-BadByte.is ∙ ap Err c.in-Err-BadByte.field-0-is))
+
+pub returns-in-Ok-sessions_of-clause-formed : goal.returns-in-Ok-sessions_of-clause-formed
+returns-in-Ok-sessions_of-clause-formed c =
+    sessions_formed c.args.bytes.now (lexemes c.args.bytes.now c.in-Ok.tokens.items) c.in-Ok-sessions_of.sessions.items
+    (record { tokens = c.in-Ok.tokens.items; lexes = c.in-Ok.ensures.found; lexemes_are = refl })
+    (subst (λ l. Many IsSession l (map plain c.in-Ok-sessions_of.sessions.items) []) (c.new.ensures ∙ ap (lexemes c.args.bytes.now) c.deref.ensures.value) c.in-Ok-sessions_of.ensures.stand)
+
+-- the reader stopped at a place
+stopped : (s : Stop) (at : ℕ) (text : List Lexeme) → (s ≢ stop.Memory → EndsAmongSessions text (place_in s)) → s ≡ stop.At at → EndsAmongSessions text at
+stopped s at text told is = subst (λ (s : Stop). EndsAmongSessions text (place_in s)) is (told (λ e. cc))
+
+ends : (bytes : List ℕ) (tokens : List Token) (s : Stop) (at : ℕ) (text : List Lexeme) → length bytes ≤ most_bytes → Lexes 0 bytes tokens → text ≡ lexemes bytes tokens → (s ≢ stop.Memory → EndsAmongSessions text (place_in s)) → s ≡ stop.At at
+    → SessionsEndAtByte bytes (place_of bytes tokens at)
+ends bytes tokens s at text small lexes are told is = at_token small lexes (subst (λ list. EndsAmongSessions list at) are (stopped s at text told is)) refl
+
+pub returns-in-Err-At-clause-syntax : goal.returns-in-Err-At-clause-syntax
+returns-in-Err-At-clause-syntax c = λ other.
+    byte_no_sessions c.args.bytes.now (place_of c.args.bytes.now c.in-Ok.tokens.items c.in-Err-At.at)
+    (ends c.args.bytes.now c.in-Ok.tokens.items c.in-Err-At.field-0 c.in-Err-At.at c.new.result (omega arith) c.in-Ok.ensures.found (c.new.ensures ∙ ap (lexemes c.args.bytes.now) c.deref.ensures.value) c.in-Err-At.ensures.stopped c.in-Err-At.field-0-is)
+
+pub returns-in-Err-At-clause-byte : goal.returns-in-Err-At-clause-byte
+returns-in-Err-At-clause-byte c = λ byte is.
+    let told = c.place.ensures in
+    let same : place_of c.args.bytes.now c.in-Ok.tokens.items c.in-Err-At.at ≡ byte = cc in
+    subst (SessionsEndAtByte c.args.bytes.now) same
+    (ends c.args.bytes.now c.in-Ok.tokens.items c.in-Err-At.field-0 c.in-Err-At.at c.new.result (omega arith) c.in-Ok.ensures.found (c.new.ensures ∙ ap (lexemes c.args.bytes.now) c.deref.ensures.value) c.in-Err-At.ensures.stopped c.in-Err-At.field-0-is)
