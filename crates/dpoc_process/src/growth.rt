@@ -41,7 +41,7 @@ pub(crate) enum Growth {
 
 /// What a step writes into the store.
 #[derive(Drop)]
-pub(crate) enum Write {
+pub enum Write {
     /// Nothing.
     Nothing,
     /// The value that comes, in this variable.
@@ -77,7 +77,7 @@ pub(crate) fn write_at(alloc: Global, value: &Value, part: &Proc) -> Result<Writ
 }
 
 /// Whether the value is true.
-pub(crate) fn is_true(value: &Value) -> bool
+pub fn is_true(value: &Value) -> bool
     ensures { result ≡ is_true value.now }
 {
     match value {

@@ -1,13 +1,17 @@
 //! Roles that run: a role with its process and its store, act by act.
+//!
+//! A process may be kept as a tree, as `RoleState` does, or in another form. The modules that are
+//! public have what each form needs of the parts of a process: what a part offers, what it shows,
+//! what it tells and gathers, and what it writes.
 #![tactic(auto)]
 
 mod changes;
-mod growth;
+pub mod growth;
 mod laws;
-mod makers;
-mod offered;
-mod prepared;
-mod ready;
+pub mod makers;
+pub mod offered;
+pub mod prepared;
+pub mod ready;
 mod roles;
 mod runs;
 mod states;

@@ -58,7 +58,7 @@ pub(crate) fn tell_flag(
 }
 
 /// The same message to each of these roles.
-fn letters_to(
+pub fn letters_to(
     alloc: Global,
     me: &Role,
     others: &[Role],
@@ -80,7 +80,7 @@ fn letters_to(
 }
 
 /// The message, and those after it.
-pub(crate) fn more(
+pub fn more(
     alloc: Global,
     key: Key,
     payload: Payload,
@@ -108,7 +108,7 @@ pub(crate) fn gather(
 }
 
 /// The keys of the messages that these roles send.
-fn keys_from(
+pub fn keys_from(
     alloc: Global,
     me: &Role,
     others: &[Role],

@@ -14,7 +14,7 @@ use dioc_terms::{Act, Index, Key, Memory, Messages, Name, Proc, Role, Tag};
 use std::alloc::Global;
 
 /// Whether nothing is left to do.
-pub(crate) fn is_ended(proc: &Proc) -> bool
+pub fn is_ended(proc: &Proc) -> bool
     ensures { result ≡ ended (process proc.now) }
 {
     match proc {
@@ -27,7 +27,7 @@ pub(crate) fn is_ended(proc: &Proc) -> bool
 }
 
 /// The key of a message.
-pub(crate) fn key_of(
+pub fn key_of(
     alloc: Global,
     from: &Role,
     to: &Role,
@@ -45,7 +45,7 @@ pub(crate) fn key_of(
 }
 
 /// The key of an operation's message.
-pub(crate) fn operation(
+pub fn operation(
     alloc: Global,
     from: &Role,
     to: &Role,
@@ -59,7 +59,7 @@ pub(crate) fn operation(
 }
 
 /// Adds the acts that the process offers, from left to right.
-pub(crate) fn add_offers(
+pub fn add_offers(
     alloc: Global,
     me: &Role,
     proc: &Proc,
@@ -144,7 +144,7 @@ fn offer(alloc: Global, me: &Role, single: &Proc) -> Result<Option<Act>, Memory>
 }
 
 /// The act that takes an auxiliary message.
-fn offer_of_take(
+pub fn offer_of_take(
     alloc: Global,
     from: &Role,
     to: &Role,
@@ -159,7 +159,7 @@ fn offer_of_take(
 }
 
 /// The act that sends the next of these messages.
-fn offer_of_tell(alloc: Global, me: &Role, messages: &Messages) -> Result<Option<Act>, Memory>
+pub fn offer_of_tell(alloc: Global, me: &Role, messages: &Messages) -> Result<Option<Act>, Memory>
     ensures { IfOk result (λ offer. option_to_list offer
         ≡ offers me.now (Tell (letters messages.now))) }
 {
@@ -170,7 +170,7 @@ fn offer_of_tell(alloc: Global, me: &Role, messages: &Messages) -> Result<Option
 }
 
 /// The act that takes the message of the next of these keys.
-fn offer_of_gather(alloc: Global, me: &Role, keys: &[Key]) -> Result<Option<Act>, Memory>
+pub fn offer_of_gather(alloc: Global, me: &Role, keys: &[Key]) -> Result<Option<Act>, Memory>
     ensures { IfOk result (λ offer. option_to_list offer ≡ offers me.now (Gather keys.now)) }
 {
     match keys {
@@ -180,7 +180,7 @@ fn offer_of_gather(alloc: Global, me: &Role, keys: &[Key]) -> Result<Option<Act>
 }
 
 /// The part of the process that does the act, neither a sequence nor a parallel.
-pub(crate) fn find<'a>(me: &Role, act: &Act, proc: &'a Proc) -> Option<&'a Proc>
+pub fn find<'a>(me: &Role, act: &Act, proc: &'a Proc) -> Option<&'a Proc>
     ensures { option_map (λ part. process part.now) result
         ≡ acting me.now act.now (process proc.now) }
 {
@@ -230,7 +230,7 @@ fn does(me: &Role, act: &Act, single: &Proc) -> bool
     }
 }
 
-fn sets(act: &Act, index: Index) -> bool
+pub fn sets(act: &Act, index: Index) -> bool
     ensures { result ≡ is_offered act.now (acts.Set index ∷ []) }
 {
     match act {
@@ -239,7 +239,7 @@ fn sets(act: &Act, index: Index) -> bool
     }
 }
 
-fn reads(act: &Act, index: Index) -> bool
+pub fn reads(act: &Act, index: Index) -> bool
     ensures { result ≡ is_offered act.now (acts.Input index ∷ []) }
 {
     match act {
@@ -248,7 +248,7 @@ fn reads(act: &Act, index: Index) -> bool
     }
 }
 
-fn picks(act: &Act, index: Index) -> bool
+pub fn picks(act: &Act, index: Index) -> bool
     ensures { result ≡ is_offered act.now (acts.Pick index ∷ []) }
 {
     match act {
@@ -257,7 +257,7 @@ fn picks(act: &Act, index: Index) -> bool
     }
 }
 
-fn chooses(act: &Act, index: Index) -> bool
+pub fn chooses(act: &Act, index: Index) -> bool
     ensures { result ≡ is_offered act.now (acts.Scope index ∷ []) }
 {
     match act {
@@ -266,7 +266,7 @@ fn chooses(act: &Act, index: Index) -> bool
     }
 }
 
-fn sends(act: &Act, from: &Role, to: &Role, index: Index, op: &Name) -> bool
+pub fn sends(act: &Act, from: &Role, to: &Role, index: Index, op: &Name) -> bool
     ensures { result ≡ is_offered act.now (acts.Put
         (key from.now to.now index (tags.Op op.now)) ∷ []) }
 {
@@ -276,7 +276,7 @@ fn sends(act: &Act, from: &Role, to: &Role, index: Index, op: &Name) -> bool
     }
 }
 
-fn receives(act: &Act, from: &Role, to: &Role, index: Index, op: &Name) -> bool
+pub fn receives(act: &Act, from: &Role, to: &Role, index: Index, op: &Name) -> bool
     ensures { result ≡ is_offered act.now (acts.Take
         (key from.now to.now index (tags.Op op.now)) ∷ []) }
 {
@@ -286,7 +286,7 @@ fn receives(act: &Act, from: &Role, to: &Role, index: Index, op: &Name) -> bool
     }
 }
 
-fn takes(act: &Act, from: &Role, to: &Role, index: Index, tag: &Tag) -> bool
+pub fn takes(act: &Act, from: &Role, to: &Role, index: Index, tag: &Tag) -> bool
     ensures { result ≡ is_offered act.now (acts.Take (key from.now to.now index tag.now) ∷ []) }
 {
     match act {
@@ -297,7 +297,7 @@ fn takes(act: &Act, from: &Role, to: &Role, index: Index, tag: &Tag) -> bool
     }
 }
 
-fn tells(act: &Act, me: &Role, messages: &Messages) -> bool
+pub fn tells(act: &Act, me: &Role, messages: &Messages) -> bool
     ensures { result ≡ is_offered act.now (offers me.now (Tell (letters messages.now))) }
 {
     match (messages, act) {
@@ -306,7 +306,7 @@ fn tells(act: &Act, me: &Role, messages: &Messages) -> bool
     }
 }
 
-fn gathers(act: &Act, me: &Role, keys: &[Key]) -> bool
+pub fn gathers(act: &Act, me: &Role, keys: &[Key]) -> bool
     ensures { result ≡ is_offered act.now (offers me.now (Gather keys.now)) }
 {
     match (keys, act) {

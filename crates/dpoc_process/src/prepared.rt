@@ -117,21 +117,21 @@ fn entry_at(alloc: Global, me: &Role, value: &Value, part: &Proc) -> Result<Opti
     }
 }
 
-fn put_entry(alloc: Global, found: Key, value: &Value) -> Result<Option<Entry>, Memory>
+pub fn put_entry(alloc: Global, found: Key, value: &Value) -> Result<Option<Entry>, Memory>
     ensures { IfOk result (λ entry. entry ≡ Some (entries.Put found (noted (Val value.now)))) }
 {
     let note = Note::Val(value.copy(alloc)?);
     Ok(Some(Entry::Put { key: found, note }))
 }
 
-fn keep_entry(alloc: Global, found: Key, var: &Name) -> Result<Option<Entry>, Memory>
+pub fn keep_entry(alloc: Global, found: Key, var: &Name) -> Result<Option<Entry>, Memory>
     ensures { IfOk result (λ entry. entry ≡ Some (entries.Take found (Some var.now))) }
 {
     let var = Some(var.copy(alloc)?);
     Ok(Some(Entry::Take { key: found, var }))
 }
 
-fn take_entry(found: Key) -> Result<Option<Entry>, Memory>
+pub fn take_entry(found: Key) -> Result<Option<Entry>, Memory>
     ensures { IfOk result (λ entry. entry ≡ Some (entries.Take found None)) }
 {
     Ok(Some(Entry::Take {
@@ -140,7 +140,7 @@ fn take_entry(found: Key) -> Result<Option<Entry>, Memory>
     }))
 }
 
-fn set_entry(
+pub fn set_entry(
     alloc: Global,
     index: Index,
     me: &Role,
@@ -157,7 +157,7 @@ fn set_entry(
     }))
 }
 
-fn input_entry(
+pub fn input_entry(
     alloc: Global,
     index: Index,
     me: &Role,
@@ -174,7 +174,7 @@ fn input_entry(
     }))
 }
 
-fn pick_entry(alloc: Global, index: Index, me: &Role, flag: bool) -> Result<Option<Entry>, Memory>
+pub fn pick_entry(alloc: Global, index: Index, me: &Role, flag: bool) -> Result<Option<Entry>, Memory>
     ensures { IfOk result (λ entry. entry ≡ Some (entries.Pick index me.now flag)) }
 {
     Ok(Some(Entry::Pick {
@@ -184,7 +184,7 @@ fn pick_entry(alloc: Global, index: Index, me: &Role, flag: bool) -> Result<Opti
     }))
 }
 
-fn tell_entry(
+pub fn tell_entry(
     alloc: Global,
     me: &Role,
     value: &Value,
@@ -205,7 +205,7 @@ fn tell_entry(
     }
 }
 
-fn gather_entry(
+pub fn gather_entry(
     alloc: Global,
     me: &Role,
     value: &Value,
@@ -244,7 +244,7 @@ fn payload_at(alloc: Global, value: &Value, part: &Proc) -> Result<Option<Payloa
     }
 }
 
-fn payload_of_tell(
+pub fn payload_of_tell(
     alloc: Global,
     value: &Value,
     messages: &Messages,
@@ -269,7 +269,7 @@ fn head_at(alloc: Global, part: &Proc) -> Result<Option<ScopeHead>, Memory>
 }
 
 /// A copy of the act.
-fn copy_of_act(alloc: Global, act: &Act) -> Result<Act, Memory>
+pub fn copy_of_act(alloc: Global, act: &Act) -> Result<Act, Memory>
     ensures { IfOk result (λ copy. copy ≡ act.now) }
 {
     match act {

@@ -134,7 +134,7 @@ pub(crate) fn advanced(
 
 /// The value that comes with the act, and the rest, which gives the same change. It takes no
 /// memory.
-fn split(got: Got) -> (Option<Value>, Got)
+pub fn split(got: Got) -> (Option<Value>, Got)
     ensures value { result.0 ≡ handed_value (handed got) }
     ensures rest { (made : growths.Growth) → grown made (handed result.1)
         ≡ grown made (handed got) }
@@ -163,7 +163,7 @@ fn split_payload(payload: Payload) -> (Option<Value>, Got)
 }
 
 /// Writes what the step writes. There is room for one more variable, so it takes no memory.
-fn apply(store: &mut Store, write: Write, value: Option<Value>)
+pub fn apply(store: &mut Store, write: Write, value: Option<Value>)
     requires { 0 < room store.old }
     ensures { store_of store.new ≡ with_written (write_of write) value (store_of store.old) }
 {
