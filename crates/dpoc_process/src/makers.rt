@@ -80,12 +80,7 @@ pub fn letters_to(
 }
 
 /// The message, and those after it.
-pub fn more(
-    alloc: Global,
-    key: Key,
-    payload: Payload,
-    rest: Messages,
-) -> Result<Messages, Memory>
+pub fn more(alloc: Global, key: Key, payload: Payload, rest: Messages) -> Result<Messages, Memory>
     ensures { IfOk result (λ messages. letters messages ≡ More key (load payload) (letters rest)) }
 {
     let payload = new_box(alloc, payload)?;

@@ -27,13 +27,7 @@ pub fn is_ended(proc: &Proc) -> bool
 }
 
 /// The key of a message.
-pub fn key_of(
-    alloc: Global,
-    from: &Role,
-    to: &Role,
-    index: Index,
-    tag: Tag,
-) -> Result<Key, Memory>
+pub fn key_of(alloc: Global, from: &Role, to: &Role, index: Index, tag: Tag) -> Result<Key, Memory>
     ensures { IfOk result (λ made. made ≡ key from.now to.now index tag) }
 {
     Ok(Key {
@@ -59,12 +53,7 @@ pub fn operation(
 }
 
 /// Adds the acts that the process offers, from left to right.
-pub fn add_offers(
-    alloc: Global,
-    me: &Role,
-    proc: &Proc,
-    acts: &mut Vec<Act>,
-) -> Result<(), Memory>
+pub fn add_offers(alloc: Global, me: &Role, proc: &Proc, acts: &mut Vec<Act>) -> Result<(), Memory>
     ensures { OnOk result (acts.new.items ≡ acts.old.items ++ offers me.now (process proc.now)) }
 {
     match proc {

@@ -174,7 +174,12 @@ pub fn input_entry(
     }))
 }
 
-pub fn pick_entry(alloc: Global, index: Index, me: &Role, flag: bool) -> Result<Option<Entry>, Memory>
+pub fn pick_entry(
+    alloc: Global,
+    index: Index,
+    me: &Role,
+    flag: bool,
+) -> Result<Option<Entry>, Memory>
     ensures { IfOk result (λ entry. entry ≡ Some (entries.Pick index me.now flag)) }
 {
     Ok(Some(Entry::Pick {
