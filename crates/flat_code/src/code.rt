@@ -1,0 +1,31 @@
+//! Code: ops, and where the process begins.
+
+ghost use Rattle.std.specs.Prelude.{◌≡◌, ◌<◌, true, length};
+ghost use Rattle.flat_code.specs.Places.{are_placed, AreBelow, at, op_process, parts, processes};
+
+use crate::ops::Op;
+
+/// A process as a list of ops, in which the parts of an op stand before it. Contracts see it as the
+/// process.
+#[derive(Debug, Drop)]
+pub struct Code {
+    /// The ops. Each place of a part is that of an earlier op.
+    pub ops: Vec<Op>,
+    /// The place of the whole process.
+    pub start: usize,
+    pub ghost placed: { are_placed 0 ops.items ≡ true },
+    pub ghost starts: { start < length ops.items },
+}
+
+impl Code {
+    /// The op at a place, which stands for the process there. Its parts stand before it.
+    #[tactic(auto, using(crate::proofs::PlaceLemmas::stands_at))]
+    pub fn op_at(&self, place: usize) -> &Op
+        requires { place < length self.now.ops.items }
+        ensures stands { at (processes self.now.ops.items) place
+            ≡ op_process (processes self.now.ops.items) result.now }
+        ensures earlier { AreBelow place (parts result.now) }
+    {
+        &self.ops[place]
+    }
+}

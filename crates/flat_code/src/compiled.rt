@@ -1,0 +1,174 @@
+//! From a process to its code.
+
+ghost use Rattle.std.specs.Prelude.{◌≡◌, true, length, IfOk, OnErr};
+ghost use Rattle.dioc_terms.specs.Processes.{process};
+ghost use Rattle.flat_code.specs.Codes.{process_of};
+ghost use Rattle.flat_code.specs.Parts.{first_of, has_two, second_of};
+ghost use Rattle.flat_code.specs.Places.{AreBelow, Extends, IsAt, are_placed, op_process, parts, processes};
+
+use crate::code::Code;
+use crate::forms::{
+    assign, follow_choice, follow_loop, follow_scope, gather, lead_choice, lead_loop, lead_scope,
+    read, receive, send, tell,
+};
+use crate::ops::Op;
+use dioc_terms::{Memory, Proc};
+use std::alloc::Global;
+
+/// The code that stands for a process. Its time and its memory are those of the process's size; the
+/// error is want of memory.
+pub fn compile(alloc: Global, proc: &Proc) -> Result<Code, Memory>
+    ensures { IfOk result (λ code. process_of code ≡ process proc.now) }
+{
+    let mut ops = Vec::new(alloc);
+    let start = add(alloc, proc, &mut ops)?;
+    Ok(Code { ops, start })
+}
+
+/// Appends the ops of a process to code, and gives the place at which the process stands. The code
+/// keeps its ops and its beginning; the error is want of memory, and then no op was added.
+#[tactic(auto, using(crate::proofs::PlaceLemmas::cut_back, crate::proofs::PlaceLemmas::extends_itself))]
+pub fn link(alloc: Global, code: &mut Code, proc: &Proc) -> Result<usize, Memory>
+    ensures appended { Extends code.old.ops.items code.new.ops.items }
+    ensures start { code.new.start ≡ code.old.start }
+    ensures stands { IfOk result (λ place. IsAt code.new.ops.items place (process proc.now)) }
+    ensures refused { OnErr result (code.new.ops.items ≡ code.old.ops.items) }
+{
+    let before = code.ops.len();
+    match add(alloc, proc, &mut code.ops) {
+        Ok(place) => Ok(place),
+        Err(fault) => {
+            code.ops.truncate(before);
+            Err(fault)
+        }
+    }
+}
+
+/// Appends the ops of a process, its parts first, and gives the place of the whole.
+#[cycle(compiled)]
+#[tactic(auto, using(crate::proofs::PlaceLemmas::extends_through))]
+fn add(alloc: Global, proc: &Proc, ops: &mut Vec<Op>) -> Result<usize, Memory>
+    requires placed { are_placed 0 ops.old.items ≡ true }
+    ensures placed { are_placed 0 ops.new.items ≡ true }
+    ensures appended { Extends ops.old.items ops.new.items }
+    ensures stands { IfOk result (λ place. IsAt ops.new.items place (process proc.now)) }
+{
+    match proc {
+        Proc::Skip => push(ops, Op::Skip),
+        Proc::Send {
+            index,
+            op,
+            to,
+            expr,
+        } => push(ops, send(alloc, *index, op, to, expr)?),
+        Proc::Recv {
+            index,
+            op,
+            from,
+            var,
+        } => push(ops, receive(alloc, *index, op, from, var)?),
+        Proc::Assign { index, var, expr } => push(ops, assign(alloc, *index, var, expr)?),
+        Proc::Read { index, var } => push(ops, read(alloc, *index, var)?),
+        Proc::Seq(..) => {
+            let (first, second) = add_two(alloc, proc, ops)?;
+            push(ops, Op::Seq { first, second })
+        }
+        Proc::Par(..) => {
+            let (left, right) = add_two(alloc, proc, ops)?;
+            push(ops, Op::Par { left, right })
+        }
+        Proc::IfLead {
+            index,
+            guard,
+            others,
+            ..
+        } => {
+            let branches = add_two(alloc, proc, ops)?;
+            push(ops, lead_choice(alloc, *index, guard, others, branches)?)
+        }
+        Proc::IfFollow { index, leader, .. } => {
+            let branches = add_two(alloc, proc, ops)?;
+            push(ops, follow_choice(alloc, *index, leader, branches)?)
+        }
+        Proc::WhileLead {
+            index,
+            guard,
+            others,
+            body,
+        } => {
+            let body = add(alloc, body, ops)?;
+            push(ops, lead_loop(alloc, *index, guard, others, body)?)
+        }
+        Proc::WhileFollow {
+            index,
+            leader,
+            body,
+        } => {
+            let body = add(alloc, body, ops)?;
+            push(ops, follow_loop(alloc, *index, leader, body)?)
+        }
+        Proc::ScopeLead { head, others, body } => {
+            let body = add(alloc, body, ops)?;
+            push(ops, lead_scope(alloc, head, others, body)?)
+        }
+        Proc::ScopeFollow {
+            index,
+            leader,
+            body,
+        } => {
+            let body = add(alloc, body, ops)?;
+            push(ops, follow_scope(alloc, *index, leader, body)?)
+        }
+        Proc::Tell { messages } => push(ops, tell(alloc, messages)?),
+        Proc::Gather { keys } => push(ops, gather(alloc, keys)?),
+    }
+}
+
+/// Appends the ops of the two parts of a process, one after the other, and gives their places.
+#[cycle(compiled)]
+#[tactic(auto, using(crate::proofs::PlaceLemmas::keeps_is_at, crate::proofs::PlaceLemmas::extends_through))]
+fn add_two(alloc: Global, whole: &Proc, ops: &mut Vec<Op>) -> Result<(usize, usize), Memory>
+    requires two { has_two (process whole.now) ≡ true }
+    requires placed { are_placed 0 ops.old.items ≡ true }
+    ensures placed { are_placed 0 ops.new.items ≡ true }
+    ensures appended { Extends ops.old.items ops.new.items }
+    ensures first { IfOk result (λ both.
+        IsAt ops.new.items both.0 (first_of (process whole.now))) }
+    ensures second { IfOk result (λ both.
+        IsAt ops.new.items both.1 (second_of (process whole.now))) }
+{
+    match whole {
+        Proc::Seq(first, second)
+        | Proc::Par(first, second)
+        | Proc::IfLead {
+            yes: first,
+            no: second,
+            ..
+        }
+        | Proc::IfFollow {
+            yes: first,
+            no: second,
+            ..
+        } => {
+            let first = add(alloc, first, ops)?;
+            let second = add(alloc, second, ops)?;
+            Ok((first, second))
+        }
+        _ => unreachable!(),
+    }
+}
+
+/// Appends an op whose parts stand before it, and gives its place.
+#[tactic(auto, using(crate::proofs::PlaceLemmas::placed_push, crate::proofs::PlaceLemmas::push_is_at, crate::proofs::PlaceLemmas::extends_itself, crate::proofs::PlaceLemmas::extends_push))]
+fn push(ops: &mut Vec<Op>, op: Op) -> Result<usize, Memory>
+    requires placed { are_placed 0 ops.old.items ≡ true }
+    requires earlier { AreBelow (length ops.old.items) (parts op) }
+    ensures placed { are_placed 0 ops.new.items ≡ true }
+    ensures appended { Extends ops.old.items ops.new.items }
+    ensures stands { IfOk result (λ place.
+        IsAt ops.new.items place (op_process (processes ops.old.items) op)) }
+{
+    let place = ops.len();
+    ops.push(op)?;
+    Ok(place)
+}

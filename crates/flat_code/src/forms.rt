@@ -1,0 +1,197 @@
+//! The forms of an op, each made of copies of what it names.
+
+ghost use Rattle.std.specs.Prelude.{◌≡◌, ◌∷◌, [], IfOk};
+ghost use Rattle.dioc_terms.specs.Expressions.{expression};
+ghost use Rattle.dioc_terms.specs.Processes.{Send, Recv, Assign, Read, IfLead, IfFollow, WhileLead, WhileFollow, ScopeLead, ScopeFollow, Tell, Gather, letters};
+ghost use Rattle.flat_code.specs.Places.{IsForm, at};
+
+use crate::ops::Op;
+use dioc_terms::{Expr, Index, Keys, Memory, Messages, Name, Role, Roles, ScopeHead};
+use std::alloc::Global;
+
+/// Sends the value of the expression.
+pub(crate) fn send(
+    alloc: Global,
+    index: Index,
+    op: &Name,
+    to: &Role,
+    expr: &Expr,
+) -> Result<Op, Memory>
+    ensures { IfOk result (λ form.
+        IsForm form [] (λ done. Send index op.now to.now (expression expr.now))) }
+{
+    Ok(Op::Send {
+        index,
+        op: op.copy(alloc)?,
+        to: to.copy(alloc)?,
+        expr: expr.copy(alloc)?,
+    })
+}
+
+/// Takes a value into the variable.
+pub(crate) fn receive(
+    alloc: Global,
+    index: Index,
+    op: &Name,
+    from: &Role,
+    var: &Name,
+) -> Result<Op, Memory>
+    ensures { IfOk result (λ form.
+        IsForm form [] (λ done. Recv index op.now from.now var.now)) }
+{
+    Ok(Op::Recv {
+        index,
+        op: op.copy(alloc)?,
+        from: from.copy(alloc)?,
+        var: var.copy(alloc)?,
+    })
+}
+
+/// Sets the variable to the value of the expression.
+pub(crate) fn assign(alloc: Global, index: Index, var: &Name, expr: &Expr) -> Result<Op, Memory>
+    ensures { IfOk result (λ form.
+        IsForm form [] (λ done. Assign index var.now (expression expr.now))) }
+{
+    Ok(Op::Assign {
+        index,
+        var: var.copy(alloc)?,
+        expr: expr.copy(alloc)?,
+    })
+}
+
+/// Sets the variable to the next input.
+pub(crate) fn read(alloc: Global, index: Index, var: &Name) -> Result<Op, Memory>
+    ensures { IfOk result (λ form. IsForm form [] (λ done. Read index var.now)) }
+{
+    Ok(Op::Read {
+        index,
+        var: var.copy(alloc)?,
+    })
+}
+
+/// Leads a choice between the processes at two places.
+pub(crate) fn lead_choice(
+    alloc: Global,
+    index: Index,
+    guard: &Expr,
+    others: &Roles,
+    branches: (usize, usize),
+) -> Result<Op, Memory>
+    ensures { IfOk result (λ form. IsForm form (branches.0 ∷ branches.1 ∷ [])
+        (λ done. IfLead index (expression guard.now) others.now (at done branches.0)
+        (at done branches.1))) }
+{
+    Ok(Op::IfLead {
+        index,
+        guard: guard.copy(alloc)?,
+        others: others.copy(alloc)?,
+        yes: branches.0,
+        no: branches.1,
+    })
+}
+
+/// Follows a choice between the processes at two places.
+pub(crate) fn follow_choice(
+    alloc: Global,
+    index: Index,
+    leader: &Role,
+    branches: (usize, usize),
+) -> Result<Op, Memory>
+    ensures { IfOk result (λ form. IsForm form (branches.0 ∷ branches.1 ∷ [])
+        (λ done. IfFollow index leader.now (at done branches.0) (at done branches.1))) }
+{
+    Ok(Op::IfFollow {
+        index,
+        leader: leader.copy(alloc)?,
+        yes: branches.0,
+        no: branches.1,
+    })
+}
+
+/// Leads a loop whose body stands at a place.
+pub(crate) fn lead_loop(
+    alloc: Global,
+    index: Index,
+    guard: &Expr,
+    others: &Roles,
+    body: usize,
+) -> Result<Op, Memory>
+    ensures { IfOk result (λ form. IsForm form (body ∷ [])
+        (λ done. WhileLead index (expression guard.now) others.now (at done body))) }
+{
+    Ok(Op::WhileLead {
+        index,
+        guard: guard.copy(alloc)?,
+        others: others.copy(alloc)?,
+        body,
+    })
+}
+
+/// Follows a loop whose body stands at a place.
+pub(crate) fn follow_loop(
+    alloc: Global,
+    index: Index,
+    leader: &Role,
+    body: usize,
+) -> Result<Op, Memory>
+    ensures { IfOk result (λ form. IsForm form (body ∷ [])
+        (λ done. WhileFollow index leader.now (at done body))) }
+{
+    Ok(Op::WhileFollow {
+        index,
+        leader: leader.copy(alloc)?,
+        body,
+    })
+}
+
+/// Leads a scope whose body stands at a place.
+pub(crate) fn lead_scope(
+    alloc: Global,
+    head: &ScopeHead,
+    others: &Roles,
+    body: usize,
+) -> Result<Op, Memory>
+    ensures { IfOk result (λ form. IsForm form (body ∷ [])
+        (λ done. ScopeLead head.now others.now (at done body))) }
+{
+    Ok(Op::ScopeLead {
+        head: head.copy(alloc)?,
+        others: others.copy(alloc)?,
+        body,
+    })
+}
+
+/// Follows a scope whose body stands at a place.
+pub(crate) fn follow_scope(
+    alloc: Global,
+    index: Index,
+    leader: &Role,
+    body: usize,
+) -> Result<Op, Memory>
+    ensures { IfOk result (λ form. IsForm form (body ∷ [])
+        (λ done. ScopeFollow index leader.now (at done body))) }
+{
+    Ok(Op::ScopeFollow {
+        index,
+        leader: leader.copy(alloc)?,
+        body,
+    })
+}
+
+/// Sends the messages, one after another.
+pub(crate) fn tell(alloc: Global, messages: &Messages) -> Result<Op, Memory>
+    ensures { IfOk result (λ form. IsForm form [] (λ done. Tell (letters messages.now))) }
+{
+    Ok(Op::Tell {
+        messages: messages.copy(alloc)?,
+    })
+}
+
+/// Takes the messages of the keys, one after another.
+pub(crate) fn gather(alloc: Global, keys: &Keys) -> Result<Op, Memory>
+    ensures { IfOk result (λ form. IsForm form [] (λ done. Gather keys.now)) }
+{
+    Ok(Op::Gather {
+        keys: keys.copy(alloc)?,
+    })
+}
