@@ -6,7 +6,7 @@ _aioc() {
     local before=" ${COMP_WORDS[*]:2:COMP_CWORD-2} "
     COMPREPLY=()
     if ((COMP_CWORD == 1)); then
-        COMPREPLY=($(compgen -W 'step check project replay drive resume upgrade mend gen' -- "$word"))
+        COMPREPLY=($(compgen -W 'step check project replay monitor drive resume upgrade mend gen' -- "$word"))
         return
     fi
     case ${COMP_WORDS[COMP_CWORD - 1]} in

@@ -6,6 +6,7 @@ complete -c aioc -n __fish_use_subcommand -a step -d 'print the trace of one run
 complete -c aioc -n __fish_use_subcommand -a check -d 'say whether a bundle is accepted, and how large it is'
 complete -c aioc -n __fish_use_subcommand -a project -d 'print the process of each role'
 complete -c aioc -n __fish_use_subcommand -a replay -d 'judge the trace in a bundle'
+complete -c aioc -n __fish_use_subcommand -a monitor -d 'judge one role by the trace in a bundle'
 complete -c aioc -n __fish_use_subcommand -a drive -d 'find the auxiliary messages of the trace in a bundle'
 complete -c aioc -n __fish_use_subcommand -a resume -d 'go on with the run whose entries stand in a bundle'
 complete -c aioc -n __fish_use_subcommand -a upgrade -d 'write a bundle in version 2'

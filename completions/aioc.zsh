@@ -9,6 +9,7 @@ _aioc() {
         'check:say whether a bundle is accepted, and how large it is'
         'project:print the process of each role'
         'replay:judge the trace in a bundle'
+        'monitor:judge one role by the trace in a bundle'
         'drive:find the auxiliary messages of the trace in a bundle'
         'resume:go on with the run whose entries stand in a bundle'
         'upgrade:write a bundle in version 2'

@@ -20,6 +20,7 @@ one_reply command.Project b reply other built h k = h ∙ sym k
 one_reply command.Replay b reply other built h k = h ∙ sym k
 one_reply command.Upgrade b reply other built h k = h ∙ sym k
 one_reply command.Mend b reply other built h k = h ∙ sym k
+one_reply (command.Monitor role) b reply other built h k = h ∙ sym k
 one_reply (command.Drive options) b reply other built h k = h ∙ sym k
 one_reply (command.Resume options) b reply other built h k = h ∙ sym k
 one_reply (command.Gen number size) b reply other built h k = absurd h

@@ -1,5 +1,5 @@
 -- What the table of calls says by each clause.
-use Rattle.std.proofs.Common.{◌≡◌, ◌⊎◌, ◌↔◌, ℕ, List, [], length, take, Bool, true, false, true≢false, Option, Some, None, IfSome, IsSome, refl, sym, ap, ◌∙◌, subst, inl, inr, ⊎_elim, arith}
+use Rattle.std.proofs.Common.{◌≡◌, ◌⊎◌, ◌↔◌, ℕ, List, [], ◌∷◌, length, take, Bool, true, false, true≢false, Option, Some, None, IfSome, IsSome, refl, sym, ap, ◌∙◌, subst, inl, inr, ⊎_elim, arith}
 use Rattle.std.specs.Prelude.{if◌then◌else◌, option_map}
 use Rattle.std.specs.Option.{option_map_or}
 use Rattle.std.specs.Io.KnownBytes.{Appends, IsAtEnd}
@@ -17,7 +17,12 @@ use Rattle.net_core.specs.Headline.{EveryRun}
 use Rattle.marked_laws.specs.Versions.{RunsReadNoVersion, with_version}
 use Rattle.net_core.specs.Laws.{RunsAreSound, SchedulesReadNoVersion}
 use Rattle.net_drive.specs.ResumedLaws.{ResumedRuns, RunStraysAreExact}
-use Rattle.rule_checks.specs.Refusals.{IsAccepted, refusal}
+use Rattle.dioc_terms.specs.declared.names.Role.{Role}
+use Rattle.dioc_terms.specs.Equality.{member}
+use Rattle.rule_checks.specs.declared.refusals.Refusal.{Refusal}
+use Rattle.rule_checks.specs.declared.refusals.Refusal.TheVariants.{UnknownRole}
+use Rattle.rule_checks.specs.declared.refusals.Where.TheVariants as place
+use Rattle.rule_checks.specs.Refusals.{IsAccepted, first_refusal, refusal, unknown_role}
 use Rattle.mend.specs.Traces.{mended_bundle}
 use Rattle.bundle_mend.specs.Laws.{MendedAccepted}
 use Rattle.bundle_mend.specs.Refusals.{mend_refusal}
@@ -25,8 +30,8 @@ use Rattle.command_words.specs.declared.commands.Options.{Options}
 use Rattle.command_words.specs.declared.commands.Command.{Command}
 use Rattle.command_words.specs.declared.commands.Command.TheVariants as command
 use Rattle.aioc_top.specs.Calls.{Call, Judges, Happens, IsRead, CommandReads, ReadsBy, ReadsNothing, ReadsTo, Says, Writes}
-use Rattle.aioc_top.specs.Replies.{Reply, Replies, drive_reply, is_finished, refusal_of, run_reply, step_history, resume_history, resume_reply, resume_stray, resumed_or_no, replay_reply, line_of_text, check_line, project_text as project_lines, upgrade_text as upgraded, unread_reply, gen_line, gen_reply, gen_history, updates_of}
-use Rattle.aioc_top.specs.Serve.{CheckText, ComesExactly, Complete, GenPrinted, GivesUp, AfterEnd, ReadsToEnd, IsComplete, IsUpgraded, JudgementPrinted, MendText, ProjectText, ReadsAll, ReplayText, ResumePrinted, RunPrinted, SaysWhy, Silent, TextPrinted, UpgradeText, UsageComes, has_printed}
+use Rattle.aioc_top.specs.Replies.{Reply, Replies, drive_reply, monitor_refusal, monitor_reply, is_finished, refusal_of, run_reply, step_history, resume_history, resume_reply, resume_stray, resumed_or_no, replay_reply, line_of_text, check_line, project_text as project_lines, upgrade_text as upgraded, unread_reply, gen_line, gen_reply, gen_history, updates_of}
+use Rattle.aioc_top.specs.Serve.{CheckText, ComesExactly, Complete, GenPrinted, GivesUp, AfterEnd, ReadsToEnd, IsComplete, IsUpgraded, JudgementPrinted, MendText, MonitorText, ProjectText, ReadsAll, ReplayText, ResumePrinted, RunPrinted, SaysWhy, Silent, TextPrinted, UpgradeText, UsageComes, has_printed}
 use Rattle.aioc_top.specs.Verdicts.{Verdict, TooLong, Unspelled, Refused, Replied, MayReply, Cause, Comes, ComesBy, ComesOfText, Refuses, status_of, status_of_end}
 use Rattle.aioc_top.specs.Words.{is_built, IsShort}
 use Rattle.command_words.specs.Commands.{usual_steps}
@@ -420,34 +425,65 @@ project_text formed call s h is prints = text_printed formed command.Project ref
 -- what was printed is the judgement of an accepted bundle's trace, where the command has this reply alone
 module _ (formed : SpelledIsFormed) (wanted : Command) (text : unread_reply wanted ≡ None) (judge : PlainBundle → Reply)
     (only : (b : PlainBundle) (reply : Reply) → Replies wanted b reply → reply ≡ judge b)
-    (runs : (b : PlainBundle) → refusal_of wanted b ≡ option_map MayNotRun (refusal b)) where
+    (runs : (b : PlainBundle) → refusal_of wanted b ≡ None → refusal b ≡ None) where
   pub judged_text : (call : Call) (s : Status) → Happens call s → call.asked ≡ Some wanted → has_printed s ≡ true
-      → JudgementPrinted judge s call.source call.out call.out_after
+      → (judged : JudgementPrinted judge s call.source call.out call.out_after) × (refusal_of wanted judged.bundle ≡ None)
   judged_text call s h is prints =
       let its = reply_told call s prints (told call s (printing s prints) h) in
       let same : its.1.command ≡ wanted = some_same (sym its.1.asked ∙ is) in
       let comes : MayReply wanted its.1.bytes its.0 = subst (λ o. ComesBy o wanted its.1.bytes (Replied its.0)) text (subst (λ c. Comes c its.1.bytes (Replied its.0)) same its.1.comes) in
       let b = comes.bundle in
-      let replies : its.0 ≡ judge b = only b its.0 comes.replies in
-      record {
-        bytes = its.1.bytes;
-        read = (text_read (unread_reply wanted) (Replied its.0) its.1.bytes call.source call.source_after text (reads_by call (Replied its.0) its.1 wanted is)).0;
-        bundle = b;
-        spells = comes.spells;
-        accepted = record { formed = formed its.1.bytes b comes.spells; no_refusal = unrefused MayNotRun (refusal b) (sym (runs b) ∙ comes.accepted) };
-        printed = subst (λ (r : Reply). Appends call.out.taken call.out_after.taken r.text) replies its.3;
-        told = its.2 ∙ ap (λ (r : Reply). status_of_end r.end) replies;
-      }
+      let replies : its.0 ≡ judge b = only b its.0 comes.replies in (
+        record {
+          bytes = its.1.bytes;
+          read = (text_read (unread_reply wanted) (Replied its.0) its.1.bytes call.source call.source_after text (reads_by call (Replied its.0) its.1 wanted is)).0;
+          bundle = b;
+          spells = comes.spells;
+          accepted = record { formed = formed its.1.bytes b comes.spells; no_refusal = runs b comes.accepted };
+          printed = subst (λ (r : Reply). Appends call.out.taken call.out_after.taken r.text) replies its.3;
+          told = its.2 ∙ ap (λ (r : Reply). status_of_end r.end) replies;
+        },
+        comes.accepted,
+      )
 
 pub replay_text : SpelledIsFormed → (call : Call) (s : Status) → Happens call s → ReplayText call.asked s call.source call.out call.out_after
-replay_text formed call s h is prints = judged_text formed command.Replay refl replay_reply (λ b reply e. e) (λ b. refl) call s h is prints
+replay_text formed call s h is prints =
+    (judged_text formed command.Replay refl replay_reply (λ b reply e. e) (λ b. unrefused MayNotRun (refusal b)) call s h is prints).0
+
+-- ---- the judgement of one role
+
+first_none : (first : Option Refusal) (rest : List (Option Refusal)) → first_refusal (first ∷ rest) ≡ None → (first ≡ None) × (first_refusal rest ≡ None)
+first_none None rest h = (refl, h)
+first_none (Some why) rest h = absurd (none_some (sym h))
+
+-- a bundle that isn't refused may run, and has the role in its cast
+monitor_free : (role : Role) (b : PlainBundle) → refusal_of (command.Monitor role) b ≡ None → (refusal b ≡ None) × (unknown_role place.Program b.cast (role ∷ []) ≡ None)
+monitor_free role b h =
+    let unknown = unknown_role place.Program b.cast (role ∷ []) in
+    let first = first_none (refusal b) (unknown ∷ []) (unrefused MayNotRun (monitor_refusal role b) h) in
+    (first.0, (first_none unknown [] first.1).0)
+
+-- a role that isn't unknown is in the cast
+in_cast : (cast : List Role) (role : Role) → unknown_role place.Program cast (role ∷ []) ≡ None → member role cast ≡ true
+in_cast cast role h = by_test (member role cast) refl
+  where
+    by_test : (t : Bool) → member role cast ≡ t → member role cast ≡ true
+    by_test true e = e
+    by_test false e = let why : unknown_role place.Program cast (role ∷ []) ≡ Some (UnknownRole place.Program role) = rw e refl in absurd (none_some (sym h ∙ why))
+
+pub monitor_text : SpelledIsFormed → (call : Call) (s : Status) → Happens call s → MonitorText call.asked s call.source call.out call.out_after
+monitor_text formed call s h role is prints =
+    let its : (judged : JudgementPrinted (monitor_reply role) s call.source call.out call.out_after) × (refusal_of (command.Monitor role) judged.bundle ≡ None) =
+    judged_text formed (command.Monitor role) refl (monitor_reply role) (λ b reply e. e) (λ b none. (monitor_free role b none).0) call s h is prints in
+    let b = its.0.bundle in
+    (its.0, in_cast b.cast role (monitor_free role b its.1).1)
 
 -- ---- a driven trace
 
 pub drive_judged : SpelledIsFormed → (options : Options) (call : Call) (s : Status) → Happens call s → call.asked ≡ Some (command.Drive options)
     → has_printed s ≡ true → JudgementPrinted (drive_reply options) s call.source call.out call.out_after
 drive_judged formed options call s h is prints =
-    judged_text formed (command.Drive options) refl (drive_reply options) (λ b reply e. e) (λ b. refl) call s h is prints
+    (judged_text formed (command.Drive options) refl (drive_reply options) (λ b reply e. e) (λ b. unrefused MayNotRun (refusal b)) call s h is prints).0
 
 -- ---- a resumed run
 
@@ -491,7 +527,7 @@ pub resume_text : ResumedRuns → RunStraysAreExact → SpelledIsFormed → (opt
     → call.asked ≡ Some (command.Resume options) → has_printed s ≡ true → ResumePrinted options s call.source call.out call.out_after
 resume_text resumed strays formed options call s h is prints =
     let judged : JudgementPrinted (resume_reply options) s call.source call.out call.out_after =
-    judged_text formed (command.Resume options) refl (resume_reply options) (λ b reply e. e) (λ b. refl) call s h is prints in
+    (judged_text formed (command.Resume options) refl (resume_reply options) (λ b reply e. e) (λ b. unrefused MayNotRun (refusal b)) call s h is prints).0 in
     by_stray resumed strays options s call.source call.out call.out_after judged (resume_stray options judged.bundle) refl
 
 -- ---- the bundle in its second version

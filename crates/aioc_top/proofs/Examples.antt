@@ -2,15 +2,18 @@
 use Rattle.std.proofs.Common.{◌≡◌, ℕ, List, [], ◌∷◌, ◌++◌, Bool, true, false, Option, Some, None, refl}
 use Rattle.std.specs.Fmt.{digits}
 use Rattle.std.specs.Prelude.{codes}
+use Rattle.dioc_terms.specs.declared.names.Role.{Role}
 use Rattle.dioc_terms.specs.declared.entries.Entry.{Entry}
 use Rattle.dioc_terms.specs.declared.bundles.Last.{Last}
 use Rattle.dioc_terms.specs.declared.bundles.Last.TheVariants as last
 use Rattle.dioc_terms.specs.declared.processes.Tag.TheVariants.{Op}
 use Rattle.dioc_terms.specs.Plain.{PlainBundle}
 use Rattle.net_core.proofs.Examples.{program, hello, hello_run, put, at, val}
+use Rattle.rule_checks.specs.declared.refusals.Refusal.TheVariants.{UnknownRole}
+use Rattle.rule_checks.specs.declared.refusals.Where.TheVariants as place
 use Rattle.command_words.specs.declared.commands.Options.{Options}
 use Rattle.aioc_top.specs.declared.replies.End.TheVariants as end
-use Rattle.aioc_top.specs.Replies.{Reply, run_reply, step_history, check_line, project_text, replay_reply, gen_line, line_of_text}
+use Rattle.aioc_top.specs.Replies.{Reply, run_reply, step_history, check_line, project_text, monitor_refusal, monitor_reply, replay_reply, gen_line, line_of_text}
 
 -- `aioc { hi: a(1) -> b(x) }`
 abbrev greeting : PlainBundle
@@ -85,6 +88,30 @@ replay-no = refl
 replay-nothing : replay_reply greeting ≡ record { end = end.Done; text = line_of_text (codes "yes 0") }
 unfolding digits
 replay-nothing = refl
+
+-- one role judged: the taker's own entry, a put that the sender can't have made, and a role that isn't there
+abbrev called : List ℕ → Role
+called name = record { 0 = name }
+
+monitor-yes : monitor_reply (called (codes "b")) (judged hello_run (Some (last.Ended 7))) ≡ record { end = end.Done; text = line_of_text (codes "yes 1") }
+unfolding digits
+monitor-yes = refl
+
+monitor-no : monitor_reply (called (codes "a")) (judged (put (codes "a") (codes "b") (Op (codes "hi")) (at 0 0) (val 2) ∷ []) None)
+    ≡ record { end = end.No; text = line_of_text (codes "no 1") }
+unfolding digits
+monitor-no = refl
+
+monitor-believes : monitor_reply (called (codes "b")) (judged (put (codes "a") (codes "b") (Op (codes "hi")) (at 0 0) (val 2) ∷ []) None)
+    ≡ record { end = end.Done; text = line_of_text (codes "yes 0") }
+unfolding digits
+monitor-believes = refl
+
+monitor-unknown : monitor_refusal (called (codes "z")) greeting ≡ Some (UnknownRole place.Program (called (codes "z")))
+monitor-unknown = refl
+
+monitor-known : monitor_refusal (called (codes "b")) greeting ≡ None
+monitor-known = refl
 
 gen-line : gen_line 1 3 greeting hello_run 0 ≡ codes "gen 1 3: roles 2, nodes 1, entries 2, visible 2, updates 0, played yes"
 unfolding digits

@@ -1,10 +1,11 @@
 -- What comes of a command and the bytes that were read, from what its parts answered.
-use Rattle.std.proofs.Common.{◌≡◌, ◌≢◌, ◌<◌, ◌≤◌, ℕ, suc, List, length, Option, Some, None, IfSome, Result, Ok, Err, IfOk, IfErr, refl, sym, ap, ◌∙◌, subst, arith}
+use Rattle.std.proofs.Common.{◌≡◌, ◌<◌, ◌≤◌, ℕ, suc, List, length, true, true≢false, Option, Some, None, IfSome, Result, Ok, Err, IfOk, IfErr, refl, sym, ap, ◌∙◌, subst, arith}
 use Rattle.std.specs.Prelude.{option_map, replicate}
 use Rattle.std.proofs.lemmas.List.{length-replicate}
 use Rattle.std.specs.Io.KnownBytes.{IsAtEnd}
 use Rattle.aioc_io.specs.Source.{SourceState}
 use Rattle.limits.specs.Limits.{most_bytes}
+use Rattle.dioc_terms.specs.declared.names.Role.{Role}
 use Rattle.dioc_terms.specs.Plain.{PlainBundle}
 use Rattle.bundle_text.specs.Grammar.{Spells, SpellsNone}
 use Rattle.rule_checks.specs.Answers.{IsRefusalOf}
@@ -18,7 +19,7 @@ use Rattle.marked_laws.proofs.Shapes.{none_some, some_same}
 use Rattle.aioc_top.specs.Calls.{IsRead, ReadsBy, ReadsNothing, ReadsTo}
 use Rattle.aioc_top.specs.Faults.{IsJudgedSo, IsMendRefusalFault, IsRefusalFault, IsRefusedSo, IsSyntaxFault, ReadSo, Stops}
 use Rattle.aioc_top.specs.Reasons.{MayNotRun, CannotBeMended}
-use Rattle.aioc_top.specs.Replies.{Replies, refusal_of, reply_of, mend_text, unread_reply}
+use Rattle.aioc_top.specs.Replies.{Replies, monitor_refusal, refusal_of, reply_of, mend_text, takes_accepted, unread_reply}
 use Rattle.aioc_top.specs.Verdicts.{Verdict, TooLong, Unspelled, Refused, Replied, IsReplied, ComesBy, ComesOfText}
 use Rattle.aioc_top.specs.declared.faults.Fault.{Fault}
 use Rattle.aioc_top.specs.declared.faults.Fault.TheVariants as fault
@@ -43,18 +44,19 @@ syntax_is asked bytes byte fault.WriteFault small none h = absurd h
 syntax_is asked bytes byte fault.TooLong small none h = absurd h
 syntax_is asked bytes byte (fault.Refused line) small none h = absurd h
 
--- each command but `mend` takes what is accepted
-of_others : (asked : Command) (b : PlainBundle) → asked ≢ command.Mend → refusal_of asked b ≡ option_map MayNotRun (refusal b)
-of_others command.Mend b other = absurd (other refl)
+-- a command that takes what is accepted refuses what isn't
+of_others : (asked : Command) (b : PlainBundle) → takes_accepted asked ≡ true → refusal_of asked b ≡ option_map MayNotRun (refusal b)
+of_others command.Mend b other = absurd (true≢false (sym other))
+of_others (command.Monitor role) b other = absurd (true≢false (sym other))
 of_others _ b other = refl
 
-pub accepted_so : (asked : Command) (b : PlainBundle) (written : Written) → asked ≢ command.Mend → IsAccepted b → Replies asked b (reply_of written) → IsReplied asked b written
+pub accepted_so : (asked : Command) (b : PlainBundle) (written : Written) → takes_accepted asked ≡ true → IsAccepted b → Replies asked b (reply_of written) → IsReplied asked b written
 accepted_so asked b written other may replies = record {
   accepted = of_others asked b other ∙ ap (option_map MayNotRun) may.no_refusal;
   replies = replies;
 }
 
-pub refused_so : (asked : Command) (b : PlainBundle) (why : Refusal) (f : Fault) → asked ≢ command.Mend → IsRefusalOf (refusal b) why → IsRefusalFault why f → IsRefusedSo asked b f
+pub refused_so : (asked : Command) (b : PlainBundle) (why : Refusal) (f : Fault) → takes_accepted asked ≡ true → IsRefusalOf (refusal b) why → IsRefusalFault why f → IsRefusedSo asked b f
 refused_so asked b why (fault.Refused line) other told h = (MayNotRun why, of_others asked b other ∙ ap (option_map MayNotRun) (told h.0), h.1)
 refused_so asked b why fault.Memory other told h = h
 refused_so asked b why fault.Usage other told h = absurd h
@@ -62,6 +64,23 @@ refused_so asked b why fault.ReadFault other told h = absurd h
 refused_so asked b why fault.WriteFault other told h = absurd h
 refused_so asked b why fault.TooLong other told h = absurd h
 refused_so asked b why (fault.Syntax line) other told h = absurd h
+
+-- the role is in the cast of a bundle that may run, or it is refused
+pub monitored_so : (role : Role) (b : PlainBundle) (written : Written) → monitor_refusal role b ≡ None → Replies (command.Monitor role) b (reply_of written)
+    → IsReplied (command.Monitor role) b written
+monitored_so role b written none replies = record {
+  accepted = ap (option_map MayNotRun) none;
+  replies = replies;
+}
+
+pub unmonitored_so : (role : Role) (b : PlainBundle) (why : Refusal) (f : Fault) → IsRefusalOf (monitor_refusal role b) why → IsRefusalFault why f → IsRefusedSo (command.Monitor role) b f
+unmonitored_so role b why (fault.Refused line) told h = (MayNotRun why, ap (option_map MayNotRun) (told h.0), h.1)
+unmonitored_so role b why fault.Memory told h = h
+unmonitored_so role b why fault.Usage told h = absurd h
+unmonitored_so role b why fault.ReadFault told h = absurd h
+unmonitored_so role b why fault.WriteFault told h = absurd h
+unmonitored_so role b why fault.TooLong told h = absurd h
+unmonitored_so role b why (fault.Syntax line) told h = absurd h
 
 pub mended_so : (b : PlainBundle) (written : Written) → mend_refusal b ≡ None → reply_of written ≡ record { end = end.Done; text = mend_text b } → IsReplied command.Mend b written
 mended_so b written free replied = record {

@@ -5,6 +5,7 @@ mod Examples
 pub mod Driven
 pub mod FaultLemmas
 pub mod Judged
+pub mod Monitored
 pub mod Printing
 pub mod Resuming
 pub mod Projected

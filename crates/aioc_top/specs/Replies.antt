@@ -21,7 +21,10 @@ use Rattle.net_core.specs.Schedule.{sched, IsPrompt}
 use Rattle.net_drive.specs.Driven.{driven}
 use Rattle.net_drive.specs.Strays.{drive_stray}
 use Rattle.net_drive.specs.Resumed.{resumed_history, run_stray}
-use Rattle.rule_checks.specs.Refusals.{refusal}
+use Rattle.role_monitor.specs.Monitoring.{deviates, own_entries}
+use Rattle.rule_checks.specs.Refusals.{first_refusal, refusal, unknown_role}
+use Rattle.rule_checks.specs.declared.refusals.Refusal.{Refusal}
+use Rattle.rule_checks.specs.declared.refusals.Where.TheVariants as place
 use Rattle.mend.specs.Traces.{mended_bundle}
 use Rattle.bundle_mend.specs.Refusals.{mend_refusal}
 use Rattle.command_words.specs.Commands.{usual_steps}
@@ -115,6 +118,18 @@ judgement b None = if is_too_short b b.trace.last (visible b.trace.entries)
 -- auxiliary entries are passed over, and have numbers all the same
 abbrev pub replay_reply : PlainBundle → Reply
 replay_reply b = judgement b (stray b b.trace.entries)
+
+-- ---- one role judged
+
+-- The judgement of one role by the trace section, from the number of the first entry in which it
+-- deviates: that number, and else how many entries are the role's own.
+abbrev pub role_judgement : Role → PlainBundle → Option ℕ → Reply
+role_judgement role b (Some n) = no n
+role_judgement role b None = yes (length (own_entries role b.trace.entries))
+
+-- each entry of the section has a number, and its last line isn't judged
+abbrev pub monitor_reply : Role → PlainBundle → Reply
+monitor_reply role b = role_judgement role b (deviates b role b.trace.entries)
 
 -- ---- resumed runs
 
@@ -235,10 +250,22 @@ mend_text b = bundle_text (mended_bundle b)
 
 -- ---- all commands
 
+-- the first refusal where one role is to be judged: last that of a role which isn't in the cast
+abbrev pub monitor_refusal : Role → PlainBundle → Option Refusal
+monitor_refusal role b =
+    first_refusal (refusal b ∷ unknown_role place.Program b.cast (role ∷ []) ∷ [])
+
 -- the first reason for which a command refuses a bundle
 abbrev pub refusal_of : Command → PlainBundle → Option Reason
 refusal_of command.Mend b = option_map CannotBeMended (mend_refusal b)
+refusal_of (command.Monitor role) b = option_map MayNotRun (monitor_refusal role b)
 refusal_of _ b = option_map MayNotRun (refusal b)
+
+-- whether the command takes each accepted bundle
+abbrev pub takes_accepted : Command → Bool
+takes_accepted command.Mend = false
+takes_accepted (command.Monitor role) = false
+takes_accepted _ = true
 
 -- What a command may answer to a bundle that it doesn't refuse. A command without a row isn't
 -- defined yet.
@@ -251,6 +278,7 @@ Replies command.Project b reply = reply ≡ record { end = end.Done; text = proj
 Replies command.Replay b reply = reply ≡ replay_reply b
 Replies (command.Drive options) b reply = reply ≡ drive_reply options b
 Replies (command.Resume options) b reply = reply ≡ resume_reply options b
+Replies (command.Monitor role) b reply = reply ≡ monitor_reply role b
 Replies command.Upgrade b reply = reply ≡ record { end = end.Done; text = upgrade_text b }
 Replies command.Mend b reply = reply ≡ record { end = end.Done; text = mend_text b }
 Replies _ b reply = ⊥

@@ -4,7 +4,9 @@ use Rattle.std.specs.Io.KnownBytes.{Appends, IsAtEnd}
 use Rattle.aioc_io.specs.Faults.{Rose}
 use Rattle.aioc_io.specs.Sink.{SinkState, TakesPart}
 use Rattle.aioc_io.specs.Source.{SourceState}
+use Rattle.dioc_terms.specs.declared.names.Role.{Role}
 use Rattle.dioc_terms.specs.declared.entries.Entry.{Entry}
+use Rattle.dioc_terms.specs.Equality.{member}
 use Rattle.dioc_terms.specs.Messages.{visible}
 use Rattle.dioc_terms.specs.Plain.{PlainBundle}
 use Rattle.limits.specs.Limits.{most_bytes}
@@ -29,7 +31,7 @@ use Rattle.aioc_top.specs.Calls.{IsRead, ReadsNothing, SaysLine}
 use Rattle.aioc_top.specs.Judging.{is_cut_short}
 use Rattle.aioc_top.specs.Messages.{usage_line, read_fault_line, write_fault_line, too_long_line, memory_line, syntax_line, refusal_line}
 use Rattle.aioc_top.specs.Reasons.{Reason}
-use Rattle.aioc_top.specs.Replies.{Reply, Replies, drive_history, drive_reply, is_finished, refusal_of, run_reply, step_history, resume_history, resume_reply, resume_stray, line_of_text, check_line, project_text, replay_reply, trace_stray, upgrade_text, mend_text, unread_reply, gen_line, gen_history}
+use Rattle.aioc_top.specs.Replies.{Reply, Replies, drive_history, drive_reply, is_finished, refusal_of, run_reply, step_history, resume_history, resume_reply, resume_stray, line_of_text, check_line, project_text, monitor_reply, replay_reply, trace_stray, upgrade_text, mend_text, unread_reply, gen_line, gen_history}
 use Rattle.aioc_top.specs.Verdicts.{Replied, Comes, Cause, Refuses, status_of_end}
 use Rattle.aioc_top.specs.declared.status.Status.{Status}
 use Rattle.aioc_top.specs.declared.status.Status.TheVariants as status
@@ -114,6 +116,13 @@ abbrev pub ReplayText : Option Command → Status → SourceState → SinkState 
 ReplayText asked result source out out_after =
     asked ≡ Some command.Replay → has_printed result ≡ true
     → JudgementPrinted replay_reply result source out out_after
+
+-- with `monitor` that of one role, which is in the cast
+abbrev pub MonitorText : Option Command → Status → SourceState → SinkState → SinkState → Type 0
+MonitorText asked result source out out_after =
+    (role : Role) → asked ≡ Some (command.Monitor role) → has_printed result ≡ true
+    → (judged : JudgementPrinted (monitor_reply role) result source out out_after)
+    × (member role judged.bundle.cast ≡ true)
 
 -- the run was printed that goes on from the entries of the trace section, with its headline; or
 -- `no` with the number of the first of them that the network can't do

@@ -15,6 +15,7 @@ is_built command.Upgrade = true
 is_built command.Mend = true
 is_built (command.Drive options) = true
 is_built (command.Resume options) = true
+is_built (command.Monitor role) = true
 is_built (command.Gen number size) = true
 is_built _ = false
 

@@ -4,6 +4,7 @@ pub mod check;
 pub mod drive;
 pub mod generate;
 pub mod mending;
+pub mod monitor;
 pub mod project;
 pub mod replay;
 pub mod resume;

@@ -1,18 +1,19 @@
 //! From the bytes of a bundle to the reply of a command, or to why there is none.
 
-ghost use Rattle.std.specs.Prelude.{◌≡◌, ◌≢◌, ◌≤◌, length, None, IfErr, IfOk};
+ghost use Rattle.std.specs.Prelude.{◌≡◌, ◌≤◌, length, true, None, IfErr, IfOk};
 ghost use Rattle.dioc_terms.specs.Bundles.{IsFormed};
 ghost use Rattle.limits.specs.Limits.{most_bytes};
 ghost use Rattle.dioc_terms.specs.Plain.{plain};
 ghost use Rattle.rule_checks.specs.Refusals.{IsAccepted};
 ghost use Rattle.aioc_top.specs.Faults.{IsJudgedSo, IsMendRefusalFault, IsRefusalFault, IsSyntaxFault, IsRefusedSo};
-ghost use Rattle.aioc_top.specs.Replies.{Replies, reply_of, unread_reply};
+ghost use Rattle.aioc_top.specs.Replies.{Replies, reply_of, takes_accepted, unread_reply};
 ghost use Rattle.aioc_top.specs.Verdicts.{ComesOfText, Replied, IsReplied};
 ghost use Rattle.aioc_top.specs.Words.{IsServed};
 
 use crate::commands::check::check;
 use crate::commands::drive::drive;
 use crate::commands::mending::mend;
+use crate::commands::monitor::{accept_role, monitor};
 use crate::commands::project::project;
 use crate::commands::replay::replay;
 use crate::commands::resume::resume;
@@ -23,7 +24,7 @@ use crate::replies::Written;
 use bundle_mend::MendRefusal;
 use bundle_text::read_bundle;
 use command_words::Command;
-use dioc_terms::{Bundle, Memory, SyntaxFault};
+use dioc_terms::{Bundle, Memory, Role, SyntaxFault};
 use rule_checks::{Refusal, accept};
 use std::alloc::Global;
 
@@ -62,6 +63,7 @@ fn reply_to(alloc: Global, command: &Command, bundle: &mut Bundle) -> Result<Wri
 {
     match command {
         Command::Mend => reply_mended(alloc, bundle),
+        Command::Monitor(role) => reply_monitored(alloc, role, bundle),
         _ => reply_accepted(alloc, command, bundle),
     }
 }
@@ -90,12 +92,28 @@ fn mend_refusal_fault(alloc: Global, refusal: &MendRefusal) -> Fault
     }
 }
 
+// What `monitor` replies to a formed bundle, or the first refusal, where that of a role that isn't
+// in the cast comes last.
+fn reply_monitored(alloc: Global, role: &Role, bundle: &Bundle) -> Result<Written, Fault>
+    requires formed { IsFormed (plain bundle.now) }
+    ensures reply { IfOk result (IsReplied (Command.Monitor role.now) (plain bundle.now)) }
+    ensures fault { IfErr result (IsRefusedSo (Command.Monitor role.now) (plain bundle.now)) }
+{
+    match accept_role(alloc, role, bundle) {
+        Ok(()) => match monitor(alloc, role, bundle) {
+            Ok(written) => Ok(written),
+            Err(Memory) => Err(Fault::Memory),
+        },
+        Err(refusal) => Err(refusal_fault(alloc, &refusal)),
+    }
+}
+
 // What a command that takes accepted bundles replies to a formed bundle, or the first refusal of
 // the bundle.
 fn reply_accepted(alloc: Global, command: &Command, bundle: &mut Bundle) -> Result<Written, Fault>
     requires served { IsServed command.now }
     requires reads { unread_reply command.now ≡ None }
-    requires other { command.now ≢ Command.Mend }
+    requires other { takes_accepted command.now ≡ true }
     requires formed { IsFormed (plain bundle.old) }
     ensures reply { IfOk result (IsReplied command.now (plain bundle.old)) }
     ensures fault { IfErr result (IsRefusedSo command.now (plain bundle.old)) }
@@ -125,7 +143,7 @@ fn refusal_fault(alloc: Global, refusal: &Refusal) -> Fault
 fn do_command(alloc: Global, command: &Command, bundle: &mut Bundle) -> Result<Written, Memory>
     requires served { IsServed command.now }
     requires reads { unread_reply command.now ≡ None }
-    requires other { command.now ≢ Command.Mend }
+    requires other { takes_accepted command.now ≡ true }
     requires accepted { IsAccepted (plain bundle.old) }
     ensures { IfOk result (λ written. Replies command.now (plain bundle.old) (reply_of written)) }
 {

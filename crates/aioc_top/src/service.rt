@@ -14,7 +14,7 @@ ghost use Rattle.net_drive.specs.ResumedLaws.{ResumedRuns, RunStraysAreExact};
 ghost use Rattle.aioc_top.specs.Calls.{Happens, PrintsReply, SaysLine};
 ghost use Rattle.aioc_top.specs.Faults.{line_of, status_of};
 ghost use Rattle.aioc_top.specs.Replies.{reply_of};
-ghost use Rattle.aioc_top.specs.Serve.{CheckText, ComesExactly, Complete, DriveText, GenText, HeadlineHolds, MendText, ProjectText, ReadsAll, ReplayText, ResumeText, SaysWhy, Silent, StepText, UpgradeText, UsageComes};
+ghost use Rattle.aioc_top.specs.Serve.{CheckText, ComesExactly, Complete, DriveText, GenText, HeadlineHolds, MendText, MonitorText, ProjectText, ReadsAll, ReplayText, ResumeText, SaysWhy, Silent, StepText, UpgradeText, UsageComes};
 ghost use Rattle.aioc_top.specs.Words.{asked, IsServed};
 ghost use Rattle.command_words.specs.Commands.{word_texts};
 
@@ -55,15 +55,17 @@ pub fn serve_alone<S: Source, O: Sink, E: Sink>(
         (O.state out.old) (O.state out.new) }
 
     // With `check` the line that says how large the bundle is, with `project` a line for each role,
-    // with `replay` the judgement of the trace, with `drive` the run that shows exactly this trace,
-    // with `resume` the run that goes on from its entries, with `upgrade` the bundle in its second
-    // version, with `mend` the bundle connected by added messages, with `gen` the line of the
-    // bundle that is made of its numbers.
+    // with `replay` the judgement of the trace, with `monitor` that of one role, with `drive` the
+    // run that shows exactly this trace, with `resume` the run that goes on from its entries, with
+    // `upgrade` the bundle in its second version, with `mend` the bundle connected by added
+    // messages, with `gen` the line of the bundle that is made of its numbers.
     ensures check_text { CheckText (asked (word_texts words.now)) result (S.state source.old)
         (O.state out.old) (O.state out.new) }
     ensures project_text { ProjectText (asked (word_texts words.now)) result (S.state source.old)
         (O.state out.old) (O.state out.new) }
     ensures replay_text { ReplayText (asked (word_texts words.now)) result (S.state source.old)
+        (O.state out.old) (O.state out.new) }
+    ensures monitor_text { MonitorText (asked (word_texts words.now)) result (S.state source.old)
         (O.state out.old) (O.state out.new) }
     ensures drive_text { DriveText (asked (word_texts words.now)) result (S.state source.old)
         (O.state out.old) (O.state out.new) }

@@ -38,7 +38,7 @@ fn is_built(command: &Command) -> bool
         Command::Step(_) | Command::Drive(_) | Command::Resume(_) => true,
         Command::Check | Command::Project | Command::Replay => true,
         Command::Upgrade | Command::Mend => true,
-        Command::Gen { .. } => true,
+        Command::Monitor(_) | Command::Gen { .. } => true,
         _ => false,
     }
 }

@@ -125,3 +125,29 @@ take a -> b hi#0.0 x
 stopped 2
 }
 "#;
+
+/// A run in which each of two roles leads a scope that a rule replaces, with all its entries.
+pub const JUDGED: &[u8] = br#"aioc { scope @a { o: a(1) -> b(x) }; scope @b { p: b(2) -> a(y) } }
+rules { rule r { on { true } do { q: a(3) -> b(x) } } }
+trace {
+scope a #0.0 rule r as 1
+put a -> b !begin#0.0 = part 1
+put a -> b q#1.0 = 3
+take a -> b !begin#0.0
+take a -> b q#1.0 x
+put b -> a !end#0.0 = done
+take b -> a !end#0.0
+put a -> b !out#0.0 = done
+take a -> b !out#0.0
+scope b #0.2 rule r as 2
+put b -> a !begin#0.2 = part 2
+take b -> a !begin#0.2
+put a -> b q#2.0 = 3
+put a -> b !end#0.2 = done
+take a -> b q#2.0 x
+take a -> b !end#0.2
+put b -> a !out#0.2 = done
+take b -> a !out#0.2
+ended 18
+}
+"#;

@@ -1,7 +1,9 @@
 //! Each command twice over the same input: at most one request for memory is refused, so that one
 //! of the two answers is whole, and tells what the other may be.
 
-use crate::bundles::{BUYER_SELLER, BUYER_SELLER_TRACE, DRAFT, EVERY_FORM, PLAYED, STOPPED};
+use crate::bundles::{
+    BUYER_SELLER, BUYER_SELLER_TRACE, DRAFT, EVERY_FORM, JUDGED, PLAYED, STOPPED,
+};
 use crate::calls::{Outcome, is_whole, may_end_so, serve};
 use aioc_top::Status;
 use std::alloc::AllocError;
@@ -91,6 +93,12 @@ fn refused_resume(rt: HostRuntime) -> Result<(), Fail> {
 #[test]
 fn refused_drive(rt: HostRuntime) -> Result<(), Fail> {
     assert!(rt; end_as_they_may(&rt, &["drive"], PLAYED, Status::Done));
+    Ok(())
+}
+
+#[test]
+fn refused_monitor(rt: HostRuntime) -> Result<(), Fail> {
+    assert!(rt; end_as_they_may(&rt, &["monitor", "b"], JUDGED, Status::Done));
     Ok(())
 }
 

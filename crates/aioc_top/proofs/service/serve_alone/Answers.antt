@@ -19,6 +19,9 @@ returns-clause-project_text g c = clauses.project_text c.know_laws.ensures.forme
 pub returns-clause-replay_text : goal.returns-clause-replay_text
 returns-clause-replay_text g c = clauses.replay_text c.know_laws.ensures.formed _ c.do_words.result c.do_words.ensures
 
+pub returns-clause-monitor_text : goal.returns-clause-monitor_text
+returns-clause-monitor_text g c = clauses.monitor_text c.know_laws.ensures.formed _ c.do_words.result c.do_words.ensures
+
 pub returns-clause-upgrade_text : goal.returns-clause-upgrade_text
 returns-clause-upgrade_text g c =
     clauses.upgrade_text c.know_laws.ensures.written c.know_laws.ensures.runs c.know_laws.ensures.schedules c.know_laws.ensures.formed _ c.do_words.result c.do_words.ensures
