@@ -88,6 +88,13 @@ impl<R: Runs> Net<R> {
         &self.history
     }
 
+    /// The history, without the network.
+    pub fn into_history(self) -> History
+        ensures { result.entries ≡ self.history }
+    {
+        self.history
+    }
+
     /// How many entries there may be.
     pub fn limit(&self) -> u64
         ensures { result ≡ self.now.limit }
