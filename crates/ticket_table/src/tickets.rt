@@ -86,8 +86,8 @@ impl Tickets {
             .join_seat::<BothDrawers>(&mut drawer.token, token);
     }
 
-    /// Ends the tickets, where one drawer stands for all. The answer is how many tickets were drawn:
-    /// each below it stands just once among those of the drawer, and no other does.
+    /// Ends the tickets, where one drawer stands for all. The answer is how many tickets were
+    /// drawn: each below it stands just once among those of the drawer, and no other does.
     pub fn close(self, drawer: Drawer) -> u64
         requires of { IsDrawerOf self drawer }
         requires all { parts_of drawer ≡ all_parts self }
