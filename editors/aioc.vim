@@ -67,7 +67,7 @@ syn match aiocRule "\(\<\%(add\|drop\)\s\+\)\@<=\a\w*\>"
 syn match aiocChange "\<\%(add\|drop\)\>\ze\s\+\a"
 syn match aiocChange "\<after\>\ze\s\+\d"
 syn match aiocChange "\<env\>\ze\s\+\a\w*\s*="
-syn match aiocSection "\<\%(rules\|env\|inputs\|script\|trace\|roles\)\>\ze\s*{"
+syn match aiocSection "\<\%(rules\|env\|inputs\|script\|trace\|session\|roles\)\>\ze\s*{"
 syn match aiocSection "\<\%(version\|priority\)\>\ze\s*-\?\s*\d"
 syn match aiocRule "\(\<rule\s\+\)\@<=\a\w*\>"
 
