@@ -1,0 +1,4 @@
+pub mod Sent
+pub mod Lists
+pub mod Placing
+pub mod Gathering

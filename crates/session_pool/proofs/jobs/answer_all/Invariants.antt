@@ -1,0 +1,14 @@
+-- Each session that was claimed so far was answered.
+use Rattle.std.proofs.Common.{◌≡◌, ◌≤◌, ◌-◌, length}
+use Rattle.std.specs.List.{AllByRecursion}
+use Rattle.ticket_table.specs.Words.{IsDrawerOf, drawn_by, parts_of}
+use Rattle.session_pool.specs.Jobs.{IsRight, expected, numbers_of}
+use Rattle.session_pool.proofs.jobs.answer_all.Given as goal
+
+abbrev pub invariant-sessions : goal.invariant-sessions
+invariant-sessions g l =
+    IsDrawerOf l.tickets l.drawer × (parts_of l.drawer ≡ 1) × (drawn_by l.drawer ≡ numbers_of l.answers.items)
+    × (length l.answers.items ≤ length l.order.bundles.now) × AllByRecursion (IsRight (expected l.order)) l.answers.items
+
+abbrev pub decreases-sessions : goal.decreases-sessions
+decreases-sessions g l = length l.order.bundles.now - length l.answers.items

@@ -1,0 +1,60 @@
+//! What one session is answered.
+
+ghost use Rattle.std.specs.Prelude.{◌≡◌, ◌≤◌, IfOk};
+ghost use Rattle.dioc_terms.specs.Bundles.{IsFormed};
+ghost use Rattle.dioc_terms.specs.Plain.{plain};
+ghost use Rattle.rule_checks.specs.Refusals.{IsAccepted};
+ghost use Rattle.session_pool.specs.Answers.{answer_of, answer_seen};
+
+use dioc_terms::{Bundle, Memory};
+use dpoc_process::RoleState;
+use net_core::accepted_is_sound;
+use role_network::Net;
+use rule_checks::{Refusal, accept};
+use schedule::run_seeded;
+use std::alloc::Global;
+use trace_book::History;
+
+/// What a session is answered.
+#[derive(Debug, Drop)]
+pub enum Answer {
+    /// Its bundle was run: the history, and whether the network has ended. Where it hasn't, the
+    /// history has as many entries as it may.
+    Ran { history: History, ended: bool },
+    /// Its bundle may not run, for this refusal, which is never `Memory`.
+    Refused(Refusal),
+}
+
+/// The answer of the session of a bundle.
+pub fn answer_session(
+    alloc: Global,
+    bundle: &Bundle,
+    seed: Option<u64>,
+    limit: u64,
+) -> Result<Answer, Memory>
+    requires formed { IsFormed (plain bundle.now) }
+    requires limit { limit ≤ 4294967295 }
+    ensures { IfOk result
+        (λ answer. answer_seen answer ≡ answer_of (plain bundle.now) seed limit) }
+{
+    match accept(alloc, bundle) {
+        Ok(()) => run(alloc, bundle, seed, limit),
+        Err(Refusal::Memory) => Err(Memory),
+        Err(refusal) => Ok(Answer::Refused(refusal)),
+    }
+}
+
+/// The run of a bundle that may run.
+fn run(alloc: Global, bundle: &Bundle, seed: Option<u64>, limit: u64) -> Result<Answer, Memory>
+    requires accepted { IsAccepted (plain bundle.now) }
+    requires limit { limit ≤ 4294967295 }
+    ensures { IfOk result
+        (λ answer. answer_seen answer ≡ answer_of (plain bundle.now) seed limit) }
+{
+    accepted_is_sound();
+    let mut net: Net<RoleState> = Net::start(alloc, bundle, limit)?;
+    run_seeded(&mut net, seed)?;
+    let ended = net.is_ended();
+    let history = net.into_history();
+    Ok(Answer::Ran { history, ended })
+}
