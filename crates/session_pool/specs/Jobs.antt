@@ -27,7 +27,8 @@ IsRight answers numbered = slice_get answers numbered.number ≡ Some (answer_se
 abbrev pub numbers_of : List Numbered → List ℕ
 numbers_of answers = map (λ (numbered : Numbered). numbered.number) answers
 
--- each session that was claimed was answered, but for the last claim, which was past the last session
+-- each session that was claimed was answered, but for the last claim, which was past the last
+-- session
 pub record HasWorked (answers : List PlainAnswer) (claims : List ℕ) (kept : List Numbered) :
     Type 0 where
   pub last : ℕ

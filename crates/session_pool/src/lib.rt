@@ -10,3 +10,6 @@ mod watch;
 pub use answers::Answer;
 pub use sessions::run_sessions;
 pub use watch::{OpenWatch, Watch};
+
+#[cfg(test)]
+mod tests;

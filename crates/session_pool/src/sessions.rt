@@ -19,13 +19,13 @@ use std::sync::Wait;
 use std::thread::Threads;
 use ticket_table::{Drawer, Tickets};
 
-/// Runs each bundle by itself, in as many threads as there are workers, and gives the answers in the
-/// order of the bundles. An answer is the first refusal of its bundle, or else the run that the
+/// Runs each bundle by itself, in as many threads as there are workers, and gives the answers in
+/// the order of the bundles. An answer is the first refusal of its bundle, or else the run that the
 /// schedule takes of it, without a seed the first move each time and with one by its numbers, to at
 /// most `limit` entries. So it depends neither on the number of workers nor on the other bundles.
 ///
-/// The workers claim the bundles by their numbers, and `watch` is told of each claim. The call waits
-/// where the watch does. `Err` is want of memory.
+/// The workers claim the bundles by their numbers, and `watch` is told of each claim. The call
+/// waits where the watch does. `Err` is want of memory.
 pub fn run_sessions<W: Watch + Sync, R: Threads + Wait + Sync>(
     rt: &R,
     alloc: Global,
