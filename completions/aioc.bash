@@ -6,15 +6,16 @@ _aioc() {
     local before=" ${COMP_WORDS[*]:2:COMP_CWORD-2} "
     COMPREPLY=()
     if ((COMP_CWORD == 1)); then
-        COMPREPLY=($(compgen -W 'step check project replay monitor drive resume upgrade mend gen' -- "$word"))
+        COMPREPLY=($(compgen -W 'step check project replay monitor drive resume upgrade mend sessions gen' -- "$word"))
         return
     fi
     case ${COMP_WORDS[COMP_CWORD - 1]} in
-    --seed | --steps | =) return ;; # a number stands here
+    --seed | --steps | --workers | =) return ;; # a number stands here
     esac
     case ${COMP_WORDS[1]} in
     step | resume) options='--seed --steps --aux --json' ;;
     drive) options='--steps' ;;
+    sessions) options='--workers --seed --steps' ;;
     esac
     for it in $options; do
         [[ $before == *" $it "* ]] || left+=" $it"

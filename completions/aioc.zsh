@@ -14,6 +14,7 @@ _aioc() {
         'resume:go on with the run whose entries stand in a bundle'
         'upgrade:write a bundle in version 2'
         'mend:add messages until each sequence is linked'
+        'sessions:run many bundles on a pool of workers'
         'gen:make a bundle by a number and a size, run it, and print a summary'
     )
     if ((CURRENT == 2)); then
@@ -32,6 +33,12 @@ _aioc() {
         ;;
     drive)
         _arguments '--steps=[allow so many visible entries]:number: '
+        ;;
+    sessions)
+        _arguments \
+            '--workers=[let so many workers run them]:number: ' \
+            '--seed=[take steps by the sequence of this number]:number: ' \
+            '--steps=[stop each after so many entries]:number: '
         ;;
     resume)
         _arguments \

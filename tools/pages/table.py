@@ -1,8 +1,12 @@
-"""The table of cases, as far as it calls the program: `serve_alone WORD..: TEXT`, and the answer below it."""
+"""The table of cases, as far as it calls the program: `serve_alone WORD..: TEXT`, and the answer below it; `serve` where the command
+has threads."""
 import re
 
 TABLE = "crates/service_cases/stdout"
 TABLES = (TABLE, "crates/aioc_cases/stdout")
+
+# The commands that have threads.
+THREADED = ("sessions",)
 
 
 def read(path):
@@ -48,6 +52,11 @@ class Row:
         return int(self.said("code")[0])
 
 
+def call_of(words):
+    """The call of the program for these words."""
+    return "serve" if words and words[0] in THREADED else "serve_alone"
+
+
 def read_rows():
     rows, row = [], None
     for line in read(TABLE).split("\n"):
@@ -58,7 +67,7 @@ def read_rows():
         else:
             head, _, text = line.partition(":")
             words = head.split(" ")
-            row = Row(words[1:], without_space(text)) if words[0] == "serve_alone" else None
+            row = Row(words[1:], without_space(text)) if words[0] == call_of(words[1:]) else None
             rows += [row] if row else []
     return rows
 
@@ -79,7 +88,7 @@ def find(rows, words, text):
 
 def print_row(words, text, lines):
     """A row for the table; the letters `?` are for the one who works out the answer."""
-    print(f"serve_alone {' '.join(words)}:" if words else "serve_alone:")
+    print(f"{' '.join([call_of(words), *words])}:")
     for line in lines_of(text):
         print(f"| {line}" if line else "|")
     print("  code ?")

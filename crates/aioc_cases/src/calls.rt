@@ -19,13 +19,20 @@ mod words;
 
 use case_tables::{Answers, Case, Problem};
 use std::alloc::Global;
+use std::sync::Wait;
+use std::thread::Threads;
 
 /// The calls of this program.
 #[derive(Clone, Copy, Debug)]
 pub struct TextCalls;
 
 impl Answers for TextCalls {
-    fn answer(&self, alloc: Global, case: &Case) -> Result<Vec<u8>, Problem> {
+    fn answer<R: Threads + Wait + Sync>(
+        &self,
+        _rt: &R,
+        alloc: Global,
+        case: &Case,
+    ) -> Result<Vec<u8>, Problem> {
         let mut out = Vec::new(alloc);
         let is_answered = answer_piece(alloc, case, &mut out)?
             || answer_choreography(alloc, case, &mut out)?

@@ -3,7 +3,7 @@
 #![tactic(auto)]
 
 use aioc_io::{StdSink, StdSource};
-use aioc_top::{Status, serve_alone};
+use aioc_top::{Status, serve};
 use std::process::ExitCode;
 use std::{env, io};
 
@@ -23,7 +23,7 @@ fn main(rt: HostRuntime) -> ExitCode {
             let mut source = StdSource::new(rt.stdin());
             let mut out = StdSink::new(rt.stdout());
             let mut err = StdSink::new(rt.stderr());
-            serve_alone(rt.alloc(), &words, &mut source, &mut out, &mut err)
+            serve(&rt, rt.alloc(), &words, &mut source, &mut out, &mut err)
         }
         Err(_) => Status::Memory,
     };

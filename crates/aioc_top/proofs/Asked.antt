@@ -1,19 +1,20 @@
 -- Words ask for commands that are built, and for no others; and for no longer runs than they can say.
-use Rattle.std.proofs.Common.{◌≡◌, ◌≤◌, ℕ, List, [], ◌∷◌, Bool, true, false, ◌&&◌, Option, Some, None, refl, ap, ◌∙◌, subst, arith}
+use Rattle.std.proofs.Common.{◌≡◌, ◌≤◌, ℕ, List, [], ◌∷◌, Bool, true, false, true≢false, ◌≢◌, ◌&&◌, ◌||◌, Option, Some, None, refl, sym, ap, ◌∙◌, subst, arith}
 use Rattle.std.specs.Prelude.{option_map, option_and_then, unwrap_or, nat_le, codes, if◌then◌else◌}
-use Rattle.std.specs.List.{list_all}
-use Rattle.std.specs.Str.{is_utf8}
+use Rattle.std.specs.List.{find, list_all}
+use Rattle.std.specs.Str.{bytes_eq, is_utf8}
 use Rattle.std.specs.Str.Parse.{digits_value}
-use Rattle.std.proofs.lemmas.Bool.{leb-true}
+use Rattle.std.proofs.lemmas.Bool.{leb-true, or_parts}
 use Rattle.marked_laws.proofs.Shapes.{none_some, some_same}
 use Rattle.command_words.specs.Words.{Text, text_of, given_by}
-use Rattle.command_words.specs.Commands.{Texts, command_of, named_first, command_by, command_with, options_of, monitor_by, number_or, number_within, optional_number, are_digits, known_options, positional_names, verb_of, most_steps, usual_steps, most_seed}
+use Rattle.command_words.specs.Commands.{Texts, command_of, named_first, command_by, command_with, options_of, monitor_by, number_or, number_within, optional_number, are_digits, known_options, positional_names, name_of, verb_of, verbs, most_steps, usual_steps, most_seed}
 use Rattle.command_words.specs.declared.commands.Options.{Options}
 use Rattle.command_words.specs.declared.commands.Command.{Command}
 use Rattle.command_words.specs.declared.commands.Command.TheVariants as command
 use Rattle.command_words.specs.declared.commands.Verb.{Verb}
 use Rattle.command_words.specs.declared.commands.Verb.TheVariants.{Run, Step, Check, Project, Replay, Gen, Upgrade, Mend, Drive, Resume, Monitor, Sessions}
-use Rattle.aioc_top.specs.Words.{asked, is_built, IsShort, IsServed}
+use Rattle.aioc_top.specs.Words.{asked, is_built, is_threaded, IsShort, IsServed}
+use Rattle.aioc_top.specs.Replies.{session_options}
 
 -- where a chain of two answers something, the first answered
 first_answered : {A B : Type 0} (f : A → Option B) (o : Option A) (y : B) → option_and_then f o ≡ Some y → (x : A) × (o ≡ Some x) × (f x ≡ Some y)
@@ -74,6 +75,23 @@ module _ (verb : Verb) (texts : Texts) (few : usual_steps verb ≤ most_steps ve
       subst (λ m. m ≤ most_steps verb) (ap (λ (o : Options). o.steps) workers.2)
       (given_or_usual (usual_steps verb) 1 (most_steps verb) (texts (codes "steps")) steps.0 few steps.1)
 
+-- a number that may be left out lies in its bounds
+number_bounds : (usual least most : ℕ) (text : Option Text) (n : ℕ) → least ≤ usual → usual ≤ most → number_or usual least most text ≡ Some n → (least ≤ n) × (n ≤ most)
+number_bounds usual least most None n more few h = (subst (λ m. least ≤ m) (some_same h) more, subst (λ m. m ≤ most) (some_same h) few)
+number_bounds usual least most (Some text) n more few h =
+    let first = answered (λ number. unwrap_or number usual) (option_map Some (number_within least most text)) n h in
+    let second = answered Some (number_within least most text) first.0 first.1 in
+    let same : second.0 ≡ n = ap (λ o. unwrap_or o usual) second.2 ∙ first.2 in
+    (subst (λ m. least ≤ m) same (at_least least most text second.0 second.1), subst (λ m. m ≤ most) same (within least most text second.0 second.1))
+
+some_workers : (verb : Verb) (texts : Texts) (options : Options) → options_of verb texts ≡ Some options → (1 ≤ options.workers) × (options.workers ≤ 16)
+some_workers verb texts options h =
+    let seed = first_answered _ (optional_number 0 most_seed (texts (codes "seed"))) options h in
+    let steps = first_answered _ (number_or (usual_steps verb) 1 (most_steps verb) (texts (codes "steps"))) options seed.2 in
+    let workers = answered _ (number_or 4 1 16 (texts (codes "workers"))) options steps.2 in
+    subst (λ m. (1 ≤ m) × (m ≤ 16)) (ap (λ (o : Options). o.workers) workers.2)
+    (number_bounds 4 1 16 (texts (codes "workers")) workers.0 (omega arith) (omega arith) workers.1)
+
 short_with : (verb : Verb) (texts : Texts) (found : Command) → command_with verb texts ≡ Some found → IsShort found
 short_with Step texts found h =
     let its = answered command.Step (options_of Step texts) found h in
@@ -85,7 +103,10 @@ short_with Drive texts found h =
 short_with Resume texts found h =
     let its = answered command.Resume (options_of Resume texts) found h in
     subst IsShort its.2 (bounded Resume texts (omega arith) its.0 its.1)
-short_with Sessions texts found h = let its = answered command.Sessions (options_of Sessions texts) found h in subst IsShort its.2 tt
+short_with Sessions texts found h =
+    let its = answered command.Sessions (options_of Sessions texts) found h in
+    let workers = some_workers Sessions texts its.0 its.1 in
+    subst IsShort its.2 (bounded Sessions texts (omega arith) its.0 its.1, workers.0, workers.1)
 short_with Check texts found h = subst IsShort (some_same h) tt
 short_with Project texts found h = subst IsShort (some_same h) tt
 short_with Replay texts found h = subst IsShort (some_same h) tt
@@ -123,3 +144,57 @@ asked_served words found h = record {
   built = (found_of words found h).1;
   short = short words found (found_of words found h).0;
 }
+
+-- ---- words whose first is no word of threads ask for no command of theirs
+
+single_with : (verb : Verb) (texts : Texts) (found : Command) → verb ≢ Sessions → command_with verb texts ≡ Some found → session_options found ≡ None
+single_with Sessions texts found other h = absurd (other refl)
+single_with Run texts found other h = let its = answered command.Run (options_of Run texts) found h in ap session_options (sym its.2)
+single_with Step texts found other h = let its = answered command.Step (options_of Step texts) found h in ap session_options (sym its.2)
+single_with Drive texts found other h = let its = answered command.Drive (options_of Drive texts) found h in ap session_options (sym its.2)
+single_with Resume texts found other h = let its = answered command.Resume (options_of Resume texts) found h in ap session_options (sym its.2)
+single_with Check texts found other h = ap session_options (sym (some_same h))
+single_with Project texts found other h = ap session_options (sym (some_same h))
+single_with Replay texts found other h = ap session_options (sym (some_same h))
+single_with Upgrade texts found other h = ap session_options (sym (some_same h))
+single_with Mend texts found other h = ap session_options (sym (some_same h))
+single_with Gen texts found other h =
+    let number = first_answered _ (option_and_then (number_within 0 most_seed) (texts (codes "number"))) found h in
+    let size = answered _ (option_and_then (number_within 1 400) (texts (codes "size"))) found number.2 in
+    ap session_options (sym size.2)
+single_with Monitor texts found other h =
+    let role = first_answered monitor_by (texts (codes "role")) found h in
+    let its = kept _ _ found role.2 in
+    ap session_options (sym its.1)
+
+found_holds : {A : Type 0} (p : A → Bool) (xs : List A) (y : A) → find p xs ≡ Some y → p y ≡ true
+found_holds p [] y h = absurd (none_some h)
+found_holds p (x ∷ xs) y h = by_test (p x) refl h (found_holds p xs y)
+  where
+    by_test : (t : Bool) → p x ≡ t → (if t then Some x else find p xs) ≡ Some y → (find p xs ≡ Some y → p y ≡ true) → p y ≡ true
+    by_test true is e later = subst (λ z. p z ≡ true) (some_same e) is
+    by_test false is e later = later e
+
+-- the verb of a name that isn't `sessions`
+other_verb : (name : Text) (verb : Verb) → (bytes_eq name (codes "run") || bytes_eq name (codes "sessions")) ≡ false → verb_of name ≡ Some verb → verb ≢ Sessions
+unfolding verb_of
+other_verb name verb alone h same =
+    let named : bytes_eq name (name_of verb) ≡ true = found_holds (λ v. bytes_eq name (name_of v)) verbs verb h in
+    true≢false (sym (subst (λ v. bytes_eq name (name_of v) ≡ true) same named) ∙ (or_parts (bytes_eq name (codes "run")) (bytes_eq name (codes "sessions")) alone).1)
+
+single : (words : List Text) (found : Command) → is_threaded words ≡ false → command_of words ≡ Some found → session_options found ≡ None
+single words found alone h = by_words words alone (kept_words (list_all is_utf8 words) (named_first words) h)
+  where
+    kept_words : (t : Bool) (o : Option Command) → (if t then o else None) ≡ Some found → o ≡ Some found
+    kept_words true o e = e
+    kept_words false o e = absurd (none_some e)
+
+    by_words : (rest : List Text) → is_threaded rest ≡ false → named_first rest ≡ Some found → session_options found ≡ None
+    by_words [] quiet e = absurd (none_some e)
+    by_words (name ∷ others) quiet e =
+        let verb = first_answered (command_by others) (verb_of name) found e in
+        let given = first_answered (λ g. command_with verb.0 (text_of g)) (given_by (known_options verb.0) (positional_names verb.0) others) found verb.2 in
+        single_with verb.0 (text_of given.0) found (other_verb name verb.0 quiet verb.1) given.2
+
+pub asked_single : (words : List (List ℕ)) (found : Command) → is_threaded words ≡ false → asked words ≡ Some found → session_options found ≡ None
+asked_single words found alone h = single words found alone (found_of words found h).0

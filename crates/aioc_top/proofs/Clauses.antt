@@ -2,6 +2,8 @@
 use Rattle.std.proofs.Common.{◌≡◌, ◌⊎◌, ◌↔◌, ℕ, List, [], ◌∷◌, length, take, Bool, true, false, true≢false, Option, Some, None, IfSome, IsSome, refl, sym, ap, ◌∙◌, subst, inl, inr, ⊎_elim, arith}
 use Rattle.std.specs.Prelude.{if◌then◌else◌, option_map}
 use Rattle.std.specs.Option.{option_map_or}
+use Rattle.std.specs.List.{All}
+use Rattle.std.proofs.lemmas.List.Elements.{All-weaker}
 use Rattle.std.specs.Io.KnownBytes.{Appends, IsAtEnd}
 use Rattle.aioc_io.specs.Faults.{Rose}
 use Rattle.aioc_io.specs.Sink.{SinkState}
@@ -9,11 +11,12 @@ use Rattle.aioc_io.specs.Source.{SourceState}
 use Rattle.dioc_terms.specs.declared.entries.Entry.{Entry}
 use Rattle.dioc_terms.specs.Plain.{PlainBundle}
 use Rattle.bundle_text.specs.Grammar.{Spells}
+use Rattle.bundle_text.specs.Sessions.{SpellsSessions}
 use Rattle.bundle_text.specs.Laws.{OneBundle, SpelledIsFormed, WrittenIsSpelled}
 use Rattle.dioc_terms.specs.Bundles.{IsFormed}
 use Rattle.marked_laws.proofs.Shapes.{none_some, some_same}
 use Rattle.marked_laws.specs.Network.{Network, network_start, network_run, network_ended}
-use Rattle.net_core.specs.Headline.{EveryRun}
+use Rattle.net_core.specs.Headline.{EveryRun, Headline}
 use Rattle.marked_laws.specs.Versions.{RunsReadNoVersion, with_version}
 use Rattle.net_core.specs.Laws.{RunsAreSound, SchedulesReadNoVersion}
 use Rattle.net_drive.specs.ResumedLaws.{ResumedRuns, RunStraysAreExact}
@@ -30,9 +33,9 @@ use Rattle.command_words.specs.declared.commands.Options.{Options}
 use Rattle.command_words.specs.declared.commands.Command.{Command}
 use Rattle.command_words.specs.declared.commands.Command.TheVariants as command
 use Rattle.aioc_top.specs.Calls.{Call, Judges, Happens, IsRead, CommandReads, ReadsBy, ReadsNothing, ReadsTo, Says, Writes}
-use Rattle.aioc_top.specs.Replies.{Reply, Replies, drive_reply, monitor_refusal, monitor_reply, is_finished, refusal_of, run_reply, step_history, resume_history, resume_reply, resume_stray, resumed_or_no, replay_reply, line_of_text, check_line, project_text as project_lines, upgrade_text as upgraded, unread_reply, gen_line, gen_reply, gen_history, updates_of}
-use Rattle.aioc_top.specs.Serve.{CheckText, ComesExactly, Complete, GenPrinted, GivesUp, AfterEnd, ReadsToEnd, IsComplete, IsUpgraded, JudgementPrinted, MendText, MonitorText, ProjectText, ReadsAll, ReplayText, ResumePrinted, RunPrinted, SaysWhy, Silent, TextPrinted, UpgradeText, UsageComes, has_printed}
-use Rattle.aioc_top.specs.Verdicts.{Verdict, TooLong, Unspelled, Refused, Replied, MayReply, Cause, Comes, ComesBy, ComesOfText, Refuses, status_of, status_of_end}
+use Rattle.aioc_top.specs.Replies.{Reply, Replies, drive_reply, monitor_refusal, monitor_reply, is_finished, refusal_of, run_reply, step_history, resume_history, resume_reply, resume_stray, resumed_or_no, replay_reply, line_of_text, check_line, project_text as project_lines, session_options, sessions_reply, upgrade_text as upgraded, unread_reply, gen_line, gen_reply, gen_history, updates_of}
+use Rattle.aioc_top.specs.Serve.{CheckText, ComesExactly, Complete, GenPrinted, GivesUp, AfterEnd, ReadsToEnd, IsComplete, IsUpgraded, JudgementPrinted, MendText, MonitorText, ProjectText, ReadsAll, ReplayText, ResumePrinted, RunPrinted, SaysWhy, SessionsPrinted, SessionsText, Silent, TextPrinted, never_of_sessions, UpgradeText, UsageComes, has_printed}
+use Rattle.aioc_top.specs.Verdicts.{Verdict, TooLong, Unspelled, Refused, Replied, MayReply, RepliesToSessions, Cause, Comes, ComesBy, ComesOfInput, ComesOfSessions, ComesOfText, Refuses, status_of, status_of_end}
 use Rattle.aioc_top.specs.Words.{is_built, IsShort}
 use Rattle.command_words.specs.Commands.{usual_steps}
 use Rattle.command_words.specs.declared.commands.Verb.TheVariants.{Gen}
@@ -199,7 +202,7 @@ reply_told call s is (Replied reply, judges, same, writes, says) = (reply, judge
 comes_by : (o : Option Reply) (c : Command) (verdict : Verdict) (bytes : List ℕ) (source source_after : SourceState) → ReadsBy o verdict bytes source source_after → ComesBy o c bytes verdict
     → IfSome source.left (λ told. ComesBy o c told verdict)
 comes_by (Some reply) c verdict bytes source source_after read comes = filled (λ told. comes) source.left
-comes_by None c verdict bytes source source_after read comes = mapped (λ told e. subst (λ bs. ComesOfText c bs verdict) (sym e) comes) source.left read.0
+comes_by None c verdict bytes source source_after read comes = mapped (λ told e. subst (λ bs. ComesOfInput (session_options c) c bs verdict) (sym e) comes) source.left read.0
 
 comes_told : (call : Call) (verdict : Verdict) (judges : Judges call verdict) → IfSome call.source.left (λ told. Comes judges.command told verdict)
 comes_told call verdict judges = comes_by (unread_reply judges.command) judges.command verdict judges.bytes call.source call.source_after judges.read judges.comes
@@ -212,9 +215,13 @@ abbrev is_reply : Verdict → Bool
 is_reply (Replied reply) = true
 is_reply _ = false
 
+refused_input : (o : Option Options) (c : Command) (bytes : List ℕ) (why : Reason) → ComesOfInput o c bytes (Refused why) → Refuses c bytes why
+refused_input (Some options) c bytes why h = absurd h
+refused_input None c bytes why h = h
+
 refuses_by : (o : Option Reply) (c : Command) (bytes : List ℕ) (why : Reason) → ComesBy o c bytes (Refused why) → Refuses c bytes why
 refuses_by (Some reply) c bytes why h = absurd (true≢false (sym (ap is_reply h)))
-refuses_by None c bytes why h = h
+refuses_by None c bytes why h = refused_input (session_options c) c bytes why h
 
 line_told : (call : Call) (s : Status) → has_printed s ≡ false → tells_verdict s ≡ true → Told call s → SaysWhy s call.asked call.source call.err call.err_after
 line_told call s unprinted is (TooLong, judges, same, writes, says) = subst (λ t. SaysWhy t call.asked call.source call.err call.err_after) (sym same) says
@@ -248,6 +255,21 @@ because call status.TooLong found is h = inr h
 because call status.Syntax found is h = inr h
 because call status.Refused found is h = inr h
 
+-- what comes of the bytes of one bundle, where it is known that the command reads one
+one_text : (c : Command) (bytes : List ℕ) (verdict : Verdict) → session_options c ≡ None → unread_reply c ≡ None → Comes c bytes verdict → ComesOfText c bytes verdict
+one_text c bytes verdict single none h = subst (λ o. ComesOfInput o c bytes verdict) single (subst (λ o. ComesBy o c bytes verdict) none h)
+
+-- and of those of sessions
+of_sessions : (c : Command) (options : Options) (bytes : List ℕ) (verdict : Verdict) → session_options c ≡ Some options → unread_reply c ≡ None → Comes c bytes verdict
+    → ComesOfSessions options bytes verdict
+of_sessions c options bytes verdict some none h = subst (λ o. ComesOfInput o c bytes verdict) some (subst (λ o. ComesBy o c bytes verdict) none h)
+
+-- a command that reads sessions reads
+sessions_read : (c : Command) (options : Options) → session_options c ≡ Some options → unread_reply c ≡ None
+sessions_read (command.Sessions given) options h = refl
+sessions_read (command.Gen number size) options h = absurd (none_some h)
+sessions_read _ options h = refl
+
 module _ (one : OneBundle) (call : Call) (all_built : (found : Command) → call.asked ≡ Some found → is_built found ≡ true) where
   pub comes_exactly : (wanted s : Status) → tells_verdict wanted ≡ true → Happens call s → ComesExactly wanted s call.asked call.source
   comes_exactly wanted s tells h = record { only = only; always = always }
@@ -274,11 +296,11 @@ module _ (one : OneBundle) (call : Call) (all_built : (found : Command) → call
           (because call s found is h)
 
   -- the reply of a bundle that is spelled and not refused
-  replied : (s : Status) (found : Command) → call.asked ≡ Some found → unread_reply found ≡ None → Told call s → IfSome call.source.left (λ bytes. (b : PlainBundle) → Spells bytes b → refusal_of found b ≡ None
+  replied : (s : Status) (found : Command) → call.asked ≡ Some found → session_options found ≡ None → unread_reply found ≡ None → Told call s → IfSome call.source.left (λ bytes. (b : PlainBundle) → Spells bytes b → refusal_of found b ≡ None
       → (reply : Reply) × Replies found b reply × (s ≡ status_of_end reply.end))
-  replied s found is none (verdict, judges, same, writes, says) =
+  replied s found is single none (verdict, judges, same, writes, says) =
       let command : judges.command ≡ found = some_same (sym judges.asked ∙ is) in
-      mapped (λ left comes. by_verdict left verdict (subst (λ o. ComesBy o found left verdict) none (subst (λ c. Comes c left verdict) command comes)) same) call.source.left (comes_told call verdict judges)
+      mapped (λ left comes. by_verdict left verdict (one_text found left verdict single none (subst (λ c. Comes c left verdict) command comes)) same) call.source.left (comes_told call verdict judges)
     where
       by_verdict : (bytes : List ℕ) (v : Verdict) → ComesOfText found bytes v → s ≡ status_of v → (b : PlainBundle) → Spells bytes b → refusal_of found b ≡ None
           → (reply : Reply) × Replies found b reply × (s ≡ status_of_end reply.end)
@@ -289,6 +311,20 @@ module _ (one : OneBundle) (call : Call) (all_built : (found : Command) → call
       by_verdict bytes (Replied reply) comes e b spells accepted =
           (reply, subst (λ c. Replies found c reply) (one bytes comes.bundle b comes.spells spells) comes.replies, e)
 
+  -- the end of sessions that are spelled
+  sessions_replied : (s : Status) (found : Command) (options : Options) → call.asked ≡ Some found → session_options found ≡ Some options → Told call s
+      → IfSome call.source.left (λ bytes. (bundles : List PlainBundle) → SpellsSessions bytes bundles → s ≡ status.Done)
+  sessions_replied s found options is some (verdict, judges, same, writes, says) =
+      let command : judges.command ≡ found = some_same (sym judges.asked ∙ is) in
+      mapped (λ left comes. by_verdict left verdict (of_sessions found options left verdict some (sessions_read found options some) (subst (λ c. Comes c left verdict) command comes)) same)
+      call.source.left (comes_told call verdict judges)
+    where
+      by_verdict : (bytes : List ℕ) (v : Verdict) → ComesOfSessions options bytes v → s ≡ status_of v → (bundles : List PlainBundle) → SpellsSessions bytes bundles → s ≡ status.Done
+      by_verdict bytes TooLong comes e bundles spells = absurd (omega (arith, spells.small, comes))
+      by_verdict bytes (Unspelled byte) comes e bundles spells = absurd (comes.1 bundles spells)
+      by_verdict bytes (Refused why) comes e bundles spells = absurd comes
+      by_verdict bytes (Replied reply) comes e bundles spells = e ∙ ap (λ (r : Reply). status_of_end r.end) comes.replies
+
   pub complete : (s : Status) → Happens call s → Complete s call.asked call.source call.source_after call.out call.out_after
   complete s h found is reads writes = by s h
     where
@@ -297,7 +333,8 @@ module _ (one : OneBundle) (call : Call) (all_built : (found : Command) → call
 
       answered : (t : Status) → Told call t → Wanted t
       answered t its = record {
-        text = λ none. mapped (λ bytes f b spells accepted. inl (f b spells accepted)) call.source.left (replied t found is none its);
+        text = λ single none. mapped (λ bytes f b spells accepted. inl (f b spells accepted)) call.source.left (replied t found is single none its);
+        sessions = λ options some. mapped (λ bytes f bundles spells. inl (f bundles spells)) call.source.left (sessions_replied t found options is some its);
         unread = λ reply some.
             let comes : Comes found its.1.bytes its.0 = subst (λ c. Comes c its.1.bytes its.0) (some_same (sym its.1.asked ∙ is)) its.1.comes in
             let only : its.0 ≡ Replied reply = subst (λ o. ComesBy o found its.1.bytes its.0) some comes in
@@ -306,7 +343,8 @@ module _ (one : OneBundle) (call : Call) (all_built : (found : Command) → call
 
       by : (t : Status) → Happens call t → Wanted t
       by status.Memory h = record {
-        text = λ none. filled (λ bytes b spells accepted. inr refl) call.source.left;
+        text = λ single none. filled (λ bytes b spells accepted. inr refl) call.source.left;
+        sessions = λ options some. filled (λ bytes bundles spells. inr refl) call.source.left;
         unread = λ reply some. inr refl;
       }
       by status.ReadFault h = absurd (reads h.1)
@@ -393,7 +431,7 @@ module _ (formed : SpelledIsFormed) (every : EveryRun) (sound : RunsAreSound) (o
 -- ---- the text of a command that says something of a bundle
 
 -- what was printed is the text of an accepted bundle, where each reply of the command is that text
-module _ (formed : SpelledIsFormed) (wanted : Command) (text : unread_reply wanted ≡ None) (text_of : PlainBundle → List ℕ)
+module _ (formed : SpelledIsFormed) (wanted : Command) (single : session_options wanted ≡ None) (text : unread_reply wanted ≡ None) (text_of : PlainBundle → List ℕ)
     (only : (b : PlainBundle) (reply : Reply) → Replies wanted b reply → reply ≡ record { end = end.Done; text = text_of b })
     (runs : (b : PlainBundle) → refusal_of wanted b ≡ option_map MayNotRun (refusal b)) where
   pub text_printed : (call : Call) (s : Status) → Happens call s → call.asked ≡ Some wanted → has_printed s ≡ true
@@ -401,7 +439,7 @@ module _ (formed : SpelledIsFormed) (wanted : Command) (text : unread_reply want
   text_printed call s h is prints =
       let its = reply_told call s prints (told call s (printing s prints) h) in
       let same : its.1.command ≡ wanted = some_same (sym its.1.asked ∙ is) in
-      let comes : MayReply wanted its.1.bytes its.0 = subst (λ o. ComesBy o wanted its.1.bytes (Replied its.0)) text (subst (λ c. Comes c its.1.bytes (Replied its.0)) same its.1.comes) in
+      let comes : MayReply wanted its.1.bytes its.0 = one_text wanted its.1.bytes (Replied its.0) single text (subst (λ c. Comes c its.1.bytes (Replied its.0)) same its.1.comes) in
       let b = comes.bundle in
       let replies = only b its.0 comes.replies in
       record {
@@ -415,15 +453,15 @@ module _ (formed : SpelledIsFormed) (wanted : Command) (text : unread_reply want
       }
 
 pub check_text : SpelledIsFormed → (call : Call) (s : Status) → Happens call s → CheckText call.asked s call.source call.out call.out_after
-check_text formed call s h is prints = text_printed formed command.Check refl (λ b. line_of_text (check_line b)) (λ b reply e. e) (λ b. refl) call s h is prints
+check_text formed call s h is prints = text_printed formed command.Check refl refl (λ b. line_of_text (check_line b)) (λ b reply e. e) (λ b. refl) call s h is prints
 
 pub project_text : SpelledIsFormed → (call : Call) (s : Status) → Happens call s → ProjectText call.asked s call.source call.out call.out_after
-project_text formed call s h is prints = text_printed formed command.Project refl project_lines (λ b reply e. e) (λ b. refl) call s h is prints
+project_text formed call s h is prints = text_printed formed command.Project refl refl project_lines (λ b reply e. e) (λ b. refl) call s h is prints
 
 -- ---- the judgement of a trace
 
 -- what was printed is the judgement of an accepted bundle's trace, where the command has this reply alone
-module _ (formed : SpelledIsFormed) (wanted : Command) (text : unread_reply wanted ≡ None) (judge : PlainBundle → Reply)
+module _ (formed : SpelledIsFormed) (wanted : Command) (single : session_options wanted ≡ None) (text : unread_reply wanted ≡ None) (judge : PlainBundle → Reply)
     (only : (b : PlainBundle) (reply : Reply) → Replies wanted b reply → reply ≡ judge b)
     (runs : (b : PlainBundle) → refusal_of wanted b ≡ None → refusal b ≡ None) where
   pub judged_text : (call : Call) (s : Status) → Happens call s → call.asked ≡ Some wanted → has_printed s ≡ true
@@ -431,7 +469,7 @@ module _ (formed : SpelledIsFormed) (wanted : Command) (text : unread_reply want
   judged_text call s h is prints =
       let its = reply_told call s prints (told call s (printing s prints) h) in
       let same : its.1.command ≡ wanted = some_same (sym its.1.asked ∙ is) in
-      let comes : MayReply wanted its.1.bytes its.0 = subst (λ o. ComesBy o wanted its.1.bytes (Replied its.0)) text (subst (λ c. Comes c its.1.bytes (Replied its.0)) same its.1.comes) in
+      let comes : MayReply wanted its.1.bytes its.0 = one_text wanted its.1.bytes (Replied its.0) single text (subst (λ c. Comes c its.1.bytes (Replied its.0)) same its.1.comes) in
       let b = comes.bundle in
       let replies : its.0 ≡ judge b = only b its.0 comes.replies in (
         record {
@@ -448,7 +486,7 @@ module _ (formed : SpelledIsFormed) (wanted : Command) (text : unread_reply want
 
 pub replay_text : SpelledIsFormed → (call : Call) (s : Status) → Happens call s → ReplayText call.asked s call.source call.out call.out_after
 replay_text formed call s h is prints =
-    (judged_text formed command.Replay refl replay_reply (λ b reply e. e) (λ b. unrefused MayNotRun (refusal b)) call s h is prints).0
+    (judged_text formed command.Replay refl refl replay_reply (λ b reply e. e) (λ b. unrefused MayNotRun (refusal b)) call s h is prints).0
 
 -- ---- the judgement of one role
 
@@ -474,7 +512,7 @@ in_cast cast role h = by_test (member role cast) refl
 pub monitor_text : SpelledIsFormed → (call : Call) (s : Status) → Happens call s → MonitorText call.asked s call.source call.out call.out_after
 monitor_text formed call s h role is prints =
     let its : (judged : JudgementPrinted (monitor_reply role) s call.source call.out call.out_after) × (refusal_of (command.Monitor role) judged.bundle ≡ None) =
-    judged_text formed (command.Monitor role) refl (monitor_reply role) (λ b reply e. e) (λ b none. (monitor_free role b none).0) call s h is prints in
+    judged_text formed (command.Monitor role) refl refl (monitor_reply role) (λ b reply e. e) (λ b none. (monitor_free role b none).0) call s h is prints in
     let b = its.0.bundle in
     (its.0, in_cast b.cast role (monitor_free role b its.1).1)
 
@@ -483,7 +521,7 @@ monitor_text formed call s h role is prints =
 pub drive_judged : SpelledIsFormed → (options : Options) (call : Call) (s : Status) → Happens call s → call.asked ≡ Some (command.Drive options)
     → has_printed s ≡ true → JudgementPrinted (drive_reply options) s call.source call.out call.out_after
 drive_judged formed options call s h is prints =
-    (judged_text formed (command.Drive options) refl (drive_reply options) (λ b reply e. e) (λ b. unrefused MayNotRun (refusal b)) call s h is prints).0
+    (judged_text formed (command.Drive options) refl refl (drive_reply options) (λ b reply e. e) (λ b. unrefused MayNotRun (refusal b)) call s h is prints).0
 
 -- ---- a resumed run
 
@@ -527,7 +565,7 @@ pub resume_text : ResumedRuns → RunStraysAreExact → SpelledIsFormed → (opt
     → call.asked ≡ Some (command.Resume options) → has_printed s ≡ true → ResumePrinted options s call.source call.out call.out_after
 resume_text resumed strays formed options call s h is prints =
     let judged : JudgementPrinted (resume_reply options) s call.source call.out call.out_after =
-    (judged_text formed (command.Resume options) refl (resume_reply options) (λ b reply e. e) (λ b. unrefused MayNotRun (refusal b)) call s h is prints).0 in
+    (judged_text formed (command.Resume options) refl refl (resume_reply options) (λ b reply e. e) (λ b. unrefused MayNotRun (refusal b)) call s h is prints).0 in
     by_stray resumed strays options s call.source call.out call.out_after judged (resume_stray options judged.bundle) refl
 
 -- ---- the bundle in its second version
@@ -560,7 +598,7 @@ module _ (written : WrittenIsSpelled) (runs : RunsReadNoVersion) (schedules : Sc
 
   pub upgrade_text : SpelledIsFormed → (call : Call) (s : Status) → Happens call s → UpgradeText call.asked s call.source call.out call.out_after
   upgrade_text formed call s h is prints =
-      let text : TextPrinted upgraded s call.source call.out call.out_after = text_printed formed command.Upgrade refl upgraded (λ b reply e. e) (λ b. refl) call s h is prints in
+      let text : TextPrinted upgraded s call.source call.out call.out_after = text_printed formed command.Upgrade refl refl upgraded (λ b reply e. e) (λ b. refl) call s h is prints in
       (text, upgraded_so text.bundle text.accepted)
 
 -- ---- the mended bundle
@@ -620,3 +658,59 @@ module _ (accepted : MadeAreAccepted) (every : EveryRun) (sound : RunsAreSound) 
       let small = short (command.Gen number size) is in
       gen_printed (accepted number size small.0 small.1) s call.out call.out_after (its.2 ∙ ap (λ (r : Reply). status_of_end r.end) reply)
       (subst (λ (r : Reply). Appends call.out.taken call.out_after.taken r.text) reply its.3)
+
+-- ---- the text of sessions
+
+module _ (every : EveryRun) (sound : RunsAreSound) (options : Options) where
+  -- the headline of each run that is printed
+  headlines : (bundles : List PlainBundle) → All IsFormed bundles → All (λ b. refusal b ≡ None → (N : Network) × Headline b (step_history options b) N) bundles
+  headlines bundles formed = All-weaker IsFormed (λ b. refusal b ≡ None → (N : Network) × Headline b (step_history options b) N) (λ b is none.
+      let accepted : IsAccepted b = record { formed = is; no_refusal = none } in
+      let arrives = sound b [] (network_start b) options.seed options.steps accepted refl (omega arith) in
+      (arrives.network, every b (step_history options b) arrives.network accepted arrives.runs)) bundles formed
+
+  sessions_printed : (bytes : List ℕ) (source : SourceState) (out out_after : SinkState) (s : Status) (reply : Reply) → IsRead source bytes → RepliesToSessions options bytes reply
+      → s ≡ status_of_end reply.end → Appends out.taken out_after.taken reply.text → SessionsPrinted options s source out out_after
+  sessions_printed bytes source out out_after s reply read h is wrote = record {
+    bytes = bytes;
+    read = read;
+    bundles = h.bundles;
+    spells = h.spells;
+    printed = subst (λ (r : Reply). Appends out.taken out_after.taken r.text) h.replies wrote;
+    done = is ∙ ap (λ (r : Reply). status_of_end r.end) h.replies;
+    headlines = headlines h.bundles h.formed;
+  }
+
+-- how a call of `sessions` doesn't end
+never_told : (options : Options) (bytes : List ℕ) (v : Verdict) → ComesOfSessions options bytes v → never_of_sessions (status_of v) ≡ false
+never_told options bytes TooLong comes = refl
+never_told options bytes (Unspelled byte) comes = refl
+never_told options bytes (Refused why) comes = absurd comes
+never_told options bytes (Replied reply) comes = ap (λ (r : Reply). never_of_sessions (status_of_end r.end)) comes.replies
+
+never_given_up : (s : Status) → GivesUp s → never_of_sessions s ≡ false
+never_given_up status.Memory h = refl
+never_given_up status.ReadFault h = refl
+never_given_up status.WriteFault h = refl
+never_given_up status.Usage h = absurd h
+never_given_up status.Done h = absurd h
+never_given_up status.Limit h = absurd h
+never_given_up status.No h = absurd h
+never_given_up status.TooLong h = absurd h
+never_given_up status.Syntax h = absurd h
+never_given_up status.Refused h = absurd h
+
+pub sessions_text : EveryRun → RunsAreSound → (call : Call) (s : Status) → Happens call s → SessionsText call.asked s call.source call.out call.out_after
+sessions_text every sound call s h options is = (
+  ⊎_elim (never_given_up s)
+      (λ (its : Told call s).
+      ap never_of_sessions its.2
+      ∙ never_told options its.1.bytes its.0 (subst (λ c. Comes c its.1.bytes its.0) (some_same (sym its.1.asked ∙ is)) its.1.comes))
+      (because call s (command.Sessions options) is h),
+  λ prints.
+      let its = reply_told call s prints (told call s (printing s prints) h) in
+      let same : its.1.command ≡ command.Sessions options = some_same (sym its.1.asked ∙ is) in
+      let comes : RepliesToSessions options its.1.bytes its.0 = subst (λ c. Comes c its.1.bytes (Replied its.0)) same its.1.comes in
+      let read : CommandReads (command.Sessions options) (Replied its.0) its.1.bytes call.source call.source_after = reads_by call (Replied its.0) its.1 (command.Sessions options) is in
+      sessions_printed every sound options its.1.bytes call.source call.out call.out_after s its.0 read.0 comes its.2 its.3,
+)

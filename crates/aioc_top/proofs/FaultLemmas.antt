@@ -8,19 +8,21 @@ use Rattle.limits.specs.Limits.{most_bytes}
 use Rattle.dioc_terms.specs.declared.names.Role.{Role}
 use Rattle.dioc_terms.specs.Plain.{PlainBundle}
 use Rattle.bundle_text.specs.Grammar.{Spells, SpellsNone}
+use Rattle.bundle_text.specs.Sessions.{SpellsNoSessions}
 use Rattle.rule_checks.specs.Answers.{IsRefusalOf}
 use Rattle.rule_checks.specs.Refusals.{IsAccepted, refusal}
 use Rattle.rule_checks.specs.declared.refusals.Refusal.{Refusal}
 use Rattle.bundle_mend.specs.Refusals.{mend_refusal, IsMendRefusalOf}
 use Rattle.bundle_mend.specs.declared.refusals.MendRefusal.{MendRefusal}
+use Rattle.command_words.specs.declared.commands.Options.{Options}
 use Rattle.command_words.specs.declared.commands.Command.{Command}
 use Rattle.command_words.specs.declared.commands.Command.TheVariants as command
 use Rattle.marked_laws.proofs.Shapes.{none_some, some_same}
 use Rattle.aioc_top.specs.Calls.{IsRead, ReadsBy, ReadsNothing, ReadsTo}
-use Rattle.aioc_top.specs.Faults.{IsJudgedSo, IsMendRefusalFault, IsRefusalFault, IsRefusedSo, IsSyntaxFault, ReadSo, Stops}
+use Rattle.aioc_top.specs.Faults.{IsJudgedSo, IsMendRefusalFault, IsRefusalFault, IsRefusedSo, IsSyntaxFault, IsUnspelledSo, ReadSo, Stops}
 use Rattle.aioc_top.specs.Reasons.{MayNotRun, CannotBeMended}
-use Rattle.aioc_top.specs.Replies.{Replies, monitor_refusal, refusal_of, reply_of, mend_text, takes_accepted, unread_reply}
-use Rattle.aioc_top.specs.Verdicts.{Verdict, TooLong, Unspelled, Refused, Replied, IsReplied, ComesBy, ComesOfText}
+use Rattle.aioc_top.specs.Replies.{Replies, monitor_refusal, refusal_of, reply_of, mend_text, session_options, takes_accepted, unread_reply}
+use Rattle.aioc_top.specs.Verdicts.{Verdict, TooLong, Unspelled, Refused, Replied, IsReplied, ComesBy, ComesOfInput, ComesOfSessions, ComesOfText, RepliesToSessions}
 use Rattle.aioc_top.specs.declared.faults.Fault.{Fault}
 use Rattle.aioc_top.specs.declared.faults.Fault.TheVariants as fault
 use Rattle.aioc_top.specs.declared.replies.Written.{Written}
@@ -115,12 +117,12 @@ pub is_read : (source : SourceState) (all : List ℕ) → IfSome source.left (λ
 is_read source all h = mapped (λ told e. sym e) source.left h
 
 -- what comes of the bytes of a bundle, by a command that reads one
-module _ (asked : Command) (source source_after : SourceState) (reads : unread_reply asked ≡ None) where
+module _ (asked : Command) (source source_after : SourceState) (single : session_options asked ≡ None) (reads : unread_reply asked ≡ None) where
   pub read_so : (bytes : List ℕ) (verdict : Verdict) → IsRead source bytes → ReadsTo verdict source_after → ComesOfText asked bytes verdict → ReadSo asked source source_after verdict
   read_so bytes verdict read end comes = record {
     bytes = bytes;
     read = subst (λ o. ReadsBy o verdict bytes source source_after) (sym reads) (read, end);
-    comes = subst (λ o. ComesBy o asked bytes verdict) (sym reads) comes;
+    comes = subst (λ o. ComesBy o asked bytes verdict) (sym reads) (subst (λ o. ComesOfInput o asked bytes verdict) (sym single) comes);
   }
 
   pub reads_text : ReadsNothing (Some asked) source source_after
@@ -136,6 +138,33 @@ module _ (asked : Command) (source source_after : SourceState) (reads : unread_r
   stops all read end fault.WriteFault h = absurd h
   stops all read end fault.TooLong h = absurd h
 
+-- what comes of the bytes of sessions
+module _ (options : Options) (source source_after : SourceState) where
+  pub read_sessions_so : (bytes : List ℕ) (verdict : Verdict) → IsRead source bytes → ReadsTo verdict source_after → ComesOfSessions options bytes verdict
+      → ReadSo (command.Sessions options) source source_after verdict
+  read_sessions_so bytes verdict read end comes = record { bytes = bytes; read = (read, end); comes = comes }
+
+  reads_sessions : ReadsNothing (Some (command.Sessions options)) source source_after
+  reads_sessions found reply is unread = absurd (none_some (ap unread_reply (some_same is) ∙ unread))
+
+  pub sessions_stop : (all : List ℕ) → IsRead source all → IsAtEnd source_after.left → (f : Fault) → IsUnspelledSo options all f → Stops (command.Sessions options) source source_after f
+  sessions_stop all read end (fault.Syntax line) h = (h.0, read_sessions_so all (Unspelled h.0) read end h.1, h.2)
+  sessions_stop all read end fault.Memory h = reads_sessions
+  sessions_stop all read end (fault.Refused line) h = absurd h
+  sessions_stop all read end fault.Usage h = absurd h
+  sessions_stop all read end fault.ReadFault h = absurd h
+  sessions_stop all read end fault.WriteFault h = absurd h
+  sessions_stop all read end fault.TooLong h = absurd h
+
+pub unspelled_sessions : (options : Options) (bytes : List ℕ) (byte : ℕ) (f : Fault) → length bytes ≤ most_bytes → SpellsNoSessions bytes → IsSyntaxFault byte f → IsUnspelledSo options bytes f
+unspelled_sessions options bytes byte (fault.Syntax line) small none h = (byte, (small, none), h)
+unspelled_sessions options bytes byte fault.Memory small none h = h
+unspelled_sessions options bytes byte fault.Usage small none h = absurd h
+unspelled_sessions options bytes byte fault.ReadFault small none h = absurd h
+unspelled_sessions options bytes byte fault.WriteFault small none h = absurd h
+unspelled_sessions options bytes byte fault.TooLong small none h = absurd h
+unspelled_sessions options bytes byte (fault.Refused line) small none h = absurd h
+
 -- some bytes are as long as is asked
 long_enough : (n : ℕ) → (bytes : List ℕ) × (n < length bytes)
 long_enough n = (replicate (suc n) 0, omega (arith, length-replicate {A = ℕ} (suc n) 0))
@@ -145,8 +174,14 @@ too_many None h = let long = long_enough most_bytes in (long.0, tt, long.1)
 too_many (Some told) h = (told, refl, h)
 
 -- more bytes were given than are allowed, whether the source tells them or not
-pub too_long : (asked : Command) (source source_after : SourceState) → unread_reply asked ≡ None → IfSome source.left (λ told. most_bytes < length told)
+pub too_long : (asked : Command) (source source_after : SourceState) → session_options asked ≡ None → unread_reply asked ≡ None → IfSome source.left (λ told. most_bytes < length told)
     → ReadSo asked source source_after TooLong
-too_long asked source source_after reads h =
+too_long asked source source_after single reads h =
     let many = too_many source.left h in
-    read_so asked source source_after reads many.0 TooLong many.1 tt many.2
+    read_so asked source source_after single reads many.0 TooLong many.1 tt many.2
+
+pub sessions_too_long : (options : Options) (source source_after : SourceState) → IfSome source.left (λ told. most_bytes < length told)
+    → ReadSo (command.Sessions options) source source_after TooLong
+sessions_too_long options source source_after h =
+    let many = too_many source.left h in
+    read_sessions_so options source source_after many.0 TooLong many.1 tt many.2

@@ -7,12 +7,13 @@ use Rattle.rule_checks.specs.declared.refusals.Refusal.{Refusal}
 use Rattle.rule_checks.specs.declared.refusals.Refusal.TheVariants as refused
 use Rattle.bundle_mend.specs.declared.refusals.MendRefusal.{MendRefusal}
 use Rattle.bundle_mend.specs.declared.refusals.MendRefusal.TheVariants as unmended
+use Rattle.command_words.specs.declared.commands.Options.{Options}
 use Rattle.command_words.specs.declared.commands.Command.{Command}
 use Rattle.aioc_top.specs.Calls.{CommandReads, ReadsNothing}
 use Rattle.aioc_top.specs.Messages.{memory_line, read_fault_line, refusal_line, syntax_line, too_long_line, usage_line, write_fault_line}
 use Rattle.aioc_top.specs.Reasons.{Reason, MayNotRun, CannotBeMended}
 use Rattle.aioc_top.specs.Replies.{refusal_of, unread_reply}
-use Rattle.aioc_top.specs.Verdicts.{Verdict, TooLong, Unspelled, Refused, Comes, ComesOfText}
+use Rattle.aioc_top.specs.Verdicts.{Verdict, TooLong, Unspelled, Refused, Comes, ComesOfSessions, ComesOfText}
 use Rattle.aioc_top.specs.declared.faults.Fault.{Fault}
 use Rattle.aioc_top.specs.declared.faults.Fault.TheVariants as fault
 use Rattle.aioc_top.specs.declared.status.Status.{Status}
@@ -72,6 +73,13 @@ IsJudgedSo asked bytes (fault.Refused line) =
     (why : Reason) × ComesOfText asked bytes (Refused why) × (line.items ≡ refusal_line why)
 IsJudgedSo asked bytes fault.Memory = Unit {0}
 IsJudgedSo asked bytes _ = ⊥
+
+-- the fault of some verdict on the bytes of sessions, with its line; memory may run out
+abbrev pub IsUnspelledSo : Options → List ℕ → Fault → Type 0
+IsUnspelledSo options bytes (fault.Syntax line) =
+    (byte : ℕ) × ComesOfSessions options bytes (Unspelled byte) × (line.items ≡ syntax_line byte)
+IsUnspelledSo options bytes fault.Memory = Unit {0}
+IsUnspelledSo options bytes _ = ⊥
 
 -- the verdict of the bytes that were read from a source
 pub record ReadSo (asked : Command) (source source_after : SourceState) (verdict : Verdict) : Type 0

@@ -1,5 +1,5 @@
 -- What each command may answer to a bundle that it takes: how it ends, and its text.
-use Rattle.std.specs.Prelude.{◌≡◌, ◌⊎◌, ◌≤◌, ℕ, zero, suc, List, ◌∷◌, [], ◌++◌, length, take, Bool, true, false, Option, Some, None, if◌then◌else◌, codes, decimal, flat_map, nat_lt, option_map, unwrap_or}
+use Rattle.std.specs.Prelude.{◌≡◌, ◌⊎◌, ◌≤◌, ℕ, zero, suc, List, ◌∷◌, [], ◌++◌, length, take, Bool, true, false, Option, Some, None, if◌then◌else◌, codes, decimal, flat_map, nat_lt, option_map, unwrap_or, Ok, Err}
 use Rattle.std.specs.Option.{option_map_or}
 use Rattle.dioc_terms.specs.declared.names.Role.{Role}
 use Rattle.dioc_terms.specs.declared.entries.Entry.{Entry}
@@ -14,6 +14,7 @@ use Rattle.global_steps.specs.Running as running
 use Rattle.marked_laws.specs.Network.{Network, network_run, network_ended}
 use Rattle.marked_laws.specs.Versions.{with_version}
 use Rattle.bundle_text.specs.Writing.{bundle_text}
+use Rattle.session_pool.specs.Answers.{PlainAnswer, answers_of}
 use Rattle.trace_text.specs.Lines.{line_end}
 use Rattle.trace_text.specs.Process.{process_text}
 use Rattle.trace_text.specs.Runs.{run_text}
@@ -37,6 +38,7 @@ use Rattle.aioc_top.specs.declared.replies.End.{End}
 use Rattle.aioc_top.specs.declared.replies.End.TheVariants as end
 use Rattle.aioc_top.specs.declared.replies.Written.{Written}
 use Rattle.aioc_top.specs.Judging.{is_cut_short}
+use Rattle.aioc_top.specs.Messages.{refusal_line}
 use Rattle.aioc_top.specs.Reasons.{Reason, MayNotRun, CannotBeMended}
 
 -- how a command ends when it has written its text, and that text
@@ -228,6 +230,35 @@ gen_reply number size =
 abbrev pub unread_reply : Command → Option Reply
 unread_reply (command.Gen number size) = Some (gen_reply number size)
 unread_reply _ = None
+
+-- ---- sessions
+
+-- what a session is answered: the visible entries of its run and their last line, or why its bundle
+-- is refused
+abbrev pub answer_text : PlainAnswer → List ℕ
+answer_text (Ok (history, ended)) = run_text false false history (last_of ended (length history))
+answer_text (Err why) = refusal_line (MayNotRun why)
+
+-- a line with the number of the session, and what it is answered
+abbrev pub session_text : ℕ → PlainAnswer → List ℕ
+session_text k answer = line_of_text (codes "session " ++ decimal k) ++ answer_text answer
+
+-- the sessions in their order, where the first of these has number k
+abbrev pub sessions_from : ℕ → List PlainAnswer → List ℕ
+sessions_from k [] = []
+sessions_from k (answer ∷ answers) = session_text k answer ++ sessions_from (suc k) answers
+
+-- the reply of `sessions`: a single session that is refused or stopped changes nothing of its end
+abbrev pub sessions_reply : Options → List PlainBundle → Reply
+sessions_reply options bundles = record {
+  end = end.Done;
+  text = sessions_from 0 (answers_of options.seed options.steps bundles);
+}
+
+-- the options of a command that reads sessions; each other one that reads reads one bundle
+abbrev pub session_options : Command → Option Options
+session_options (command.Sessions options) = Some options
+session_options _ = None
 
 -- ---- a line for each role
 

@@ -1,5 +1,5 @@
 -- What the clauses of the top call say: each is a part of the table of calls, in words of its own.
-use Rattle.std.specs.Prelude.{◌≡◌, ◌⊎◌, ◌↔◌, ◌≤◌, ◌<◌, ℕ, List, length, Bool, true, false, Option, Some, None, IfSome}
+use Rattle.std.specs.Prelude.{◌≡◌, ◌⊎◌, ◌↔◌, ◌≤◌, ◌<◌, ℕ, List, length, Bool, true, false, Option, Some, None, IfSome, All}
 use Rattle.std.specs.Io.KnownBytes.{Appends, IsAtEnd}
 use Rattle.aioc_io.specs.Faults.{Rose}
 use Rattle.aioc_io.specs.Sink.{SinkState, TakesPart}
@@ -11,6 +11,7 @@ use Rattle.dioc_terms.specs.Messages.{visible}
 use Rattle.dioc_terms.specs.Plain.{PlainBundle}
 use Rattle.limits.specs.Limits.{most_bytes}
 use Rattle.bundle_text.specs.Grammar.{Spells}
+use Rattle.bundle_text.specs.Sessions.{SpellsSessions}
 use Rattle.global_steps.specs.Follow.{play}
 use Rattle.marked_laws.specs.Network.{Network, network_ended, network_run}
 use Rattle.marked_laws.specs.Versions.{with_version}
@@ -31,7 +32,7 @@ use Rattle.aioc_top.specs.Calls.{IsRead, ReadsNothing, SaysLine}
 use Rattle.aioc_top.specs.Judging.{is_cut_short}
 use Rattle.aioc_top.specs.Messages.{usage_line, read_fault_line, write_fault_line, too_long_line, memory_line, syntax_line, refusal_line}
 use Rattle.aioc_top.specs.Reasons.{Reason}
-use Rattle.aioc_top.specs.Replies.{Reply, Replies, drive_history, drive_reply, is_finished, refusal_of, run_reply, step_history, resume_history, resume_reply, resume_stray, line_of_text, check_line, project_text, monitor_reply, replay_reply, trace_stray, upgrade_text, mend_text, unread_reply, gen_line, gen_history}
+use Rattle.aioc_top.specs.Replies.{Reply, Replies, drive_history, drive_reply, is_finished, refusal_of, run_reply, step_history, resume_history, resume_reply, resume_stray, line_of_text, check_line, project_text, monitor_reply, replay_reply, trace_stray, upgrade_text, mend_text, session_options, sessions_reply, unread_reply, gen_line, gen_history}
 use Rattle.aioc_top.specs.Verdicts.{Replied, Comes, Cause, Refuses, status_of_end}
 use Rattle.aioc_top.specs.declared.status.Status.{Status}
 use Rattle.aioc_top.specs.declared.status.Status.TheVariants as status
@@ -225,6 +226,34 @@ GenText asked result out out_after =
     (number size : ℕ) → asked ≡ Some (command.Gen number size) → has_printed result ≡ true
     → GenPrinted number size result out out_after
 
+-- The text of sessions was printed: that of some bundles which the bytes spell, and these are the
+-- source's where it tells them. The headline holds of each run that is printed there.
+pub record SessionsPrinted (options : Options) (result : Status) (source : SourceState)
+    (out out_after : SinkState) : Type 0 where
+  pub bytes : List ℕ
+  pub read : IsRead source bytes
+  pub bundles : List PlainBundle
+  pub spells : SpellsSessions bytes bundles
+  pub printed : Appends out.taken out_after.taken (sessions_reply options bundles).text
+  pub done : result ≡ status.Done
+  pub headlines : All (λ b. refusal b ≡ None
+      → (network : Network) × Headline b (step_history options b) network) bundles
+
+-- how `sessions` never ends: no single session makes a refusal or a limit, and none is judged
+abbrev pub never_of_sessions : Status → Bool
+never_of_sessions status.Usage = true
+never_of_sessions status.Refused = true
+never_of_sessions status.Limit = true
+never_of_sessions status.No = true
+never_of_sessions _ = false
+
+-- with `sessions` it is the text of each of them, in their order
+abbrev pub SessionsText : Option Command → Status → SourceState → SinkState → SinkState → Type 0
+SessionsText asked result source out out_after =
+    (options : Options) → asked ≡ Some (command.Sessions options)
+    → (never_of_sessions result ≡ false)
+    × (has_printed result ≡ true → SessionsPrinted options result source out out_after)
+
 -- memory ran out, or a device failed: nothing in the bytes makes it come
 abbrev pub GivesUp : Status → Type 0
 GivesUp status.Memory = Unit {0}
@@ -248,12 +277,16 @@ pub record UsageComes (result : Status) (asked : Option Command) : Type 0 where
   pub always : asked ≡ None → (result ≡ status.Usage) ⊎ (result ≡ status.Memory)
 
 -- Where no device failed, a bundle that is spelled and not refused gets an answer of its command,
--- or want of memory; and a command that reads nothing gets its reply, or want of memory.
+-- or want of memory; so do sessions that are spelled; and a command that reads nothing gets its
+-- reply, or want of memory.
 pub record IsComplete (result : Status) (found : Command) (source : SourceState) : Type 0 where
-  pub text : unread_reply found ≡ None → IfSome source.left
+  pub text : session_options found ≡ None → unread_reply found ≡ None → IfSome source.left
       (λ bytes. (b : PlainBundle) → Spells bytes b → refusal_of found b ≡ None
       → ((reply : Reply) × Replies found b reply × (result ≡ status_of_end reply.end))
       ⊎ (result ≡ status.Memory))
+  pub sessions : (options : Options) → session_options found ≡ Some options → IfSome source.left
+      (λ bytes. (bundles : List PlainBundle) → SpellsSessions bytes bundles
+      → (result ≡ status.Done) ⊎ (result ≡ status.Memory))
   pub unread : (reply : Reply) → unread_reply found ≡ Some reply
       → (result ≡ status_of_end reply.end) ⊎ (result ≡ status.Memory)
 

@@ -1,8 +1,11 @@
 -- What comes of a command and the bytes that were read.
-use Rattle.std.specs.Prelude.{◌≡◌, ◌<◌, ◌≤◌, ℕ, List, length, Some, None, Option}
+use Rattle.std.specs.Prelude.{◌≡◌, ◌<◌, ◌≤◌, ℕ, List, length, Some, None, Option, All}
 use Rattle.limits.specs.Limits.{most_bytes}
+use Rattle.dioc_terms.specs.Bundles.{IsFormed}
 use Rattle.dioc_terms.specs.Plain.{PlainBundle}
 use Rattle.bundle_text.specs.Grammar.{Spells, SpellsNone}
+use Rattle.bundle_text.specs.Sessions.{SpellsSessions, SpellsNoSessions}
+use Rattle.command_words.specs.declared.commands.Options.{Options}
 use Rattle.command_words.specs.declared.commands.Command.{Command}
 use Rattle.aioc_top.specs.declared.replies.End.{End}
 use Rattle.aioc_top.specs.declared.replies.End.TheVariants as end
@@ -10,7 +13,7 @@ use Rattle.aioc_top.specs.declared.replies.Written.{Written}
 use Rattle.aioc_top.specs.declared.status.Status.{Status}
 use Rattle.aioc_top.specs.declared.status.Status.TheVariants as status
 use Rattle.aioc_top.specs.Reasons.{Reason}
-use Rattle.aioc_top.specs.Replies.{Reply, Replies, refusal_of, reply_of, unread_reply}
+use Rattle.aioc_top.specs.Replies.{Reply, Replies, refusal_of, reply_of, session_options, sessions_reply, unread_reply}
 
 pub data Verdict : Type 0 where
   TooLong : Verdict
@@ -44,10 +47,30 @@ ComesOfText asked bytes (Unspelled byte) = (length bytes ≤ most_bytes) × Spel
 ComesOfText asked bytes (Refused why) = Refuses asked bytes why
 ComesOfText asked bytes (Replied reply) = MayReply asked bytes reply
 
+-- the bytes spell sessions, each a formed bundle, to which this is the reply
+pub record RepliesToSessions (options : Options) (bytes : List ℕ) (reply : Reply) : Type 0 where
+  pub bundles : List PlainBundle
+  pub spells : SpellsSessions bytes bundles
+  pub formed : All IsFormed bundles
+  pub replies : reply ≡ sessions_reply options bundles
+
+-- what comes of the bytes of sessions: no bundle among them makes that they are refused
+abbrev pub ComesOfSessions : Options → List ℕ → Verdict → Type 0
+ComesOfSessions options bytes TooLong = most_bytes < length bytes
+ComesOfSessions options bytes (Unspelled byte) =
+    (length bytes ≤ most_bytes) × SpellsNoSessions bytes
+ComesOfSessions options bytes (Refused why) = ⊥
+ComesOfSessions options bytes (Replied reply) = RepliesToSessions options bytes reply
+
+-- what comes of the bytes that a command reads, by the options where they are sessions
+abbrev pub ComesOfInput : Option Options → Command → List ℕ → Verdict → Type 0
+ComesOfInput (Some options) asked bytes verdict = ComesOfSessions options bytes verdict
+ComesOfInput None asked bytes verdict = ComesOfText asked bytes verdict
+
 -- where the command has its reply without reading, that comes of any bytes
 abbrev pub ComesBy : Option Reply → Command → List ℕ → Verdict → Type 0
 ComesBy (Some reply) asked bytes verdict = verdict ≡ Replied reply
-ComesBy None asked bytes verdict = ComesOfText asked bytes verdict
+ComesBy None asked bytes verdict = ComesOfInput (session_options asked) asked bytes verdict
 
 abbrev pub Comes : Command → List ℕ → Verdict → Type 0
 Comes asked bytes verdict = ComesBy (unread_reply asked) asked bytes verdict

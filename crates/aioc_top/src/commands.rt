@@ -8,5 +8,6 @@ pub mod monitor;
 pub mod project;
 pub mod replay;
 pub mod resume;
+pub mod sessions;
 pub mod step;
 pub mod upgrade;

@@ -5,10 +5,11 @@ ghost use Rattle.dioc_terms.specs.Bundles.{IsFormed};
 ghost use Rattle.limits.specs.Limits.{most_bytes};
 ghost use Rattle.dioc_terms.specs.Plain.{plain};
 ghost use Rattle.rule_checks.specs.Refusals.{IsAccepted};
-ghost use Rattle.aioc_top.specs.Faults.{IsJudgedSo, IsMendRefusalFault, IsRefusalFault, IsSyntaxFault, IsRefusedSo};
-ghost use Rattle.aioc_top.specs.Replies.{Replies, reply_of, takes_accepted, unread_reply};
-ghost use Rattle.aioc_top.specs.Verdicts.{ComesOfText, Replied, IsReplied};
-ghost use Rattle.aioc_top.specs.Words.{IsServed};
+ghost use Rattle.aioc_top.specs.Faults.{IsJudgedSo, IsMendRefusalFault, IsRefusalFault, IsSyntaxFault, IsRefusedSo, IsUnspelledSo};
+ghost use Rattle.aioc_top.specs.Replies.{Replies, reply_of, session_options, takes_accepted, unread_reply};
+ghost use Rattle.aioc_top.specs.Verdicts.{ComesOfText, Replied, IsReplied, RepliesToSessions};
+ghost use Rattle.aioc_top.specs.Words.{IsServed, IsShort};
+ghost use Rattle.command_words.specs.declared.commands.Command.TheVariants as command;
 
 use crate::commands::check::check;
 use crate::commands::drive::drive;
@@ -17,20 +18,24 @@ use crate::commands::monitor::{accept_role, monitor};
 use crate::commands::project::project;
 use crate::commands::replay::replay;
 use crate::commands::resume::resume;
+use crate::commands::sessions::sessions;
 use crate::commands::step::step;
 use crate::commands::upgrade::upgrade;
 use crate::faults::{Fault, make_mend_refusal_line, make_refusal_line, make_syntax_line};
 use crate::replies::Written;
 use bundle_mend::MendRefusal;
-use bundle_text::read_bundle;
-use command_words::Command;
+use bundle_text::{read_bundle, read_sessions};
+use command_words::{Command, Options};
 use dioc_terms::{Bundle, Memory, Role, SyntaxFault};
 use rule_checks::{Refusal, accept};
 use std::alloc::Global;
+use std::sync::Wait;
+use std::thread::Threads;
 
 /// What the command replies to the bundle that the bytes spell, or why it doesn't.
 pub fn judge(alloc: Global, command: &Command, bytes: &[u8]) -> Result<Written, Fault>
     requires served { IsServed command.now }
+    requires single { session_options command.now ≡ None }
     requires reads { unread_reply command.now ≡ None }
     requires small { length bytes.now ≤ most_bytes }
     ensures reply { IfOk result
@@ -39,6 +44,29 @@ pub fn judge(alloc: Global, command: &Command, bytes: &[u8]) -> Result<Written, 
 {
     match read_bundle(alloc, bytes) {
         Ok(mut bundle) => reply_to(alloc, command, &mut bundle),
+        Err(SyntaxFault::Syntax(byte)) => Err(syntax_fault(alloc, byte)),
+        Err(SyntaxFault::Memory) => Err(Fault::Memory),
+    }
+}
+
+/// What `sessions` replies to the sessions that the bytes spell, or that they spell none.
+pub fn judge_sessions<R: Threads + Wait + Sync>(
+    rt: &R,
+    alloc: Global,
+    options: &Options,
+    bytes: &[u8],
+) -> Result<Written, Fault>
+    requires short { IsShort (command.Sessions options.now) }
+    requires small { length bytes.now ≤ most_bytes }
+    ensures reply { IfOk result
+        (λ written. RepliesToSessions options.now bytes.now (reply_of written)) }
+    ensures fault { IfErr result (IsUnspelledSo options.now bytes.now) }
+{
+    match read_sessions(alloc, bytes) {
+        Ok(bundles) => match sessions(rt, alloc, options, bundles.as_slice()) {
+            Ok(written) => Ok(written),
+            Err(Memory) => Err(Fault::Memory),
+        },
         Err(SyntaxFault::Syntax(byte)) => Err(syntax_fault(alloc, byte)),
         Err(SyntaxFault::Memory) => Err(Fault::Memory),
     }
@@ -56,6 +84,7 @@ fn syntax_fault(alloc: Global, byte: usize) -> Fault
 // What the command replies to a formed bundle, or the first reason for which it refuses it.
 fn reply_to(alloc: Global, command: &Command, bundle: &mut Bundle) -> Result<Written, Fault>
     requires served { IsServed command.now }
+    requires single { session_options command.now ≡ None }
     requires reads { unread_reply command.now ≡ None }
     requires formed { IsFormed (plain bundle.old) }
     ensures reply { IfOk result (IsReplied command.now (plain bundle.old)) }
@@ -112,6 +141,7 @@ fn reply_monitored(alloc: Global, role: &Role, bundle: &Bundle) -> Result<Writte
 // the bundle.
 fn reply_accepted(alloc: Global, command: &Command, bundle: &mut Bundle) -> Result<Written, Fault>
     requires served { IsServed command.now }
+    requires single { session_options command.now ≡ None }
     requires reads { unread_reply command.now ≡ None }
     requires other { takes_accepted command.now ≡ true }
     requires formed { IsFormed (plain bundle.old) }
@@ -142,6 +172,7 @@ fn refusal_fault(alloc: Global, refusal: &Refusal) -> Fault
 // The reply of a command that is built. Only `upgrade` changes the bundle.
 fn do_command(alloc: Global, command: &Command, bundle: &mut Bundle) -> Result<Written, Memory>
     requires served { IsServed command.now }
+    requires single { session_options command.now ≡ None }
     requires reads { unread_reply command.now ≡ None }
     requires other { takes_accepted command.now ≡ true }
     requires accepted { IsAccepted (plain bundle.old) }

@@ -11,5 +11,6 @@ mod service;
 mod status;
 mod words;
 
-pub use service::serve_alone;
+pub use service::{serve, serve_alone};
 pub use status::Status;
+pub use words::is_threaded;

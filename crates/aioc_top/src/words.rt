@@ -2,11 +2,23 @@
 
 ghost use Rattle.std.specs.Prelude.{◌≡◌, Some, None, if◌then◌else◌, IfOk};
 ghost use Rattle.command_words.specs.Commands.{word_texts};
-ghost use Rattle.aioc_top.specs.Words.{asked, is_built};
+ghost use Rattle.aioc_top.specs.Words.{asked, is_built, is_threaded};
 
 use command_words::{Command, read_words};
 use dioc_terms::Memory;
 use std::alloc::Global;
+
+/// Whether the words ask for what is done by threads: their first is `run` or `sessions`.
+pub fn is_threaded(words: &[Vec<u8>]) -> bool
+    ensures { result ≡ is_threaded (word_texts words.now) }
+{
+    match words {
+        [] => false,
+        [name, ..] => {
+            name.as_slice() == b"run".as_slice() || name.as_slice() == b"sessions".as_slice()
+        }
+    }
+}
 
 /// The command that the words after the program's name ask for; none where they spell no command,
 /// or one that isn't built.
@@ -38,7 +50,7 @@ fn is_built(command: &Command) -> bool
         Command::Step(_) | Command::Drive(_) | Command::Resume(_) => true,
         Command::Check | Command::Project | Command::Replay => true,
         Command::Upgrade | Command::Mend => true,
-        Command::Monitor(_) | Command::Gen { .. } => true,
+        Command::Monitor(_) | Command::Sessions(_) | Command::Gen { .. } => true,
         _ => false,
     }
 }

@@ -8,8 +8,8 @@ use Rattle.bundle_text.specs.Many.{Many}
 use Rattle.bundle_text.specs.Grammar.{closed_before, Section, IsSection, Joined, joined, IsMadeOf}
 use Rattle.bundle_text.specs.Sessions.{IsSession}
 
--- sections stand from one place of the text up to the other, at which a `}` stands, and this is what
--- they have
+-- sections stand from one place of the text up to the other, at which a `}` stands, and this is
+-- what they have
 pub record TakesClosed (version : ℕ) (text : List Lexeme) (at : ℕ) (found : Joined) (closes : ℕ) :
     Type 0 where
   pub sections : List Section

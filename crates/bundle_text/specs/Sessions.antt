@@ -1,5 +1,5 @@
--- Sessions, each a bundle in brackets: which of them a text spells, and where the reading of one ends
--- that spells none.
+-- Sessions, each a bundle in brackets: which of them a text spells, and where the reading of one
+-- ends that spells none.
 use Rattle.std.specs.Prelude.{◌≡◌, ◌≢◌, ℕ, ◌+◌, ◌<◌, ◌≤◌, ◌⊎◌, List, [], ◌∷◌, length, drop, codes}
 use Rattle.limits.specs.Limits.{most_bytes}
 use Rattle.dioc_terms.specs.Plain.{PlainBundle}
@@ -20,8 +20,8 @@ most_sessions = 1000
 abbrev pub session_before : List Lexeme → List Lexeme
 session_before others = opened_by (codes "session") others
 
--- From one list up to a rest of it stands this session; `session` is no reserved word. Its bundle has
--- a version of its own, and its bracket doesn't count among those that are open in it:
+-- From one list up to a rest of it stands this session; `session` is no reserved word. Its bundle
+-- has a version of its own, and its bracket doesn't count among those that are open in it:
 --   session = "session" "{" bundle "}"
 pub record IsSession (from : List Lexeme) (b : PlainBundle) (to : List Lexeme) : Type 0 where
   pub inside : List Lexeme
@@ -60,8 +60,8 @@ pub data EndsInBrackets (version : ℕ) (text : List Lexeme) (at place : ℕ) : 
       → (joined sections).choreos ≡ []
       → EndsInBrackets version text at place
 
--- the reading of a session from one place of the text on ends at the other: no session begins there,
--- or its bundle is none
+-- the reading of a session from one place of the text on ends at the other: no session begins
+-- there, or its bundle is none
 pub data EndsInSession (text : List Lexeme) (at place : ℕ) : Type 0 where
   no_session : place ≡ at
       → ((inside : List Lexeme) → drop at text ≡ session_before inside → ⊥)

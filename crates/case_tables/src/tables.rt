@@ -8,6 +8,8 @@ use crate::problems::Problem;
 use aioc_io::{Sink, Source, read_all, write_all};
 use dioc_terms::Memory;
 use std::alloc::Global;
+use std::sync::Wait;
+use std::thread::Threads;
 use text_pieces::write_bytes;
 
 // The most bytes of a table.
@@ -15,12 +17,18 @@ const TABLE_LIMIT: usize = 1_048_576;
 
 /// What answers the cases of a table.
 pub trait Answers {
-    /// The lines that answer a case.
-    fn answer(&self, alloc: Global, case: &Case) -> Result<Vec<u8>, Problem>;
+    /// The lines that answer a case. A call that starts threads does so by `rt`.
+    fn answer<R: Threads + Wait + Sync>(
+        &self,
+        rt: &R,
+        alloc: Global,
+        case: &Case,
+    ) -> Result<Vec<u8>, Problem>;
 }
 
 /// Reads a table from the source, and writes it to `out` with the answers, or says why not.
-pub fn answer_source<A: Answers, S: Source, O: Sink>(
+pub fn answer_source<R: Threads + Wait + Sync, A: Answers, S: Source, O: Sink>(
+    rt: &R,
     alloc: Global,
     answers: &A,
     source: &mut S,
@@ -29,7 +37,7 @@ pub fn answer_source<A: Answers, S: Source, O: Sink>(
     let Ok(table) = read_all(alloc, source, TABLE_LIMIT) else {
         return Err("the table can't be read whole");
     };
-    let Ok(lines) = answer_table(alloc, answers, &table) else {
+    let Ok(lines) = answer_table(rt, alloc, answers, &table) else {
         return Err("out of memory");
     };
     match write_all(out, &lines) {
@@ -39,21 +47,26 @@ pub fn answer_source<A: Answers, S: Source, O: Sink>(
 }
 
 // The lines of the table, with the answer of each case behind its lines.
-fn answer_table<A: Answers>(alloc: Global, answers: &A, table: &[u8]) -> Result<Vec<u8>, Memory> {
+fn answer_table<R: Threads + Wait + Sync, A: Answers>(
+    rt: &R,
+    alloc: Global,
+    answers: &A,
+    table: &[u8],
+) -> Result<Vec<u8>, Memory> {
     let mut out = Vec::new(alloc);
     let mut begun = None;
     for line in lines(table).split(|byte| *byte == b'\n') {
         begun = match line {
             [b'|', rest @ ..] => continued(begun, rest),
             _ => {
-                write_answer(alloc, answers, begun, &mut out)?;
+                write_answer(rt, alloc, answers, begun, &mut out)?;
                 begin(alloc, line)
             }
         };
         write_bytes(line, &mut out)?;
         write_bytes(b"\n", &mut out)?;
     }
-    write_answer(alloc, answers, begun, &mut out)?;
+    write_answer(rt, alloc, answers, begun, &mut out)?;
     Ok(out)
 }
 
@@ -88,7 +101,8 @@ fn with_line(mut case: Case, line: &[u8]) -> Result<Case, Problem> {
 }
 
 // The lines of the answer to a case, where there is one.
-fn write_answer<A: Answers>(
+fn write_answer<R: Threads + Wait + Sync, A: Answers>(
+    rt: &R,
     alloc: Global,
     answers: &A,
     begun: Option<Result<Case, Problem>>,
@@ -99,7 +113,7 @@ fn write_answer<A: Answers>(
         Some(Err(problem)) => return write_problem(problem, out),
         Some(Ok(case)) => case,
     };
-    match answers.answer(alloc, &case) {
+    match answers.answer(rt, alloc, &case) {
         Ok(lines) => write_lines(b"  ", &lines, out),
         Err(problem) => write_problem(problem, out),
     }

@@ -4,7 +4,7 @@
 ghost use Rattle.std.specs.Prelude.{◌≤◌};
 
 use aioc_io::{MemSink, MemSource};
-use aioc_top::{Status, serve_alone};
+use aioc_top::{Status, is_threaded, serve_alone};
 use std::alloc::{AllocError, Global};
 
 // The most bytes that one call of a device moves: few, so that a sink grows often.
@@ -18,10 +18,14 @@ pub struct Outcome {
 }
 
 /// The top call with these words over this input, or that memory was refused to the call's devices.
+/// Words for threads aren't tried here.
 pub fn serve(alloc: Global, words: &[&str], input: &[u8]) -> Result<Outcome, AllocError> {
     let mut given = Vec::new(alloc);
     for word in words {
         given.push(word.as_bytes().to_vec(alloc)?)?;
+    }
+    if is_threaded(&given) {
+        return Err(AllocError);
     }
     let mut source = MemSource::new(input.to_vec(alloc)?, PIECE, Vec::new(alloc));
     let mut out = MemSink::new(alloc, PIECE, Vec::new(alloc));

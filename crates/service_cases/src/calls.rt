@@ -6,28 +6,42 @@ mod sweeps;
 
 use case_tables::{Answers, Case, Problem};
 use std::alloc::Global;
+use std::sync::Wait;
+use std::thread::Threads;
 
 /// The calls of this program.
 #[derive(Clone, Copy, Debug)]
 pub struct ServiceCalls;
 
 impl Answers for ServiceCalls {
-    fn answer(&self, alloc: Global, case: &Case) -> Result<Vec<u8>, Problem> {
+    fn answer<R: Threads + Wait + Sync>(
+        &self,
+        rt: &R,
+        alloc: Global,
+        case: &Case,
+    ) -> Result<Vec<u8>, Problem> {
         let mut out = Vec::new(alloc);
-        answer_into(alloc, case, &mut out)?;
+        answer_into(rt, alloc, case, &mut out)?;
         Ok(out)
     }
 }
 
 // Appends the lines that answer a case.
-fn answer_into(alloc: Global, case: &Case, out: &mut Vec<u8>) -> Result<(), Problem> {
+fn answer_into<R: Threads + Wait + Sync>(
+    rt: &R,
+    alloc: Global,
+    case: &Case,
+    out: &mut Vec<u8>,
+) -> Result<(), Problem> {
     match case.call.as_slice() {
+        b"serve" => services::answer_threaded(rt, alloc, case, out),
         b"serve_alone" => services::answer(alloc, case, out),
         b"serve_over" => services::answer_over(alloc, case, out),
         b"serve_endless" => services::answer_endless(alloc, case, out),
         b"each_read" => sweeps::answer_reads(alloc, case, out),
         b"each_write" => sweeps::answer_writes(alloc, case, out),
         b"each_front" => sweeps::answer_fronts(alloc, case, out),
+        b"each_workers" => sweeps::answer_workers(rt, alloc, case, out),
         b"project" => projections::answer(alloc, case, out),
         _ => Err(Problem::Bad("there is no such call")),
     }

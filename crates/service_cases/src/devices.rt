@@ -3,9 +3,11 @@
 ghost use Rattle.std.specs.Prelude.{◌≤◌};
 
 use aioc_io::{MemSink, MemSource, Source};
-use aioc_top::serve_alone;
+use aioc_top::{is_threaded, serve_alone};
 use case_tables::Problem;
 use std::alloc::Global;
+use std::sync::Wait;
+use std::thread::Threads;
 
 // The most bytes that one call of a usual device moves.
 const PIECE: usize = 65_536;
@@ -90,9 +92,30 @@ pub fn serve_from<S: Source>(
     source: &mut S,
     devices: &Devices,
 ) -> Result<Outcome, Problem> {
+    if is_threaded(words) {
+        return Err(Problem::Bad("such words want the call `serve`"));
+    }
     let mut out = sink_of(alloc, devices.out)?;
     let mut err = sink_of(alloc, devices.err)?;
     let status = serve_alone(alloc, words, source, &mut out, &mut err);
+    Ok(Outcome {
+        code: status.code(),
+        out: out.taken().to_vec(alloc)?,
+        err: err.taken().to_vec(alloc)?,
+    })
+}
+
+/// The top call that may start threads, over a source of this text.
+pub fn serve_threaded<R: Threads + Wait + Sync>(
+    rt: &R,
+    alloc: Global,
+    words: &[Vec<u8>],
+    text: &[u8],
+) -> Result<Outcome, Problem> {
+    let mut source = source_of(alloc, text, Course::usual())?;
+    let mut out = sink_of(alloc, Course::usual())?;
+    let mut err = sink_of(alloc, Course::usual())?;
+    let status = aioc_top::serve(rt, alloc, words, &mut source, &mut out, &mut err);
     Ok(Outcome {
         code: status.code(),
         out: out.taken().to_vec(alloc)?,

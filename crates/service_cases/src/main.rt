@@ -14,7 +14,7 @@ use std::process::ExitCode;
 fn main(rt: HostRuntime) -> io::Result<ExitCode> {
     let mut source = StdSource::new(rt.stdin());
     let mut out = StdSink::new(rt.stdout());
-    match answer_source(rt.alloc(), &ServiceCalls, &mut source, &mut out) {
+    match answer_source(&rt, rt.alloc(), &ServiceCalls, &mut source, &mut out) {
         Ok(()) => Ok(ExitCode::from(0)),
         Err(why) => {
             eprintln!(&rt; "{why}")?;

@@ -1,4 +1,5 @@
 //! `serve_alone WORD..: BUNDLE`: the top call with these words, and the text as its input.
+//! `serve WORD..: BUNDLE` is the one that may start threads and wait for them.
 //!
 //! `serve_over DEVICE,..,DEVICE WORD..: BUNDLE`: the same over devices that move few bytes a call,
 //! or of which a call fails. `from=N` is for a source that gives at most N bytes a call,
@@ -8,16 +9,29 @@
 //! `serve_endless WORD..: BUNDLE`: the same with a source that gives spaces behind the text, and
 //! never ends.
 
-use crate::devices::{Devices, Outcome, serve};
+use crate::devices::{Devices, Outcome, serve, serve_threaded};
 use crate::endless::serve_endless;
 use case_tables::{Case, Problem, read_number, write_lines};
 use dioc_terms::Memory;
 use std::alloc::Global;
+use std::sync::Wait;
+use std::thread::Threads;
 use text_pieces::{write_bytes, write_number};
 
 /// Appends `code N`, and the lines that were written to `out` and to `err`.
 pub fn answer(alloc: Global, case: &Case, out: &mut Vec<u8>) -> Result<(), Problem> {
     let made = serve(alloc, &case.options, &case.text, &Devices::usual())?;
+    Ok(write_outcome(&made, out)?)
+}
+
+/// Appends the same of the call that may start threads.
+pub fn answer_threaded<R: Threads + Wait + Sync>(
+    rt: &R,
+    alloc: Global,
+    case: &Case,
+    out: &mut Vec<u8>,
+) -> Result<(), Problem> {
+    let made = serve_threaded(rt, alloc, &case.options, &case.text)?;
     Ok(write_outcome(&made, out)?)
 }
 

@@ -1,15 +1,16 @@
--- Only commands that are built are asked for.
+-- Only commands that are built are asked for, and none of threads.
 use Rattle.std.proofs.Common.{◌≡◌, Option, Some, sym, ◌∙◌, subst}
 use Rattle.command_words.specs.Commands.{word_texts}
 use Rattle.command_words.specs.declared.commands.Command.{Command}
 use Rattle.aioc_top.specs.Calls.{Happens}
 use Rattle.aioc_top.specs.Words.{asked}
-use Rattle.aioc_top.proofs.Asked.{asked_served}
+use Rattle.aioc_top.proofs.Asked.{asked_served, asked_single}
 use Rattle.aioc_top.proofs.service.do_words.Goals as goal
 
 pub do_command-requires : goal.do_command-requires
 do_command-requires g c = record {
   served = asked_served (word_texts c.args.words.now) c.in-Ok-Some.command (sym c.in-Ok-Some.ensures ∙ c.in-Ok-Some.field-0-is);
+  single = asked_single (word_texts c.args.words.now) c.in-Ok-Some.command c.requires.alone (sym c.in-Ok-Some.ensures ∙ c.in-Ok-Some.field-0-is);
 }
 
 pub returns-in-Ok-Some : goal.returns-in-Ok-Some
