@@ -1,0 +1,9 @@
+pub mod StepLemmas
+pub mod TieLemmas
+pub mod ActLemmas
+pub mod ScopeLemmas
+pub mod EndLemmas
+pub mod RunLemmas
+pub mod JobLemmas
+pub mod CloseLemmas
+pub mod Crossing

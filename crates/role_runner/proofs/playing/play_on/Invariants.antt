@@ -1,0 +1,13 @@
+-- The seat went on, and the role's state is tied to it.
+use Rattle.dpoc_process.specs.KeptStates.{local_of}
+use Rattle.role_runner.specs.Ties.{IsTied, WentOn}
+use Rattle.stage.specs.Stages.{IsSeatIn}
+use Rattle.turn_lock.specs.Words.{view}
+use Rattle.role_runner.proofs.playing.play_on.Given as goal
+
+abbrev pub invariant-loop : goal.invariant-loop
+invariant-loop g l = record {
+  of : IsSeatIn l.stage l.seat;
+  went : WentOn (view l.fn.seat) (view l.seat);
+  tied : IsTied l.bundle l.role (view l.seat) (local_of l.state);
+}

@@ -1,0 +1,4 @@
+pub mod Acts
+pub mod Ties
+pub mod Endings
+pub mod Jobs

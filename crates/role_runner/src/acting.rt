@@ -1,0 +1,226 @@
+//! The acts of a role, but the begin of a scope: each is committed on the stage, and then done by
+//! the role's own state.
+
+ghost use Rattle.std.specs.Prelude.{◌≡◌, true, IfErr, IfOk, IsSome, Option, Some};
+ghost use Rattle.dioc_terms.specs.declared.names.Name.{Name as OneName};
+ghost use Rattle.dioc_terms.specs.Messages.{act_of};
+ghost use Rattle.dioc_terms.specs.declared.entries.Act.TheVariants as acts;
+ghost use Rattle.dioc_terms.specs.declared.entries.Entry.TheVariants as entries;
+ghost use Rattle.dioc_terms.specs.declared.processes.Key.{Key as OneKey};
+ghost use Rattle.dioc_terms.specs.Plain.{plain};
+ghost use Rattle.dpoc_process.specs.KeptStates.{local_of, IsReady};
+ghost use Rattle.dpoc_process.specs.RoleSteps.{IsPrepared};
+ghost use Rattle.marked_laws.specs.Laws.{IsSound};
+ghost use Rattle.role_runner.specs.Acts.{is_alone};
+ghost use Rattle.role_runner.specs.Ties.{IsTied, Leaves};
+ghost use Rattle.stage.specs.Seats.{CanCommitOwn, CommittedOwn, RefusedFor};
+ghost use Rattle.stage.specs.Faults.{role_fault};
+ghost use Rattle.stage.specs.Stages.{IsSeatIn};
+ghost use Rattle.turn_lock.specs.Words.{view};
+
+use crate::gates::{Gate, Place};
+use crate::known::known;
+use dioc_terms::{Act, Bundle, Entry, Key, Name, Payload, Role};
+use dpoc_process::{Got, Prepared, RoleState, Runs};
+use stage::{CommitFault, Home, Stage};
+use std::sync::Wait;
+use turn_lock::Seat;
+
+/// How a try of an act ended.
+#[derive(Clone, Copy, Debug, PartialEq, Eq)]
+pub(crate) enum Tried {
+    /// It was done.
+    Done,
+    /// It was refused. The role may try again after `NotYet` alone.
+    Refused(CommitFault),
+    /// It was committed, and then there was no memory for what follows it. The role's own state is
+    /// behind its seat.
+    Behind,
+}
+
+/// Puts the message of a put for which the role is ready.
+pub(crate) fn put<R: Wait, G: Gate>(
+    rt: &R,
+    stage: &Stage,
+    bundle: &Bundle,
+    gate: &G,
+    role: &Role,
+    seat: Seat<Home>,
+    state: &mut RoleState,
+    act: &Act,
+    prepared: Prepared,
+) -> (Seat<Home>, Tried)
+    requires sound { IsSound (plain bundle.now) }
+    requires of { IsSeatIn stage.now seat }
+    requires tied { IsTied bundle.now role.now (view seat) (local_of state.old) }
+    requires ready { IsReady state.old act.now }
+    requires shown { IsPrepared (local_of state.old) act.now prepared }
+    requires put { (k : OneKey) × (act.now ≡ acts.Put k) }
+    ensures of { IsSeatIn stage.now result.0 }
+    ensures leaves { Leaves bundle.now role.now (view seat) (view result.0) result.1
+        (local_of state.new) }
+{
+    known();
+    process_steps::offers_are_steps();
+    process_steps::steps_show_their_acts();
+    let Prepared {
+        act: own,
+        entry,
+        head,
+        payload,
+    } = prepared;
+    drop((entry, head));
+    let Act::Put(key) = own else { unreachable!() };
+    let payload = sent(payload);
+    let (seat, done) = stage.commit_put(rt, seat, key, payload);
+    match done {
+        Ok(()) => {
+            gate.pass(rt, Place::AfterStep(role));
+            state.advance(act, Got::Nothing);
+            (seat, Tried::Done)
+        }
+        Err(fault) => (seat, Tried::Refused(fault)),
+    }
+}
+
+/// The message of a put.
+fn sent(payload: Option<Payload>) -> Payload
+    requires { IsSome payload }
+    ensures { payload ≡ Some result }
+{
+    payload.unwrap()
+}
+
+/// Takes the message of a take for which the role is ready.
+pub(crate) fn take<R: Wait, G: Gate>(
+    rt: &R,
+    stage: &Stage,
+    bundle: &Bundle,
+    gate: &G,
+    role: &Role,
+    seat: Seat<Home>,
+    state: &mut RoleState,
+    act: &Act,
+    prepared: Prepared,
+) -> (Seat<Home>, Tried)
+    requires sound { IsSound (plain bundle.now) }
+    requires of { IsSeatIn stage.now seat }
+    requires tied { IsTied bundle.now role.now (view seat) (local_of state.old) }
+    requires ready { IsReady state.old act.now }
+    requires shown { IsPrepared (local_of state.old) act.now prepared }
+    requires take { (k : OneKey) × (act.now ≡ acts.Take k) }
+    ensures of { IsSeatIn stage.now result.0 }
+    ensures leaves { Leaves bundle.now role.now (view seat) (view result.0) result.1
+        (local_of state.new) }
+{
+    known();
+    process_steps::offers_are_steps();
+    process_steps::steps_show_their_acts();
+    let Prepared {
+        act: own,
+        entry,
+        head,
+        payload,
+    } = prepared;
+    drop((own, head, payload));
+    let (key, var) = taken(entry);
+    let (seat, done) = stage.commit_take(rt, seat, &key, var);
+    drop(key);
+    match done {
+        Ok(payload) => {
+            gate.pass(rt, Place::AfterStep(role));
+            state.advance(act, Got::Payload(payload));
+            (seat, Tried::Done)
+        }
+        Err(fault) => (seat, Tried::Refused(fault)),
+    }
+}
+
+/// The key of the entry of a take, and the variable in which it keeps what comes, if in one.
+fn taken(entry: Option<Entry>) -> (Key, Option<Name>)
+    requires { (k : OneKey) × (x : Option OneName) × (entry ≡ Some (entries.Take k x)) }
+    ensures { entry ≡ Some (entries.Take result.0 result.1) }
+{
+    let Some(Entry::Take { key, var }) = entry else {
+        unreachable!()
+    };
+    (key, var)
+}
+
+/// Does what a role does alone, for which it is ready: it sets a variable, reads an input or picks
+/// a branch.
+pub(crate) fn alone<R: Wait, G: Gate>(
+    rt: &R,
+    stage: &Stage,
+    bundle: &Bundle,
+    gate: &G,
+    role: &Role,
+    seat: Seat<Home>,
+    state: &mut RoleState,
+    act: &Act,
+    prepared: Prepared,
+) -> (Seat<Home>, Tried)
+    requires sound { IsSound (plain bundle.now) }
+    requires of { IsSeatIn stage.now seat }
+    requires tied { IsTied bundle.now role.now (view seat) (local_of state.old) }
+    requires ready { IsReady state.old act.now }
+    requires shown { IsPrepared (local_of state.old) act.now prepared }
+    requires alone { is_alone act.now ≡ true }
+    ensures of { IsSeatIn stage.now result.0 }
+    ensures leaves { Leaves bundle.now role.now (view seat) (view result.0) result.1
+        (local_of state.new) }
+{
+    known();
+    process_steps::offers_are_steps();
+    process_steps::steps_show_their_acts();
+    let Prepared {
+        act: own,
+        entry,
+        head,
+        payload,
+    } = prepared;
+    drop((own, head, payload));
+    let entry = shown(entry);
+    let (seat, done) = commit_alone(rt, stage, seat, act, entry);
+    match done {
+        Ok(()) => {
+            gate.pass(rt, Place::AfterStep(role));
+            state.advance(act, Got::Nothing);
+            (seat, Tried::Done)
+        }
+        Err(fault) => (seat, Tried::Refused(fault)),
+    }
+}
+
+/// The entry of an act that isn't a scope's.
+fn shown(entry: Option<Entry>) -> Entry
+    requires { IsSome entry }
+    ensures { entry ≡ Some result }
+{
+    entry.unwrap()
+}
+
+/// Commits the entry of what a role does alone.
+fn commit_alone<R: Wait>(
+    rt: &R,
+    stage: &Stage,
+    seat: Seat<Home>,
+    act: &Act,
+    entry: Entry,
+) -> (Seat<Home>, Result<(), CommitFault>)
+    requires of { IsSeatIn stage.now seat }
+    requires alone { is_alone act.now ≡ true }
+    requires shows { act_of entry ≡ Some act.now }
+    requires can { CanCommitOwn (view seat) entry }
+    ensures of { IsSeatIn stage.now result.0 }
+    ensures done { IfOk result.1
+        (λ _. CommittedOwn role_fault (view seat) (view result.0) entry) }
+    ensures refused { IfErr result.1 (λ f. RefusedFor role_fault (view seat) (view result.0) f) }
+{
+    match act {
+        Act::Set(_) => stage.commit_set(rt, seat, entry),
+        Act::Input(_) => stage.commit_input(rt, seat, entry),
+        Act::Pick(_) => stage.commit_pick(rt, seat, entry),
+        Act::Put(_) | Act::Take(_) | Act::Scope(_) => unreachable!(),
+    }
+}

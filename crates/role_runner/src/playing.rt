@@ -1,0 +1,169 @@
+//! A role that runs in its thread.
+
+ghost use Rattle.std.specs.Prelude.{◌≡◌, [], true, IfSome};
+ghost use Rattle.dioc_terms.specs.Equality.{member};
+ghost use Rattle.dioc_terms.specs.Plain.{plain};
+ghost use Rattle.dpoc_process.specs.KeptStates.{local_of};
+ghost use Rattle.marked_laws.specs.Laws.{IsSound};
+ghost use Rattle.role_runner.specs.Ties.{IsSeated, IsTied, Leaves, WentOn};
+ghost use Rattle.stage.specs.Owners.{cast_place};
+ghost use Rattle.stage.specs.Stages.{IsSeatIn};
+ghost use Rattle.turn_lock.specs.Words.{view};
+
+use crate::acting::{Tried, alone, put, take};
+use crate::gates::{Gate, Place};
+use crate::scopes::begin;
+use crate::starting::opening_state;
+use dioc_terms::{Act, Bundle, Role};
+use dpoc_process::{PrepareFault, RoleState, Runs};
+use stage::{CommitFault, Home, Stage, Why};
+use std::alloc::Global;
+use std::sync::Wait;
+use turn_lock::Seat;
+
+/// A role's run, from its opening state on: until its process has ended, the history is full,
+/// memory runs out or the stage was stopped. Its seat comes back, and with it the role's own state,
+/// unless memory was wanting for that.
+pub(crate) fn play<R: Wait, G: Gate>(
+    rt: &R,
+    alloc: Global,
+    stage: &Stage,
+    bundle: &Bundle,
+    gate: &G,
+    role: &Role,
+    place: u32,
+    seat: Seat<Home>,
+) -> (Seat<Home>, Option<RoleState>)
+    requires sound { IsSound (plain bundle.now) }
+    requires of { IsSeatIn stage.now seat }
+    requires in_cast { member role.now bundle.now.cast ≡ true }
+    requires seated { IsSeated bundle.now (cast_place bundle.now.cast role.now) (view seat) }
+    requires fresh { (view seat).seen ≡ [] }
+    ensures of { IsSeatIn stage.now result.0 }
+    ensures went { WentOn (view seat) (view result.0) }
+    ensures tied { IfSome result.1
+        (λ state. IsTied bundle.now role.now (view result.0) (local_of state)) }
+{
+    dioc_terms::casts_are_roles();
+    match opening_state(alloc, bundle, role) {
+        Ok(state) => play_on(rt, alloc, stage, bundle, gate, role, place, seat, state),
+        Err(_) => (stage.stop(rt, seat, Why::Memory(place)), None),
+    }
+}
+
+/// The same, from where the role stands.
+fn play_on<R: Wait, G: Gate>(
+    rt: &R,
+    alloc: Global,
+    stage: &Stage,
+    bundle: &Bundle,
+    gate: &G,
+    role: &Role,
+    place: u32,
+    seat: Seat<Home>,
+    state: RoleState,
+) -> (Seat<Home>, Option<RoleState>)
+    requires sound { IsSound (plain bundle.now) }
+    requires of { IsSeatIn stage.now seat }
+    requires tied { IsTied bundle.now role.now (view seat) (local_of state) }
+    ensures of { IsSeatIn stage.now result.0 }
+    ensures went { WentOn (view seat) (view result.0) }
+    ensures tied { IfSome result.1
+        (λ state. IsTied bundle.now role.now (view result.0) (local_of state)) }
+{
+    let mut seat = seat;
+    let mut state = state;
+    for _ in rt.forever() {
+        let count = stage.holds(rt);
+        if state.is_done() {
+            return (stage.finish(rt, seat, role), Some(state));
+        }
+        let (next, tried) = take_turn(rt, alloc, stage, bundle, gate, role, seat, &mut state);
+        seat = next;
+        match tried {
+            Tried::Done => {}
+            Tried::Refused(CommitFault::NotYet) => stage.wait_past(rt, count),
+            Tried::Refused(CommitFault::Full) => {
+                return (stage.stop(rt, seat, Why::Limit), Some(state));
+            }
+            Tried::Refused(CommitFault::Memory) => {
+                return (stage.stop(rt, seat, Why::Memory(place)), Some(state));
+            }
+            Tried::Refused(_) => return (seat, Some(state)),
+            Tried::Behind => return (stage.stop(rt, seat, Why::Memory(place)), None),
+        }
+    }
+    unreachable!()
+}
+
+/// Tries the acts of the role's process, in their order, until one is done or refused for more than
+/// that it may not come yet.
+fn take_turn<R: Wait, G: Gate>(
+    rt: &R,
+    alloc: Global,
+    stage: &Stage,
+    bundle: &Bundle,
+    gate: &G,
+    role: &Role,
+    seat: Seat<Home>,
+    state: &mut RoleState,
+) -> (Seat<Home>, Tried)
+    requires sound { IsSound (plain bundle.now) }
+    requires of { IsSeatIn stage.now seat }
+    requires tied { IsTied bundle.now role.now (view seat) (local_of state.old) }
+    ensures of { IsSeatIn stage.now result.0 }
+    ensures leaves { Leaves bundle.now role.now (view seat) (view result.0) result.1
+        (local_of state.new) }
+{
+    let Ok(acts) = state.acts(alloc) else {
+        return (seat, Tried::Refused(CommitFault::Memory));
+    };
+    let mut seat = seat;
+    for act in acts.as_slice() {
+        let (next, tried) = try_act(rt, alloc, stage, bundle, gate, role, seat, state, act);
+        seat = next;
+        match tried {
+            Tried::Refused(CommitFault::NotYet) => {}
+            other => return (seat, other),
+        }
+    }
+    (seat, Tried::Refused(CommitFault::NotYet))
+}
+
+/// One try of an act: it is prepared outside the lock, committed inside it, and then done by the
+/// role's own state. An act that the process doesn't offer may not come yet.
+fn try_act<R: Wait, G: Gate>(
+    rt: &R,
+    alloc: Global,
+    stage: &Stage,
+    bundle: &Bundle,
+    gate: &G,
+    role: &Role,
+    seat: Seat<Home>,
+    state: &mut RoleState,
+    act: &Act,
+) -> (Seat<Home>, Tried)
+    requires sound { IsSound (plain bundle.now) }
+    requires of { IsSeatIn stage.now seat }
+    requires tied { IsTied bundle.now role.now (view seat) (local_of state.old) }
+    ensures of { IsSeatIn stage.now result.0 }
+    ensures leaves { Leaves bundle.now role.now (view seat) (view result.0) result.1
+        (local_of state.new) }
+{
+    let prepared = match state.prepare(alloc, act) {
+        Ok(prepared) => prepared,
+        Err(PrepareFault::NoAct) => return (seat, Tried::Refused(CommitFault::NotYet)),
+        Err(PrepareFault::Memory) => return (seat, Tried::Refused(CommitFault::Memory)),
+    };
+    gate.pass(rt, Place::BeforeStep(role));
+    match act {
+        Act::Put(_) => put(rt, stage, bundle, gate, role, seat, state, act, prepared),
+        Act::Take(_) => take(rt, stage, bundle, gate, role, seat, state, act, prepared),
+        Act::Set(_) | Act::Input(_) | Act::Pick(_) => {
+            alone(rt, stage, bundle, gate, role, seat, state, act, prepared)
+        }
+        Act::Scope(_) => begin(
+            rt, alloc, stage, bundle, gate, role, seat, state, act, prepared,
+        ),
+    }
+}

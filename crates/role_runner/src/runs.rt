@@ -1,0 +1,73 @@
+//! A run of a bundle from its start to its end or its limit.
+
+ghost use Rattle.std.specs.Prelude.{◌≡◌, ◌≤◌, false, IfOk, length};
+ghost use Rattle.dioc_terms.specs.Plain.{plain};
+ghost use Rattle.marked_laws.specs.Laws.{IsSound};
+ghost use Rattle.marked_laws.specs.Network.{network_ended};
+ghost use Rattle.net_core.specs.Schedule.{IsPrompt};
+ghost use Rattle.role_network.specs.Nets.{network_at};
+ghost use Rattle.role_runner.specs.Endings.{IsRun};
+
+use crate::gates::Gate;
+use crate::threads::{Ending, run_roles};
+use dioc_terms::{Bundle, Memory};
+use stage::{Stage, others_leave_alone};
+use std::alloc::Global;
+use std::sync::Wait;
+use std::thread::Threads;
+use trace_book::History;
+
+/// What a run gives.
+#[derive(Debug, Drop)]
+pub struct Outcome {
+    /// The entries, in the order in which they were committed.
+    pub history: History,
+    /// Whether the network has ended; else the history has as many entries as it may.
+    pub ended: bool,
+}
+
+/// Runs a bundle with a thread for each role, and one for the changes of its script, until its
+/// network has ended or its history has `limit` entries. The roles may interleave in any way; a
+/// change that is due comes before any entry of a role. It waits for its threads.
+pub fn run<R: Threads + Wait + Sync, G: Gate + Sync>(
+    rt: &R,
+    alloc: Global,
+    bundle: &Bundle,
+    limit: u64,
+    gate: &G,
+) -> Result<Outcome, Memory>
+    requires sound { IsSound (plain bundle.now) }
+    requires small { limit ≤ 4294967295 }
+    requires few { length bundle.now.cast ≤ 4294967295 }
+    ensures run { IfOk result (λ outcome. IsRun (plain bundle.now) outcome.history.entries) }
+    ensures prompt { IfOk result
+        (λ outcome. IsPrompt (plain bundle.now) outcome.history.entries) }
+    ensures within { IfOk result (λ outcome. length outcome.history.entries ≤ limit) }
+    ensures ended { IfOk result (λ outcome. outcome.ended ≡ network_ended (plain bundle.now).cast
+        (network_at (plain bundle.now) outcome.history.entries)) }
+    ensures full { IfOk result (λ outcome. outcome.ended ≡ false
+        → length outcome.history.entries ≡ limit) }
+{
+    dioc_terms::casts_are_roles();
+    marked_laws::nothing_left();
+    others_leave_alone();
+    let (stage, seats) = Stage::new(alloc, bundle, limit)?;
+    let (seats, ending) = run_roles(rt, alloc, &stage, seats, bundle, limit, gate);
+    let Ok(history) = stage.close(seats) else {
+        unreachable!()
+    };
+    match ending {
+        Ending::Ended => Ok(Outcome {
+            history,
+            ended: true,
+        }),
+        Ending::Limit => Ok(Outcome {
+            history,
+            ended: false,
+        }),
+        Ending::Memory => {
+            drop(history);
+            Err(Memory)
+        }
+    }
+}
