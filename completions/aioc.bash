@@ -6,13 +6,14 @@ _aioc() {
     local before=" ${COMP_WORDS[*]:2:COMP_CWORD-2} "
     COMPREPLY=()
     if ((COMP_CWORD == 1)); then
-        COMPREPLY=($(compgen -W 'step check project replay monitor drive resume upgrade mend sessions gen' -- "$word"))
+        COMPREPLY=($(compgen -W 'run step check project replay monitor drive resume upgrade mend sessions gen' -- "$word"))
         return
     fi
     case ${COMP_WORDS[COMP_CWORD - 1]} in
     --seed | --steps | --workers | =) return ;; # a number stands here
     esac
     case ${COMP_WORDS[1]} in
+    run) options='--steps --aux --json' ;;
     step | resume) options='--seed --steps --aux --json' ;;
     drive) options='--steps' ;;
     sessions) options='--workers --seed --steps' ;;

@@ -2,6 +2,7 @@
 # To use them in a shell: source completions/aioc.fish
 
 complete -c aioc -f
+complete -c aioc -n __fish_use_subcommand -a run -d 'print the trace of a run with a thread for each role'
 complete -c aioc -n __fish_use_subcommand -a step -d 'print the trace of one run'
 complete -c aioc -n __fish_use_subcommand -a check -d 'say whether a bundle is accepted, and how large it is'
 complete -c aioc -n __fish_use_subcommand -a project -d 'print the process of each role'
@@ -13,6 +14,9 @@ complete -c aioc -n __fish_use_subcommand -a upgrade -d 'write a bundle in versi
 complete -c aioc -n __fish_use_subcommand -a mend -d 'add messages until each sequence is linked'
 complete -c aioc -n __fish_use_subcommand -a sessions -d 'run many bundles on a pool of workers'
 complete -c aioc -n __fish_use_subcommand -a gen -d 'make a bundle by a number and a size, run it, and print a summary'
+complete -c aioc -n '__fish_seen_subcommand_from run' -l steps -x -d 'stop after so many entries'
+complete -c aioc -n '__fish_seen_subcommand_from run' -l aux -d 'print auxiliary entries too'
+complete -c aioc -n '__fish_seen_subcommand_from run' -l json -d 'print each entry as a JSON object'
 complete -c aioc -n '__fish_seen_subcommand_from step' -l seed -x -d 'take steps by the sequence of this number'
 complete -c aioc -n '__fish_seen_subcommand_from step' -l steps -x -d 'stop after so many entries'
 complete -c aioc -n '__fish_seen_subcommand_from step' -l aux -d 'print auxiliary entries too'

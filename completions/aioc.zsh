@@ -5,6 +5,7 @@
 _aioc() {
     local -a commands
     commands=(
+        'run:print the trace of a run with a thread for each role'
         'step:print the trace of one run'
         'check:say whether a bundle is accepted, and how large it is'
         'project:print the process of each role'
@@ -24,6 +25,12 @@ _aioc() {
     shift words
     ((CURRENT -= 1))
     case $words[1] in
+    run)
+        _arguments \
+            '--steps=[stop after so many entries]:number: ' \
+            '--aux[print auxiliary entries too]' \
+            '--json[print each entry as a JSON object]'
+        ;;
     step)
         _arguments \
             '--seed=[take steps by the sequence of this number]:number: ' \

@@ -6,7 +6,7 @@ TABLE = "crates/service_cases/stdout"
 TABLES = (TABLE, "crates/aioc_cases/stdout")
 
 # The commands that have threads.
-THREADED = ("sessions",)
+THREADED = ("run", "sessions")
 
 
 def read(path):

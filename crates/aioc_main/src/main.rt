@@ -4,6 +4,7 @@
 
 use aioc_io::{StdSink, StdSource};
 use aioc_top::{Status, serve};
+use role_runner::OpenGate;
 use std::process::ExitCode;
 use std::{env, io};
 
@@ -23,7 +24,15 @@ fn main(rt: HostRuntime) -> ExitCode {
             let mut source = StdSource::new(rt.stdin());
             let mut out = StdSink::new(rt.stdout());
             let mut err = StdSink::new(rt.stderr());
-            serve(&rt, rt.alloc(), &words, &mut source, &mut out, &mut err)
+            serve(
+                &rt,
+                rt.alloc(),
+                &words,
+                &mut source,
+                &mut out,
+                &mut err,
+                &OpenGate,
+            )
         }
         Err(_) => Status::Memory,
     };

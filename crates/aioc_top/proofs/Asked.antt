@@ -1,4 +1,4 @@
--- Words ask for commands that are built, and for no others; and for no longer runs than they can say.
+-- Words ask for no longer runs than they can say, and for threads only by their first.
 use Rattle.std.proofs.Common.{◌≡◌, ◌≤◌, ℕ, List, [], ◌∷◌, Bool, true, false, true≢false, ◌≢◌, ◌&&◌, ◌||◌, Option, Some, None, refl, sym, ap, ◌∙◌, subst, arith}
 use Rattle.std.specs.Prelude.{option_map, option_and_then, unwrap_or, nat_le, codes, if◌then◌else◌}
 use Rattle.std.specs.List.{find, list_all}
@@ -13,7 +13,7 @@ use Rattle.command_words.specs.declared.commands.Command.{Command}
 use Rattle.command_words.specs.declared.commands.Command.TheVariants as command
 use Rattle.command_words.specs.declared.commands.Verb.{Verb}
 use Rattle.command_words.specs.declared.commands.Verb.TheVariants.{Run, Step, Check, Project, Replay, Gen, Upgrade, Mend, Drive, Resume, Monitor, Sessions}
-use Rattle.aioc_top.specs.Words.{asked, is_built, is_threaded, IsShort, IsServed}
+use Rattle.aioc_top.specs.Words.{asked, is_threaded, needs_threads, IsShort}
 use Rattle.aioc_top.specs.Replies.{session_options}
 
 -- where a chain of two answers something, the first answered
@@ -29,12 +29,6 @@ answered f (Some x) y h = (x, refl, some_same h)
 kept : {A : Type 0} (t : Bool) (x y : A) → (if t then Some x else None) ≡ Some y → (t ≡ true) × (x ≡ y)
 kept true x y h = (refl, some_same h)
 kept false x y h = absurd (none_some h)
-
-found_of : (words : List (List ℕ)) (found : Command) → asked words ≡ Some found → (command_of words ≡ Some found) × (is_built found ≡ true)
-found_of words found h =
-    let first = first_answered (λ c. if is_built c then Some c else None) (command_of words) found h in
-    let same = kept (is_built first.0) first.0 found first.2 in
-    (first.1 ∙ ap Some same.1, subst (λ c. is_built c ≡ true) same.1 same.0)
 
 second_true : (a b : Bool) → (a && b) ≡ true → b ≡ true
 second_true true b h = h
@@ -96,7 +90,9 @@ short_with : (verb : Verb) (texts : Texts) (found : Command) → command_with ve
 short_with Step texts found h =
     let its = answered command.Step (options_of Step texts) found h in
     subst IsShort its.2 (bounded Step texts (omega arith) its.0 its.1)
-short_with Run texts found h = let its = answered command.Run (options_of Run texts) found h in subst IsShort its.2 tt
+short_with Run texts found h =
+    let its = answered command.Run (options_of Run texts) found h in
+    subst IsShort its.2 (bounded Run texts (omega arith) its.0 its.1)
 short_with Drive texts found h =
     let its = answered command.Drive (options_of Drive texts) found h in
     subst IsShort its.2 (bounded Drive texts (omega arith) its.0 its.1)
@@ -122,8 +118,8 @@ short_with Monitor texts found h =
     let its = kept _ _ found role.2 in
     subst IsShort its.1 tt
 
-short : (words : List Text) (found : Command) → command_of words ≡ Some found → IsShort found
-short words found h = by_words words (kept_words (list_all is_utf8 words) (named_first words) h)
+pub asked_short : (words : List (List ℕ)) (found : Command) → asked words ≡ Some found → IsShort found
+asked_short words found h = by_words words (kept_words (list_all is_utf8 words) (named_first words) h)
   where
     kept_words : (t : Bool) (o : Option Command) → (if t then o else None) ≡ Some found → o ≡ Some found
     kept_words true o e = e
@@ -136,36 +132,27 @@ short words found h = by_words words (kept_words (list_all is_utf8 words) (named
         let given = first_answered (λ g. command_with verb.0 (text_of g)) (given_by (known_options verb.0) (positional_names verb.0) others) found verb.2 in
         short_with verb.0 (text_of given.0) found given.2
 
-pub asked_built : (words : List (List ℕ)) (found : Command) → asked words ≡ Some found → is_built found ≡ true
-asked_built words found h = (found_of words found h).1
-
-pub asked_served : (words : List (List ℕ)) (found : Command) → asked words ≡ Some found → IsServed found
-asked_served words found h = record {
-  built = (found_of words found h).1;
-  short = short words found (found_of words found h).0;
-}
-
 -- ---- words whose first is no word of threads ask for no command of theirs
 
-single_with : (verb : Verb) (texts : Texts) (found : Command) → verb ≢ Sessions → command_with verb texts ≡ Some found → session_options found ≡ None
-single_with Sessions texts found other h = absurd (other refl)
-single_with Run texts found other h = let its = answered command.Run (options_of Run texts) found h in ap session_options (sym its.2)
-single_with Step texts found other h = let its = answered command.Step (options_of Step texts) found h in ap session_options (sym its.2)
-single_with Drive texts found other h = let its = answered command.Drive (options_of Drive texts) found h in ap session_options (sym its.2)
-single_with Resume texts found other h = let its = answered command.Resume (options_of Resume texts) found h in ap session_options (sym its.2)
-single_with Check texts found other h = ap session_options (sym (some_same h))
-single_with Project texts found other h = ap session_options (sym (some_same h))
-single_with Replay texts found other h = ap session_options (sym (some_same h))
-single_with Upgrade texts found other h = ap session_options (sym (some_same h))
-single_with Mend texts found other h = ap session_options (sym (some_same h))
-single_with Gen texts found other h =
+alone_with : (verb : Verb) (texts : Texts) (found : Command) → verb ≢ Run → verb ≢ Sessions → command_with verb texts ≡ Some found → needs_threads found ≡ false
+alone_with Sessions texts found first other h = absurd (other refl)
+alone_with Run texts found first other h = absurd (first refl)
+alone_with Step texts found first other h = let its = answered command.Step (options_of Step texts) found h in ap needs_threads (sym its.2)
+alone_with Drive texts found first other h = let its = answered command.Drive (options_of Drive texts) found h in ap needs_threads (sym its.2)
+alone_with Resume texts found first other h = let its = answered command.Resume (options_of Resume texts) found h in ap needs_threads (sym its.2)
+alone_with Check texts found first other h = ap needs_threads (sym (some_same h))
+alone_with Project texts found first other h = ap needs_threads (sym (some_same h))
+alone_with Replay texts found first other h = ap needs_threads (sym (some_same h))
+alone_with Upgrade texts found first other h = ap needs_threads (sym (some_same h))
+alone_with Mend texts found first other h = ap needs_threads (sym (some_same h))
+alone_with Gen texts found first other h =
     let number = first_answered _ (option_and_then (number_within 0 most_seed) (texts (codes "number"))) found h in
     let size = answered _ (option_and_then (number_within 1 400) (texts (codes "size"))) found number.2 in
-    ap session_options (sym size.2)
-single_with Monitor texts found other h =
+    ap needs_threads (sym size.2)
+alone_with Monitor texts found first other h =
     let role = first_answered monitor_by (texts (codes "role")) found h in
     let its = kept _ _ found role.2 in
-    ap session_options (sym its.1)
+    ap needs_threads (sym its.1)
 
 found_holds : {A : Type 0} (p : A → Bool) (xs : List A) (y : A) → find p xs ≡ Some y → p y ≡ true
 found_holds p [] y h = absurd (none_some h)
@@ -175,26 +162,29 @@ found_holds p (x ∷ xs) y h = by_test (p x) refl h (found_holds p xs y)
     by_test true is e later = subst (λ z. p z ≡ true) (some_same e) is
     by_test false is e later = later e
 
--- the verb of a name that isn't `sessions`
-other_verb : (name : Text) (verb : Verb) → (bytes_eq name (codes "run") || bytes_eq name (codes "sessions")) ≡ false → verb_of name ≡ Some verb → verb ≢ Sessions
+-- the verb of a name that isn't a word of threads
+other_verb : (name : Text) (verb wanted : Verb) → bytes_eq name (name_of wanted) ≡ false → verb_of name ≡ Some verb → verb ≢ wanted
 unfolding verb_of
-other_verb name verb alone h same =
+other_verb name verb wanted other h same =
     let named : bytes_eq name (name_of verb) ≡ true = found_holds (λ v. bytes_eq name (name_of v)) verbs verb h in
-    true≢false (sym (subst (λ v. bytes_eq name (name_of v) ≡ true) same named) ∙ (or_parts (bytes_eq name (codes "run")) (bytes_eq name (codes "sessions")) alone).1)
+    true≢false (sym (subst (λ v. bytes_eq name (name_of v) ≡ true) same named) ∙ other)
 
-single : (words : List Text) (found : Command) → is_threaded words ≡ false → command_of words ≡ Some found → session_options found ≡ None
-single words found alone h = by_words words alone (kept_words (list_all is_utf8 words) (named_first words) h)
+pub asked_alone : (words : List (List ℕ)) (found : Command) → is_threaded words ≡ false → asked words ≡ Some found → needs_threads found ≡ false
+asked_alone words found alone h = by_words words alone (kept_words (list_all is_utf8 words) (named_first words) h)
   where
     kept_words : (t : Bool) (o : Option Command) → (if t then o else None) ≡ Some found → o ≡ Some found
     kept_words true o e = e
     kept_words false o e = absurd (none_some e)
 
-    by_words : (rest : List Text) → is_threaded rest ≡ false → named_first rest ≡ Some found → session_options found ≡ None
+    by_words : (rest : List Text) → is_threaded rest ≡ false → named_first rest ≡ Some found → needs_threads found ≡ false
     by_words [] quiet e = absurd (none_some e)
     by_words (name ∷ others) quiet e =
         let verb = first_answered (command_by others) (verb_of name) found e in
         let given = first_answered (λ g. command_with verb.0 (text_of g)) (given_by (known_options verb.0) (positional_names verb.0) others) found verb.2 in
-        single_with verb.0 (text_of given.0) found (other_verb name verb.0 quiet verb.1) given.2
+        let parts = or_parts (bytes_eq name (codes "run")) (bytes_eq name (codes "sessions")) quiet in
+        alone_with verb.0 (text_of given.0) found (other_verb name verb.0 Run parts.0 verb.1) (other_verb name verb.0 Sessions parts.1 verb.1) given.2
 
-pub asked_single : (words : List (List ℕ)) (found : Command) → is_threaded words ≡ false → asked words ≡ Some found → session_options found ≡ None
-asked_single words found alone h = single words found alone (found_of words found h).0
+-- a command that threads don't do reads one bundle, where it reads
+pub alone_single : (found : Command) → needs_threads found ≡ false → session_options found ≡ None
+alone_single (command.Sessions options) h = absurd (true≢false h)
+alone_single _ h = refl

@@ -1,5 +1,5 @@
 -- What the table of calls says by each clause.
-use Rattle.std.proofs.Common.{◌≡◌, ◌⊎◌, ◌↔◌, ℕ, List, [], ◌∷◌, length, take, Bool, true, false, true≢false, Option, Some, None, IfSome, IsSome, refl, sym, ap, ◌∙◌, subst, inl, inr, ⊎_elim, arith}
+use Rattle.std.proofs.Common.{◌≡◌, ◌⊎◌, ◌↔◌, ◌≤◌, ℕ, List, [], ◌∷◌, length, take, Bool, true, false, true≢false, Option, Some, None, IfSome, IsSome, refl, sym, ap, ◌∙◌, subst, inl, inr, ⊎_elim, arith}
 use Rattle.std.specs.Prelude.{if◌then◌else◌, option_map}
 use Rattle.std.specs.Option.{option_map_or}
 use Rattle.std.specs.List.{All}
@@ -17,6 +17,7 @@ use Rattle.dioc_terms.specs.Bundles.{IsFormed}
 use Rattle.marked_laws.proofs.Shapes.{none_some, some_same}
 use Rattle.marked_laws.specs.Network.{Network, network_start, network_run, network_ended}
 use Rattle.net_core.specs.Headline.{EveryRun, Headline}
+use Rattle.net_core.specs.Schedule.{IsPrompt}
 use Rattle.marked_laws.specs.Versions.{RunsReadNoVersion, with_version}
 use Rattle.net_core.specs.Laws.{RunsAreSound, SchedulesReadNoVersion}
 use Rattle.net_drive.specs.ResumedLaws.{ResumedRuns, RunStraysAreExact}
@@ -33,10 +34,10 @@ use Rattle.command_words.specs.declared.commands.Options.{Options}
 use Rattle.command_words.specs.declared.commands.Command.{Command}
 use Rattle.command_words.specs.declared.commands.Command.TheVariants as command
 use Rattle.aioc_top.specs.Calls.{Call, Judges, Happens, IsRead, CommandReads, ReadsBy, ReadsNothing, ReadsTo, Says, Writes}
-use Rattle.aioc_top.specs.Replies.{Reply, Replies, drive_reply, monitor_refusal, monitor_reply, is_finished, refusal_of, run_reply, step_history, resume_history, resume_reply, resume_stray, resumed_or_no, replay_reply, line_of_text, check_line, project_text as project_lines, session_options, sessions_reply, upgrade_text as upgraded, unread_reply, gen_line, gen_reply, gen_history, updates_of}
-use Rattle.aioc_top.specs.Serve.{CheckText, ComesExactly, Complete, GenPrinted, GivesUp, AfterEnd, ReadsToEnd, IsComplete, IsUpgraded, JudgementPrinted, MendText, MonitorText, ProjectText, ReadsAll, ReplayText, ResumePrinted, RunPrinted, SaysWhy, SessionsPrinted, SessionsText, Silent, TextPrinted, never_of_sessions, UpgradeText, UsageComes, has_printed}
+use Rattle.aioc_top.specs.Replies.{Reply, Replies, drive_reply, monitor_refusal, monitor_reply, is_finished, refusal_of, IsThreadRun, run_reply, step_history, resume_history, resume_reply, resume_stray, resumed_or_no, replay_reply, line_of_text, check_line, project_text as project_lines, session_options, sessions_reply, upgrade_text as upgraded, unread_reply, gen_line, gen_reply, gen_history, updates_of}
+use Rattle.aioc_top.specs.Serve.{CheckText, ComesExactly, Complete, GenPrinted, GivesUp, HeadlineHolds, AfterEnd, ReadsToEnd, IsComplete, IsUpgraded, JudgementPrinted, MendText, MonitorText, ProjectText, ReadsAll, ReplayText, ResumePrinted, RunPrinted, SaysWhy, SessionsPrinted, SessionsText, Silent, TextPrinted, decided, never_of_sessions, UpgradeText, UsageComes, has_printed}
 use Rattle.aioc_top.specs.Verdicts.{Verdict, TooLong, Unspelled, Refused, Replied, MayReply, RepliesToSessions, Cause, Comes, ComesBy, ComesOfInput, ComesOfSessions, ComesOfText, Refuses, status_of, status_of_end}
-use Rattle.aioc_top.specs.Words.{is_built, IsShort}
+use Rattle.aioc_top.specs.Words.{IsShort}
 use Rattle.command_words.specs.Commands.{usual_steps}
 use Rattle.command_words.specs.declared.commands.Verb.TheVariants.{Gen}
 use Rattle.load_gen.specs.Laws.{MadeAreAccepted}
@@ -270,7 +271,7 @@ sessions_read (command.Sessions given) options h = refl
 sessions_read (command.Gen number size) options h = absurd (none_some h)
 sessions_read _ options h = refl
 
-module _ (one : OneBundle) (call : Call) (all_built : (found : Command) → call.asked ≡ Some found → is_built found ≡ true) where
+module _ (one : OneBundle) (call : Call) where
   pub comes_exactly : (wanted s : Status) → tells_verdict wanted ≡ true → Happens call s → ComesExactly wanted s call.asked call.source
   comes_exactly wanted s tells h = record { only = only; always = always }
     where
@@ -282,14 +283,14 @@ module _ (one : OneBundle) (call : Call) (all_built : (found : Command) → call
             mapped (λ left comes. (its.0, comes, its.2)) call.source.left (comes_told call its.0 its.1),
           )
 
-      same_status : (found : Command) → call.asked ≡ Some found → (its : Told call s) → IfSome call.source.left (λ bytes. Cause found wanted bytes → s ≡ wanted)
+      same_status : (found : Command) → call.asked ≡ Some found → (its : Told call s) → IfSome call.source.left (λ bytes. Cause found wanted bytes → decided found s ≡ decided found wanted)
       same_status found is its =
           let command : its.1.command ≡ found = some_same (sym its.1.asked ∙ is) in
           mapped (λ left comes cause.
-          its.2 ∙ one_kind one found (all_built found is) left its.0 cause.0 (subst (λ c. Comes c left its.0) command comes) cause.1 ∙ sym cause.2)
+          ap (decided found) its.2 ∙ one_kind one found left its.0 cause.0 (subst (λ c. Comes c left its.0) command comes) cause.1 ∙ sym (ap (decided found) cause.2))
           call.source.left (comes_told call its.0 its.1)
 
-      always : (found : Command) → call.asked ≡ Some found → IfSome call.source.left (λ bytes. Cause found wanted bytes → (s ≡ wanted) ⊎ GivesUp s)
+      always : (found : Command) → call.asked ≡ Some found → IfSome call.source.left (λ bytes. Cause found wanted bytes → (decided found s ≡ decided found wanted) ⊎ GivesUp s)
       always found is = ⊎_elim
           (λ gives. filled (λ bytes cause. inr gives) call.source.left)
           (λ its. mapped (λ bytes same cause. inl (same cause)) call.source.left (same_status found is its))
@@ -389,44 +390,83 @@ ends_limit : (t : Bool) {A : Type 0} → (t ≡ true) ⊎ A → (status_of_end (
 ends_limit true h = (λ e. absurd (not_limit e), λ e. absurd (true≢false (e.1)))
 ends_limit false h = (λ e. (⊎_elim (λ is. absurd (true≢false (sym is))) (λ a. a) h, refl), λ e. refl)
 
-module _ (formed : SpelledIsFormed) (every : EveryRun) (sound : RunsAreSound) (options : Options) where
-  pub run_printed : (bytes : List ℕ) (source : SourceState) (out out_after : SinkState) (s : Status) (reply : Reply) → IsRead source bytes
+-- what was printed is a run, where its history leads to a network which has ended or is as long as it may be
+module _ (options : Options) (bytes : List ℕ) (source : SourceState) (out out_after : SinkState) (read : IsRead source bytes) (b : PlainBundle) (spells : Spells bytes b)
+    (accepted : IsAccepted b) (H : List Entry) (N : Network) (headline : Headline b H N) (within : length H ≤ options.steps)
+    (over : (network_ended b.cast N ≡ true) ⊎ (length H ≡ options.steps)) where
+  abbrev run_arrived : (s : Status) → s ≡ status_of_end (run_reply options b H).end → Appends out.taken out_after.taken (run_reply options b H).text
+      → RunPrinted options s source out out_after
+  run_arrived s is wrote =
+      let status_is : s ≡ status_of_end (if network_ended b.cast N then end.Done else end.Limit) =
+      is ∙ ap (λ t. status_of_end (if t then end.Done else end.Limit)) (end_is b H N headline.runs) in
+      record {
+        bytes = bytes;
+        read = read;
+        bundle = b;
+        spells = spells;
+        accepted = accepted;
+        history = H;
+        network = N;
+        printed = wrote;
+        headline = headline;
+        within = within;
+        done = subst (λ t. (t ≡ status.Done) ↔ (network_ended b.cast N ≡ true)) (sym status_is) (ends_done (network_ended b.cast N));
+        limit = subst (λ t. (t ≡ status.Limit) ↔ ((length H ≡ options.steps) × (network_ended b.cast N ≡ false))) (sym status_is)
+            (ends_limit (network_ended b.cast N) over);
+      }
+
+module _ (formed : SpelledIsFormed) (every : EveryRun) (options : Options) where
+  -- a bundle that the bytes spell, and that a command which runs it doesn't refuse, is accepted
+  accepted_of : (bytes : List ℕ) (b : PlainBundle) → Spells bytes b → option_map MayNotRun (refusal b) ≡ None → IsAccepted b
+  accepted_of bytes b spells none = record { formed = formed bytes b spells; no_refusal = unrefused MayNotRun (refusal b) none }
+
+  step_printed : RunsAreSound → (bytes : List ℕ) (source : SourceState) (out out_after : SinkState) (s : Status) (reply : Reply) → IsRead source bytes
       → MayReply (command.Step options) bytes reply → s ≡ status_of_end reply.end → Appends out.taken out_after.taken reply.text
       → (run : RunPrinted options s source out out_after) × (run.history ≡ step_history options run.bundle)
-  run_printed bytes source out out_after s reply read h is wrote =
+  step_printed sound bytes source out out_after s reply read h is wrote =
       let b = h.bundle in
       let H = step_history options b in
-      let accepted : IsAccepted b = record { formed = formed bytes b h.spells; no_refusal = unrefused MayNotRun (refusal b) h.accepted } in
-      let arrives = sound b [] (network_start b) options.seed options.steps accepted refl (omega arith) in
-      let N = arrives.network in
-      let finished : is_finished b H ≡ network_ended b.cast N = end_is b H N arrives.runs in
-      let status_is : s ≡ status_of_end (if network_ended b.cast N then end.Done else end.Limit) =
-      is ∙ ap (λ (r : Reply). status_of_end r.end) h.replies ∙ ap (λ t. status_of_end (if t then end.Done else end.Limit)) finished in (
-        record {
-          bytes = bytes;
-          read = read;
-          bundle = b;
-          spells = h.spells;
-          accepted = accepted;
-          history = H;
-          network = N;
-          printed = subst (λ (r : Reply). Appends out.taken out_after.taken r.text) h.replies wrote;
-          headline = every b H N accepted arrives.runs;
-          within = arrives.within;
-          done = subst (λ t. (t ≡ status.Done) ↔ (network_ended b.cast N ≡ true)) (sym status_is) (ends_done (network_ended b.cast N));
-          limit = subst (λ t. (t ≡ status.Limit) ↔ ((length H ≡ options.steps) × (network_ended b.cast N ≡ false))) (sym status_is)
-              (ends_limit (network_ended b.cast N) arrives.finished);
-        },
+      let accepted : IsAccepted b = accepted_of bytes b h.spells h.accepted in
+      let arrives = sound b [] (network_start b) options.seed options.steps accepted refl (omega arith) in (
+        run_arrived options bytes source out out_after read b h.spells accepted H arrives.network (every b H arrives.network accepted arrives.runs) arrives.within arrives.finished s
+            (is ∙ ap (λ (r : Reply). status_of_end r.end) h.replies) (subst (λ (r : Reply). Appends out.taken out_after.taken r.text) h.replies wrote),
         refl,
       )
 
-  pub step_text : (call : Call) (s : Status) → Happens call s → call.asked ≡ Some (command.Step options) → has_printed s ≡ true
+  run_printed : (bytes : List ℕ) (source : SourceState) (out out_after : SinkState) (s : Status) (reply : Reply) → IsRead source bytes
+      → MayReply (command.Run options) bytes reply → s ≡ status_of_end reply.end → Appends out.taken out_after.taken reply.text
+      → (run : RunPrinted options s source out out_after) × IsPrompt run.bundle run.history
+  run_printed bytes source out out_after s reply read h is wrote =
+      let b = h.bundle in
+      let H = h.replies.0 in
+      let made : IsThreadRun b options.steps H = h.replies.1 in
+      let accepted : IsAccepted b = accepted_of bytes b h.spells h.accepted in (
+        run_arrived options bytes source out out_after read b h.spells accepted H made.network (every b H made.network accepted made.runs) made.within made.finished s
+            (is ∙ ap (λ (r : Reply). status_of_end r.end) h.replies.2) (subst (λ (r : Reply). Appends out.taken out_after.taken r.text) h.replies.2 wrote),
+        made.prompt,
+      )
+
+  pub step_text : RunsAreSound → (call : Call) (s : Status) → Happens call s → call.asked ≡ Some (command.Step options) → has_printed s ≡ true
       → (run : RunPrinted options s call.source call.out call.out_after) × (run.history ≡ step_history options run.bundle)
-  step_text call s h is prints =
+  step_text sound call s h is prints =
       let its = reply_told call s prints (told call s (printing s prints) h) in
       let same : its.1.command ≡ command.Step options = some_same (sym its.1.asked ∙ is) in
       let read : CommandReads (command.Step options) (Replied its.0) its.1.bytes call.source call.source_after = reads_by call (Replied its.0) its.1 (command.Step options) is in
+      step_printed sound its.1.bytes call.source call.out call.out_after s its.0 read.0 (subst (λ c. Comes c its.1.bytes (Replied its.0)) same its.1.comes) its.2 its.3
+
+  pub run_text : (call : Call) (s : Status) → Happens call s → call.asked ≡ Some (command.Run options) → has_printed s ≡ true
+      → (run : RunPrinted options s call.source call.out call.out_after) × IsPrompt run.bundle run.history
+  run_text call s h is prints =
+      let its = reply_told call s prints (told call s (printing s prints) h) in
+      let same : its.1.command ≡ command.Run options = some_same (sym its.1.asked ∙ is) in
+      let read : CommandReads (command.Run options) (Replied its.0) its.1.bytes call.source call.source_after = reads_by call (Replied its.0) its.1 (command.Run options) is in
       run_printed its.1.bytes call.source call.out call.out_after s its.0 read.0 (subst (λ c. Comes c its.1.bytes (Replied its.0)) same its.1.comes) its.2 its.3
+
+pub headline : SpelledIsFormed → EveryRun → RunsAreSound → (call : Call) (s : Status) → Happens call s → HeadlineHolds call.asked s call.source call.out call.out_after
+headline formed every sound call s h options found is runs prints = ⊎_elim
+    (λ same. (run_text formed every options call s h (is ∙ ap Some same) prints).0)
+    (λ same. (step_text formed every options sound call s h (is ∙ ap Some same) prints).0)
+    runs
 
 -- ---- the text of a command that says something of a bundle
 
@@ -533,26 +573,9 @@ module _ (resumed : ResumedRuns) (strays : RunStraysAreExact) (options : Options
       let b = judged.bundle in
       let H = resume_history options b in
       let arrives = resumed b b.trace.entries options.seed options.steps judged.accepted ((strays.none b (take options.steps b.trace.entries)).0 none) in
-      let N = arrives.network in
-      let reply : resume_reply options b ≡ run_reply options b H = ap (resumed_or_no options b) none in
-      let finished : is_finished b H ≡ network_ended b.cast N = end_is b H N arrives.headline.runs in
-      let status_is : s ≡ status_of_end (if network_ended b.cast N then end.Done else end.Limit) =
-      judged.told ∙ ap (λ (r : Reply). status_of_end r.end) reply ∙ ap (λ t. status_of_end (if t then end.Done else end.Limit)) finished in (
-        record {
-          bytes = judged.bytes;
-          read = judged.read;
-          bundle = b;
-          spells = judged.spells;
-          accepted = judged.accepted;
-          history = H;
-          network = N;
-          printed = subst (λ (r : Reply). Appends out.taken out_after.taken r.text) reply judged.printed;
-          headline = arrives.headline;
-          within = arrives.within;
-          done = subst (λ t. (t ≡ status.Done) ↔ (network_ended b.cast N ≡ true)) (sym status_is) (ends_done (network_ended b.cast N));
-          limit = subst (λ t. (t ≡ status.Limit) ↔ ((length H ≡ options.steps) × (network_ended b.cast N ≡ false))) (sym status_is)
-              (ends_limit (network_ended b.cast N) arrives.finished);
-        },
+      let reply : resume_reply options b ≡ run_reply options b H = ap (resumed_or_no options b) none in (
+        run_arrived options judged.bytes source out out_after judged.read b judged.spells judged.accepted H arrives.network arrives.headline arrives.within arrives.finished s
+            (judged.told ∙ ap (λ (r : Reply). status_of_end r.end) reply) (subst (λ (r : Reply). Appends out.taken out_after.taken r.text) reply judged.printed),
         refl,
       )
 

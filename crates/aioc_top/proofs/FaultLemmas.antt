@@ -1,11 +1,13 @@
 -- What comes of a command and the bytes that were read, from what its parts answered.
-use Rattle.std.proofs.Common.{◌≡◌, ◌<◌, ◌≤◌, ℕ, suc, List, length, true, true≢false, Option, Some, None, IfSome, Result, Ok, Err, IfOk, IfErr, refl, sym, ap, ◌∙◌, subst, arith}
+use Rattle.std.proofs.Common.{◌≡◌, ◌≢◌, ◌<◌, ◌≤◌, ℕ, suc, List, length, true, true≢false, Option, Some, None, IfSome, Result, Ok, Err, IfOk, IfErr, refl, sym, ap, ◌∙◌, subst, arith}
 use Rattle.std.specs.Prelude.{option_map, replicate}
 use Rattle.std.proofs.lemmas.List.{length-replicate}
 use Rattle.std.specs.Io.KnownBytes.{IsAtEnd}
 use Rattle.aioc_io.specs.Source.{SourceState}
 use Rattle.limits.specs.Limits.{most_bytes}
 use Rattle.dioc_terms.specs.declared.names.Role.{Role}
+use Rattle.dioc_terms.specs.declared.faults.SyntaxFault.{SyntaxFault}
+use Rattle.dioc_terms.specs.declared.faults.SyntaxFault.TheVariants.{Syntax, Memory}
 use Rattle.dioc_terms.specs.Plain.{PlainBundle}
 use Rattle.bundle_text.specs.Grammar.{Spells, SpellsNone}
 use Rattle.bundle_text.specs.Sessions.{SpellsNoSessions}
@@ -19,7 +21,7 @@ use Rattle.command_words.specs.declared.commands.Command.{Command}
 use Rattle.command_words.specs.declared.commands.Command.TheVariants as command
 use Rattle.marked_laws.proofs.Shapes.{none_some, some_same}
 use Rattle.aioc_top.specs.Calls.{IsRead, ReadsBy, ReadsNothing, ReadsTo}
-use Rattle.aioc_top.specs.Faults.{IsJudgedSo, IsMendRefusalFault, IsRefusalFault, IsRefusedSo, IsSyntaxFault, IsUnspelledSo, ReadSo, Stops}
+use Rattle.aioc_top.specs.Faults.{IsJudgedSo, IsMendRefusalFault, IsRefusalFault, IsRefusedSo, IsSyntaxFault, IsUnspelledSo, ReadSo, Stops, StopsReading}
 use Rattle.aioc_top.specs.Reasons.{MayNotRun, CannotBeMended}
 use Rattle.aioc_top.specs.Replies.{Replies, monitor_refusal, refusal_of, reply_of, mend_text, session_options, takes_accepted, unread_reply}
 use Rattle.aioc_top.specs.Verdicts.{Verdict, TooLong, Unspelled, Refused, Replied, IsReplied, ComesBy, ComesOfInput, ComesOfSessions, ComesOfText, RepliesToSessions}
@@ -36,6 +38,10 @@ mapped_fault f (Err e) h = f e h
 pub mapped_reply : {A E : Type 0} {P Q : A → Type 0} → ((x : A) → P x → Q x) → (r : Result A E) → IfOk r P → IfOk r Q
 mapped_reply f (Ok x) h = f x h
 mapped_reply f (Err e) h = h
+
+-- an answer that is said of each fault but want of memory
+pub told_syntax : {P : Type 0} (f : SyntaxFault) (byte : ℕ) → (f ≢ Memory → P) → f ≡ Syntax byte → P
+told_syntax f byte says is = says (λ e. cc)
 
 pub syntax_is : (asked : Command) (bytes : List ℕ) (byte : ℕ) (f : Fault) → length bytes ≤ most_bytes → SpellsNone bytes → IsSyntaxFault byte f → IsJudgedSo asked bytes f
 syntax_is asked bytes byte (fault.Syntax line) small none h = (byte, (small, none), h)
@@ -174,14 +180,35 @@ too_many None h = let long = long_enough most_bytes in (long.0, tt, long.1)
 too_many (Some told) h = (told, refl, h)
 
 -- more bytes were given than are allowed, whether the source tells them or not
-pub too_long : (asked : Command) (source source_after : SourceState) → session_options asked ≡ None → unread_reply asked ≡ None → IfSome source.left (λ told. most_bytes < length told)
+too_long : (asked : Command) (source source_after : SourceState) → session_options asked ≡ None → unread_reply asked ≡ None → IfSome source.left (λ told. most_bytes < length told)
     → ReadSo asked source source_after TooLong
 too_long asked source source_after single reads h =
     let many = too_many source.left h in
     read_so asked source source_after single reads many.0 TooLong many.1 tt many.2
 
-pub sessions_too_long : (options : Options) (source source_after : SourceState) → IfSome source.left (λ told. most_bytes < length told)
+sessions_too_long : (options : Options) (source source_after : SourceState) → IfSome source.left (λ told. most_bytes < length told)
     → ReadSo (command.Sessions options) source source_after TooLong
 sessions_too_long options source source_after h =
     let many = too_many source.left h in
     read_sessions_so options source source_after many.0 TooLong many.1 tt many.2
+
+-- bytes that aren't had stop a command that reads a bundle
+pub unread : (asked : Command) (source source_after : SourceState) → session_options asked ≡ None → unread_reply asked ≡ None → (f : Fault) → StopsReading source source_after f
+    → Stops asked source source_after f
+unread asked source source_after single reads fault.ReadFault h = (reads, h)
+unread asked source source_after single reads fault.TooLong h = too_long asked source source_after single reads h
+unread asked source source_after single reads fault.Memory h = reads_text asked source source_after single reads
+unread asked source source_after single reads fault.Usage h = absurd h
+unread asked source source_after single reads fault.WriteFault h = absurd h
+unread asked source source_after single reads (fault.Syntax line) h = absurd h
+unread asked source source_after single reads (fault.Refused line) h = absurd h
+
+-- and one that reads sessions
+pub unread_sessions : (options : Options) (source source_after : SourceState) (f : Fault) → StopsReading source source_after f → Stops (command.Sessions options) source source_after f
+unread_sessions options source source_after fault.ReadFault h = (refl, h)
+unread_sessions options source source_after fault.TooLong h = sessions_too_long options source source_after h
+unread_sessions options source source_after fault.Memory h = reads_sessions options source source_after
+unread_sessions options source source_after fault.Usage h = absurd h
+unread_sessions options source source_after fault.WriteFault h = absurd h
+unread_sessions options source source_after (fault.Syntax line) h = absurd h
+unread_sessions options source source_after (fault.Refused line) h = absurd h

@@ -1,5 +1,5 @@
--- The text of a run that has finished is that of the schedule's run.
-use Rattle.std.proofs.Common.{◌≡◌, ◌↔◌, ℕ, List, [], length, Bool, true, false, Some, refl, sym, ap, ◌∙◌, arith, None}
+-- The text of a run that has finished is that of the schedule's run, or of the threads'.
+use Rattle.std.proofs.Common.{◌≡◌, ◌≤◌, ◌⊎◌, inl, inr, ◌↔◌, ℕ, List, [], length, Bool, true, false, Some, refl, sym, ap, ◌∙◌, arith, None}
 use Rattle.std.specs.Prelude.{unwrap_or, if◌then◌else◌}
 use Rattle.std.specs.Option.{option_map_or}
 use Rattle.dioc_terms.specs.declared.entries.Entry.{Entry}
@@ -7,17 +7,20 @@ use Rattle.dioc_terms.specs.Plain.{PlainBundle}
 use Rattle.trace_text.specs.Runs.{run_text}
 use Rattle.marked_laws.specs.Network.{network_run, network_start, network_ended, Network}
 use Rattle.net_core.specs.Laws.{RunsAreSound, Arrives}
+use Rattle.net_core.specs.Schedule.{IsPrompt}
+use Rattle.role_runner.specs.Endings.{IsRun}
 use Rattle.role_network.specs.Nets.{network_at}
 use Rattle.rule_checks.specs.Refusals.{IsAccepted}
 use Rattle.schedule.specs.declared.runs.Finish.{Finish}
 use Rattle.schedule.specs.declared.runs.Finish.TheVariants as finish
 use Rattle.command_words.specs.Commands.{usual_steps}
 use Rattle.command_words.specs.declared.commands.Options.{Options}
+use Rattle.command_words.specs.declared.commands.Command.TheVariants as command
 use Rattle.command_words.specs.declared.commands.Verb.TheVariants.{Gen}
 use Rattle.load_gen.specs.Made.{made}
 use Rattle.aioc_top.specs.declared.replies.End.TheVariants as end
 use Rattle.aioc_top.specs.declared.replies.Written.{Written}
-use Rattle.aioc_top.specs.Replies.{gen_history, gen_line, gen_reply, line_of_text, updates_of, reply_of, run_reply, last_of, is_finished, step_history}
+use Rattle.aioc_top.specs.Replies.{IsThreadRun, Replies, gen_history, gen_line, gen_reply, line_of_text, updates_of, reply_of, run_reply, last_of, is_finished, step_history}
 use Rattle.aioc_top.specs.Endings.{end_of, last_for}
 
 abbrev is_end : Finish → Bool
@@ -63,6 +66,34 @@ module _ (options : Options) (b : PlainBundle) (is : IsAccepted b) (sound : Runs
       wrote ∙ (λ j. run_text options.aux options.json (same j) (last_for how (length (same j))))
       ∙ ap (run_text options.aux options.json (step_history options b)) (last_by how (length (step_history options b)) ∙ ap (λ t. last_of t (length (step_history options b))) over) in
       λ j. record { end = end_is j; text = text_is j }
+
+-- ---- the run of the threads
+
+pub run_replied : (options : Options) (b : PlainBundle) (H : List Entry) (over : Bool) (written : Written) → IsRun b H → IsPrompt b H → length H ≤ options.steps
+    → over ≡ network_ended b.cast (network_at b H) → (over ≡ false → length H ≡ options.steps)
+    → written.end ≡ (if over then end.Done else end.Limit)
+    → written.text.items ≡ run_text options.aux options.json H (last_of over (length H))
+    → Replies (command.Run options) b (reply_of written)
+run_replied options b H over written run prompt within told full ends wrote = (H, made, λ j. record { end = end_is j; text = text_is j })
+  where
+    stands : over ≡ network_ended b.cast run.network
+    stands = told ∙ ap (λ o. network_ended b.cast (unwrap_or o (network_start b))) run.runs
+
+    finished : over ≡ is_finished b H
+    finished = stands ∙ sym (ap (λ o. option_map_or (network_ended b.cast) o false) run.runs)
+
+    by_end : (t : Bool) → over ≡ t → (network_ended b.cast run.network ≡ true) ⊎ (length H ≡ options.steps)
+    by_end true e = inl (sym stands ∙ e)
+    by_end false e = inr (full e)
+
+    made : IsThreadRun b options.steps H
+    made = record { network = run.network; runs = run.runs; prompt = prompt; within = within; finished = by_end over refl }
+
+    end_is : written.end ≡ (if is_finished b H then end.Done else end.Limit)
+    end_is = ends ∙ ap (λ t. if t then end.Done else end.Limit) finished
+
+    text_is : written.text.items ≡ run_text options.aux options.json H (last_of (is_finished b H) (length H))
+    text_is = wrote ∙ ap (λ t. run_text options.aux options.json H (last_of t (length H))) finished
 
 -- ---- the line of a made bundle
 

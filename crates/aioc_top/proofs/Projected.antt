@@ -1,10 +1,10 @@
--- What a choreography gives a role to do has a text, and an accepted bundle has few nodes.
-use Rattle.std.proofs.Common.{◌≡◌, ◌≤◌, ℕ, List, ◌∷◌, Bool, true, false, cond, ◌&&◌, Option, Some, None, refl}
+-- What a choreography gives a role to do has a text, and an accepted bundle has few nodes and few roles.
+use Rattle.std.proofs.Common.{◌≡◌, ◌≤◌, ℕ, List, ◌∷◌, length, Bool, true, false, cond, ◌&&◌, Option, Some, None, refl}
 use Rattle.std.specs.Prelude.{if◌then◌else◌, nat_lt}
 use Rattle.std.proofs.lemmas.Bool.{ltb-false}
 use Rattle.dioc_terms.specs.declared.names.Role.{Role}
 use Rattle.dioc_terms.specs.Equality.{role_eq}
-use Rattle.limits.specs.Limits.{most_nodes}
+use Rattle.limits.specs.Limits.{most_nodes, most_roles}
 use Rattle.dioc_terms.specs.Plain.{PlainBundle}
 use Rattle.dioc_terms.specs.Processes as process
 use Rattle.dioc_terms.specs.Processes.{Process}
@@ -13,7 +13,8 @@ use Rattle.dioc_terms.specs.Terms.{Term, is_in, nodes, others, head_of}
 use Rattle.projection.specs.Projection.{projected}
 use Rattle.rule_checks.specs.declared.refusals.Refusal.{Refusal}
 use Rattle.rule_checks.specs.declared.refusals.Refusal.TheVariants.{TooMany}
-use Rattle.rule_checks.specs.declared.refusals.Which.TheVariants.{Nodes}
+use Rattle.rule_checks.specs.declared.refusals.Which.{Which}
+use Rattle.rule_checks.specs.declared.refusals.Which.TheVariants.{Nodes, Roles}
 use Rattle.rule_checks.specs.Refusals.{IsAccepted, first_refusal, too_many}
 use Rattle.trace_text.specs.Process.{has_text}
 
@@ -56,14 +57,19 @@ projected_has_text cast (term.Scope i q I extra props level) r =
     (if is_in r whole then process.ScopeFollow i q inside else process.Skip) part
     (either (is_in r whole) (process.ScopeFollow i q inside) process.Skip (either (is_in r I) P process.Skip part refl) refl)
 
-first_none : (first : Option Refusal) (rest : List (Option Refusal)) → first_refusal (first ∷ rest) ≡ None → first ≡ None
-first_none None rest h = refl
+first_none : (first : Option Refusal) (rest : List (Option Refusal)) → first_refusal (first ∷ rest) ≡ None → (first ≡ None) × (first_refusal rest ≡ None)
+first_none None rest h = (refl, h)
 first_none (Some why) rest h = absurd cc
 
-few : (most count : ℕ) (test : Bool) → nat_lt most count ≡ test → cond test (Some (TooMany Nodes)) None ≡ None → count ≤ most
-few most count true is h = absurd cc
-few most count false is h = ltb-false most count is
+few : (which : Which) (most count : ℕ) (test : Bool) → nat_lt most count ≡ test → cond test (Some (TooMany which)) None ≡ None → count ≤ most
+few which most count true is h = absurd cc
+few which most count false is h = ltb-false most count is
 
--- an accepted bundle has few nodes
-pub few_nodes : (b : PlainBundle) → IsAccepted b → nodes b.choreo ≤ most_nodes
-few_nodes b accepted = few most_nodes (nodes b.choreo) (nat_lt most_nodes (nodes b.choreo)) refl (first_none (too_many Nodes most_nodes (nodes b.choreo)) _ accepted.no_refusal)
+-- an accepted bundle has few nodes and few roles
+module _ (b : PlainBundle) (accepted : IsAccepted b) where
+  pub few_nodes : nodes b.choreo ≤ most_nodes
+  few_nodes = few Nodes most_nodes (nodes b.choreo) (nat_lt most_nodes (nodes b.choreo)) refl (first_none (too_many Nodes most_nodes (nodes b.choreo)) _ accepted.no_refusal).0
+
+  pub few_roles : length b.cast ≤ most_roles
+  few_roles = few Roles most_roles (length b.cast) (nat_lt most_roles (length b.cast)) refl
+      (first_none (too_many Roles most_roles (length b.cast)) _ (first_none (too_many Nodes most_nodes (nodes b.choreo)) _ accepted.no_refusal).1).0

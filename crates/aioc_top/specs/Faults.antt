@@ -1,5 +1,6 @@
 -- The status and the line of each fault, and which verdict a fault of a text tells.
-use Rattle.std.specs.Prelude.{◌≡◌, ◌≢◌, ℕ, List, Some, None}
+use Rattle.std.specs.Prelude.{◌≡◌, ◌≢◌, ◌<◌, ℕ, List, length, Some, None, IfSome}
+use Rattle.limits.specs.Limits.{most_bytes}
 use Rattle.aioc_io.specs.Faults.{Rose}
 use Rattle.aioc_io.specs.Source.{SourceState}
 use Rattle.dioc_terms.specs.Plain.{PlainBundle}
@@ -87,6 +88,14 @@ pub record ReadSo (asked : Command) (source source_after : SourceState) (verdict
     pub bytes : List ℕ
     pub read : CommandReads asked verdict bytes source source_after
     pub comes : Comes asked bytes verdict
+
+-- why the bytes of a source aren't had
+abbrev pub StopsReading : SourceState → SourceState → Fault → Type 0
+StopsReading source source_after fault.ReadFault = Rose source.faults source_after.faults
+StopsReading source source_after fault.TooLong =
+    IfSome source.left (λ told. most_bytes < length told)
+StopsReading source source_after fault.Memory = Unit {0}
+StopsReading source source_after _ = ⊥
 
 -- why a command has no reply to what a source has
 abbrev pub Stops : Command → SourceState → SourceState → Fault → Type 0

@@ -15,7 +15,7 @@ use Rattle.bundle_text.specs.Sessions.{SpellsSessions}
 use Rattle.global_steps.specs.Follow.{play}
 use Rattle.marked_laws.specs.Network.{Network, network_ended, network_run}
 use Rattle.marked_laws.specs.Versions.{with_version}
-use Rattle.net_core.specs.Schedule.{sched}
+use Rattle.net_core.specs.Schedule.{sched, IsPrompt}
 use Rattle.net_core.specs.Headline.{Headline}
 use Rattle.net_drive.specs.Driven.{driven}
 use Rattle.net_drive.specs.Strays.{IsDriveStray}
@@ -63,6 +63,13 @@ pub record RunPrinted (options : Options) (result : Status) (source : SourceStat
   pub limit : (result ≡ status.Limit) ↔ ((length history ≡ options.steps)
       × (network_ended bundle.cast network ≡ false))
 
+-- with `run` the roles' threads have made the printed history, and each change that was due came
+-- before any entry of a role
+abbrev pub RunText : Option Command → Status → SourceState → SinkState → SinkState → Type 0
+RunText asked result source out out_after =
+    (options : Options) → asked ≡ Some (command.Run options) → has_printed result ≡ true
+    → (run : RunPrinted options result source out out_after) × IsPrompt run.bundle run.history
+
 -- with `step` the printed history is the one that the schedule takes
 abbrev pub StepText : Option Command → Status → SourceState → SinkState → SinkState → Type 0
 StepText asked result source out out_after =
@@ -70,11 +77,15 @@ StepText asked result source out out_after =
     → (run : RunPrinted options result source out out_after)
     × (run.history ≡ step_history options run.bundle)
 
+-- a command that runs a bundle from its start, with these options
+abbrev pub RunsBundle : Command → Options → Type 0
+RunsBundle found options = (found ≡ command.Run options) ⊎ (found ≡ command.Step options)
+
 -- the headline, of the very history behind the text
 abbrev pub HeadlineHolds : Option Command → Status → SourceState → SinkState → SinkState → Type 0
 HeadlineHolds asked result source out out_after =
-    (options : Options) → asked ≡ Some (command.Step options) → has_printed result ≡ true
-    → RunPrinted options result source out out_after
+    (options : Options) (found : Command) → asked ≡ Some found → RunsBundle found options
+    → has_printed result ≡ true → RunPrinted options result source out out_after
 
 -- The text of a command that says something of a bundle was printed: that of an accepted bundle
 -- which the bytes spell, and these are the source's where it tells them.
@@ -261,14 +272,21 @@ GivesUp status.ReadFault = Unit {0}
 GivesUp status.WriteFault = Unit {0}
 GivesUp _ = ⊥
 
+-- What of a status the bytes of the source decide. With `run` one bundle may end by one way of its
+-- threads and be cut by another, so of these two statuses the bytes tell that one of them comes.
+abbrev pub decided : Command → Status → Status
+decided (command.Run options) status.Limit = status.Done
+decided _ result = result
+
 -- A status comes exactly where its cause is in the bytes of the source, where the source tells
--- them; only want of memory and a fault of a device stand before it.
+-- them, as far as these decide it; only want of memory and a fault of a device stand before it.
 pub record ComesExactly (wanted result : Status) (asked : Option Command) (source : SourceState) :
     Type 0 where
   pub only : result ≡ wanted → (found : Command) × (asked ≡ Some found)
       × IfSome source.left (Cause found wanted)
   pub always : (found : Command) → asked ≡ Some found
-      → IfSome source.left (λ bytes. Cause found wanted bytes → (result ≡ wanted) ⊎ GivesUp result)
+      → IfSome source.left (λ bytes. Cause found wanted bytes
+      → (decided found result ≡ decided found wanted) ⊎ GivesUp result)
 
 -- words that ask for no command get no other answer, but for want of memory; and nothing else gets
 -- it

@@ -8,6 +8,7 @@ pub mod monitor;
 pub mod project;
 pub mod replay;
 pub mod resume;
+pub mod run;
 pub mod sessions;
 pub mod step;
 pub mod upgrade;

@@ -1,14 +1,14 @@
 //! From the bytes of a bundle to the reply of a command, or to why there is none.
 
-ghost use Rattle.std.specs.Prelude.{◌≡◌, ◌≤◌, length, true, None, IfErr, IfOk};
+ghost use Rattle.std.specs.Prelude.{◌≡◌, ◌≤◌, length, true, false, None, IfErr, IfOk};
 ghost use Rattle.dioc_terms.specs.Bundles.{IsFormed};
 ghost use Rattle.limits.specs.Limits.{most_bytes};
 ghost use Rattle.dioc_terms.specs.Plain.{plain};
 ghost use Rattle.rule_checks.specs.Refusals.{IsAccepted};
 ghost use Rattle.aioc_top.specs.Faults.{IsJudgedSo, IsMendRefusalFault, IsRefusalFault, IsSyntaxFault, IsRefusedSo, IsUnspelledSo};
-ghost use Rattle.aioc_top.specs.Replies.{Replies, reply_of, session_options, takes_accepted, unread_reply};
+ghost use Rattle.aioc_top.specs.Replies.{Replies, reply_of, takes_accepted, unread_reply};
 ghost use Rattle.aioc_top.specs.Verdicts.{ComesOfText, Replied, IsReplied, RepliesToSessions};
-ghost use Rattle.aioc_top.specs.Words.{IsServed, IsShort};
+ghost use Rattle.aioc_top.specs.Words.{IsShort, needs_threads};
 ghost use Rattle.command_words.specs.declared.commands.Command.TheVariants as command;
 
 use crate::commands::check::check;
@@ -18,6 +18,7 @@ use crate::commands::monitor::{accept_role, monitor};
 use crate::commands::project::project;
 use crate::commands::replay::replay;
 use crate::commands::resume::resume;
+use crate::commands::run::run;
 use crate::commands::sessions::sessions;
 use crate::commands::step::step;
 use crate::commands::upgrade::upgrade;
@@ -27,6 +28,7 @@ use bundle_mend::MendRefusal;
 use bundle_text::{read_bundle, read_sessions};
 use command_words::{Command, Options};
 use dioc_terms::{Bundle, Memory, Role, SyntaxFault};
+use role_runner::Gate;
 use rule_checks::{Refusal, accept};
 use std::alloc::Global;
 use std::sync::Wait;
@@ -34,8 +36,8 @@ use std::thread::Threads;
 
 /// What the command replies to the bundle that the bytes spell, or why it doesn't.
 pub fn judge(alloc: Global, command: &Command, bytes: &[u8]) -> Result<Written, Fault>
-    requires served { IsServed command.now }
-    requires single { session_options command.now ≡ None }
+    requires short { IsShort command.now }
+    requires alone { needs_threads command.now ≡ false }
     requires reads { unread_reply command.now ≡ None }
     requires small { length bytes.now ≤ most_bytes }
     ensures reply { IfOk result
@@ -44,6 +46,27 @@ pub fn judge(alloc: Global, command: &Command, bytes: &[u8]) -> Result<Written, 
 {
     match read_bundle(alloc, bytes) {
         Ok(mut bundle) => reply_to(alloc, command, &mut bundle),
+        Err(SyntaxFault::Syntax(byte)) => Err(syntax_fault(alloc, byte)),
+        Err(SyntaxFault::Memory) => Err(Fault::Memory),
+    }
+}
+
+/// What `run` replies to the bundle that the bytes spell, or why it doesn't.
+pub fn judge_run<R: Threads + Wait + Sync, G: Gate + Sync>(
+    rt: &R,
+    alloc: Global,
+    options: &Options,
+    bytes: &[u8],
+    gate: &G,
+) -> Result<Written, Fault>
+    requires short { IsShort (command.Run options.now) }
+    requires small { length bytes.now ≤ most_bytes }
+    ensures reply { IfOk result
+        (λ written. ComesOfText (command.Run options.now) bytes.now (Replied (reply_of written))) }
+    ensures fault { IfErr result (IsJudgedSo (command.Run options.now) bytes.now) }
+{
+    match read_bundle(alloc, bytes) {
+        Ok(bundle) => reply_run(rt, alloc, options, &bundle, gate),
         Err(SyntaxFault::Syntax(byte)) => Err(syntax_fault(alloc, byte)),
         Err(SyntaxFault::Memory) => Err(Fault::Memory),
     }
@@ -83,8 +106,8 @@ fn syntax_fault(alloc: Global, byte: usize) -> Fault
 
 // What the command replies to a formed bundle, or the first reason for which it refuses it.
 fn reply_to(alloc: Global, command: &Command, bundle: &mut Bundle) -> Result<Written, Fault>
-    requires served { IsServed command.now }
-    requires single { session_options command.now ≡ None }
+    requires short { IsShort command.now }
+    requires alone { needs_threads command.now ≡ false }
     requires reads { unread_reply command.now ≡ None }
     requires formed { IsFormed (plain bundle.old) }
     ensures reply { IfOk result (IsReplied command.now (plain bundle.old)) }
@@ -94,6 +117,28 @@ fn reply_to(alloc: Global, command: &Command, bundle: &mut Bundle) -> Result<Wri
         Command::Mend => reply_mended(alloc, bundle),
         Command::Monitor(role) => reply_monitored(alloc, role, bundle),
         _ => reply_accepted(alloc, command, bundle),
+    }
+}
+
+// What `run` replies to a formed bundle, or the first refusal of the bundle.
+fn reply_run<R: Threads + Wait + Sync, G: Gate + Sync>(
+    rt: &R,
+    alloc: Global,
+    options: &Options,
+    bundle: &Bundle,
+    gate: &G,
+) -> Result<Written, Fault>
+    requires short { IsShort (command.Run options.now) }
+    requires formed { IsFormed (plain bundle.now) }
+    ensures reply { IfOk result (IsReplied (command.Run options.now) (plain bundle.now)) }
+    ensures fault { IfErr result (IsRefusedSo (command.Run options.now) (plain bundle.now)) }
+{
+    match accept(alloc, bundle) {
+        Ok(()) => match run(rt, alloc, options, bundle, gate) {
+            Ok(written) => Ok(written),
+            Err(Memory) => Err(Fault::Memory),
+        },
+        Err(refusal) => Err(refusal_fault(alloc, &refusal)),
     }
 }
 
@@ -140,8 +185,8 @@ fn reply_monitored(alloc: Global, role: &Role, bundle: &Bundle) -> Result<Writte
 // What a command that takes accepted bundles replies to a formed bundle, or the first refusal of
 // the bundle.
 fn reply_accepted(alloc: Global, command: &Command, bundle: &mut Bundle) -> Result<Written, Fault>
-    requires served { IsServed command.now }
-    requires single { session_options command.now ≡ None }
+    requires short { IsShort command.now }
+    requires alone { needs_threads command.now ≡ false }
     requires reads { unread_reply command.now ≡ None }
     requires other { takes_accepted command.now ≡ true }
     requires formed { IsFormed (plain bundle.old) }
@@ -169,10 +214,10 @@ fn refusal_fault(alloc: Global, refusal: &Refusal) -> Fault
     }
 }
 
-// The reply of a command that is built. Only `upgrade` changes the bundle.
+// The reply of a command that takes an accepted bundle. Only `upgrade` changes it.
 fn do_command(alloc: Global, command: &Command, bundle: &mut Bundle) -> Result<Written, Memory>
-    requires served { IsServed command.now }
-    requires single { session_options command.now ≡ None }
+    requires short { IsShort command.now }
+    requires alone { needs_threads command.now ≡ false }
     requires reads { unread_reply command.now ≡ None }
     requires other { takes_accepted command.now ≡ true }
     requires accepted { IsAccepted (plain bundle.old) }

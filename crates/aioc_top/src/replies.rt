@@ -1,6 +1,6 @@
 //! What a command wrote, and how it ended.
 
-ghost use Rattle.std.specs.Prelude.{◌≡◌, IfOk};
+ghost use Rattle.std.specs.Prelude.{◌≡◌, if◌then◌else◌, IfOk};
 ghost use Rattle.dioc_terms.specs.Plain.{plain};
 ghost use Rattle.bundle_text.specs.Writing.{bundle_text};
 ghost use Rattle.aioc_top.specs.Replies.{last_of, no, reply_of, yes};
@@ -93,4 +93,11 @@ pub fn last_line(is_over: bool, entries: u64) -> Last
     } else {
         Last::Stopped(entries)
     }
+}
+
+/// How a run ends for a person: it did its work where its network has ended.
+pub fn run_end(is_over: bool) -> End
+    ensures { result ≡ (if is_over then End.Done else End.Limit) }
+{
+    if is_over { End::Done } else { End::Limit }
 }

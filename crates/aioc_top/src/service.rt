@@ -1,6 +1,6 @@
 //! The top call.
 
-ghost use Rattle.std.specs.Prelude.{◌≡◌, Some, None, true, false};
+ghost use Rattle.std.specs.Prelude.{◌≡◌, Some, false};
 ghost use Rattle.aioc_io.specs.Faults.{Rose};
 ghost use Rattle.bundle_mend.specs.Laws.{MendedAccepted};
 ghost use Rattle.bundle_text.specs.Laws.{OneBundle, SpelledIsFormed, WrittenIsSpelled};
@@ -13,21 +13,20 @@ ghost use Rattle.net_drive.specs.Strays.{DriveStraysAreExact};
 ghost use Rattle.net_drive.specs.ResumedLaws.{ResumedRuns, RunStraysAreExact};
 ghost use Rattle.aioc_top.specs.Calls.{Happens, PrintsReply, SaysLine};
 ghost use Rattle.aioc_top.specs.Faults.{line_of, status_of};
-ghost use Rattle.aioc_top.specs.Replies.{reply_of, session_options};
-ghost use Rattle.aioc_top.specs.Serve.{CheckText, ComesExactly, Complete, DriveText, GenText, HeadlineHolds, MendText, MonitorText, ProjectText, ReadsAll, ReplayText, ResumeText, SaysWhy, SessionsText, Silent, StepText, UpgradeText, UsageComes};
-ghost use Rattle.aioc_top.specs.Words.{asked, is_threaded, IsServed, IsShort};
+ghost use Rattle.aioc_top.specs.Replies.{reply_of};
+ghost use Rattle.aioc_top.specs.Serve.{CheckText, ComesExactly, Complete, DriveText, GenText, HeadlineHolds, MendText, MonitorText, ProjectText, ReadsAll, ReplayText, ResumeText, RunText, SaysWhy, SessionsText, Silent, StepText, UpgradeText, UsageComes};
+ghost use Rattle.aioc_top.specs.Words.{asked, is_threaded, needs_threads, IsShort};
 ghost use Rattle.command_words.specs.declared.commands.Command.TheVariants as command;
 ghost use Rattle.command_words.specs.Commands.{word_texts};
 
 use crate::faults::Fault;
-use crate::reading::{answer, answer_sessions};
+use crate::reading::{answer, answer_run, answer_sessions};
 use crate::replies::Written;
 use crate::status::Status;
-use crate::words::ask;
 use aioc_io::{Failed, Sink, Source, write_all};
 use bundle_mend::mended_accepted;
 use bundle_text::{one_bundle, spelled_is_formed, written_is_spelled};
-use command_words::{Command, Options};
+use command_words::{Command, Options, read_words};
 use dioc_terms::Memory;
 use load_gen::made_are_accepted;
 use marked_laws::runs_read_no_version;
@@ -35,27 +34,33 @@ use net_core::{accepted_is_sound, every_run, runs_are_sound, schedules_read_no_v
 use net_drive::{
     drive_strays_are_exact, driven_exactly, driven_runs, resumed_runs, run_strays_are_exact,
 };
+use role_runner::Gate;
 use std::alloc::Global;
 use std::sync::Wait;
 use std::thread::Threads;
 
 /// Does what the words after the program's name say: reads a bundle from the source, or many of
 /// them, and writes the text of the command to `out`. Where it can't, it writes one line to `err`,
-/// and nothing to `out`; only a fault of `out` leaves a part of the text there. With `sessions` it
-/// starts threads and waits for them; all that is said of it then holds if it returns.
+/// and nothing to `out`; only a fault of `out` leaves a part of the text there. With `run` and
+/// `sessions` it starts threads and waits for them; all that is said of it then holds if it returns.
+/// The threads of `run` pass the gate.
 ///
 /// Its status tells how it went. What a clause says of the source's bytes holds where the source
 /// tells them, and what it says of bytes that were taken holds where the sink tells them; that what
 /// was printed is the text of some accepted bundle, or of some sessions, holds anyway.
-pub fn serve<R: Threads + Wait + Sync, S: Source, O: Sink, E: Sink>(
+pub fn serve<R: Threads + Wait + Sync, S: Source, O: Sink, E: Sink, G: Gate + Sync>(
     rt: &R,
     alloc: Global,
     words: &[Vec<u8>],
     source: &mut S,
     out: &mut O,
     err: &mut E,
+    gate: &G,
 ) -> Status
-    // What is printed: with `step` the text of the run that the schedule takes, and no other.
+    // What is printed: with `run` the text of a run that the roles' threads have made, and with
+    // `step` that of the run which the schedule takes, and no other.
+    ensures run_text { RunText (asked (word_texts words.now)) result (S.state source.old)
+        (O.state out.old) (O.state out.new) }
     ensures step_text { StepText (asked (word_texts words.now)) result (S.state source.old)
         (O.state out.old) (O.state out.new) }
 
@@ -86,9 +91,9 @@ pub fn serve<R: Threads + Wait + Sync, S: Source, O: Sink, E: Sink>(
     ensures mend_text { MendText (asked (word_texts words.now)) result (S.state source.old)
         (O.state out.old) (O.state out.new) }
 
-    // The headline of the history behind the text of `step`: the choreography itself plays it, with
-    // the same changes at the same places; no two pending messages can be confused; nothing gets
-    // stuck. And so it is of every run of an accepted bundle.
+    // The headline of the history behind the text of `run` and of `step`: the choreography itself
+    // plays it, with the same changes at the same places; no two pending messages can be confused;
+    // nothing gets stuck. And so it is of every run of an accepted bundle.
     ensures headline { HeadlineHolds (asked (word_texts words.now)) result (S.state source.old)
         (O.state out.old) (O.state out.new) }
     ensures every_run { EveryRun }
@@ -122,7 +127,7 @@ pub fn serve<R: Threads + Wait + Sync, S: Source, O: Sink, E: Sink>(
         (E.state err.old) (E.state err.new) }
 {
     know_laws();
-    do_all_words(rt, alloc, words, source, out, err)
+    do_all_words(rt, alloc, words, source, out, err, gate)
 }
 
 /// Does what the words after the program's name say: reads a bundle from the source, and writes the
@@ -245,13 +250,14 @@ fn know_laws()
 }
 
 // Does what the words ask for, or says that they ask for nothing.
-fn do_all_words<R: Threads + Wait + Sync, S: Source, O: Sink, E: Sink>(
+fn do_all_words<R: Threads + Wait + Sync, S: Source, O: Sink, E: Sink, G: Gate + Sync>(
     rt: &R,
     alloc: Global,
     words: &[Vec<u8>],
     source: &mut S,
     out: &mut O,
     err: &mut E,
+    gate: &G,
 ) -> Status
     ensures { Happens (record {
       asked = asked (word_texts words.now);
@@ -263,7 +269,8 @@ fn do_all_words<R: Threads + Wait + Sync, S: Source, O: Sink, E: Sink>(
       err_after = E.state err.new;
     }) result }
 {
-    match ask(alloc, words) {
+    match read_words(alloc, words) {
+        Ok(Some(Command::Run(options))) => { do_run(rt, alloc, &options, source, out, err, gate) }
         Ok(Some(Command::Sessions(options))) => {
             do_sessions(rt, alloc, &options, source, out, err)
         }
@@ -292,7 +299,7 @@ fn do_words<S: Source, O: Sink, E: Sink>(
       err_after = E.state err.new;
     }) result }
 {
-    match ask(alloc, words) {
+    match read_words(alloc, words) {
         Ok(Some(command)) => do_command(alloc, &command, source, out, err),
         Ok(None) => report(&Fault::Usage, err),
         Err(Memory) => report(&Fault::Memory, err),
@@ -307,8 +314,8 @@ fn do_command<S: Source, O: Sink, E: Sink>(
     out: &mut O,
     err: &mut E,
 ) -> Status
-    requires served { IsServed command.now }
-    requires single { session_options command.now ≡ None }
+    requires short { IsShort command.now }
+    requires alone { needs_threads command.now ≡ false }
     ensures { Happens (record {
       asked = Some command.now;
       source = S.state source.old;
@@ -320,6 +327,33 @@ fn do_command<S: Source, O: Sink, E: Sink>(
     }) result }
 {
     match answer(alloc, command, source) {
+        Ok(written) => print(&written, out, err),
+        Err(fault) => report(&fault, err),
+    }
+}
+
+// Does `run`, or says why not.
+fn do_run<R: Threads + Wait + Sync, S: Source, O: Sink, E: Sink, G: Gate + Sync>(
+    rt: &R,
+    alloc: Global,
+    options: &Options,
+    source: &mut S,
+    out: &mut O,
+    err: &mut E,
+    gate: &G,
+) -> Status
+    requires short { IsShort (command.Run options.now) }
+    ensures { Happens (record {
+      asked = Some (command.Run options.now);
+      source = S.state source.old;
+      source_after = S.state source.new;
+      out = O.state out.old;
+      out_after = O.state out.new;
+      err = E.state err.old;
+      err_after = E.state err.new;
+    }) result }
+{
+    match answer_run(rt, alloc, options, source, gate) {
         Ok(written) => print(&written, out, err),
         Err(fault) => report(&fault, err),
     }

@@ -5,7 +5,10 @@ ghost use Rattle.std.specs.Prelude.{◌≤◌};
 
 use aioc_io::{MemSink, MemSource};
 use aioc_top::{Status, is_threaded, serve_alone};
+use role_runner::OpenGate;
 use std::alloc::{AllocError, Global};
+use std::sync::Wait;
+use std::thread::Threads;
 
 // The most bytes that one call of a device moves: few, so that a sink grows often.
 const PIECE: usize = 64;
@@ -20,10 +23,7 @@ pub struct Outcome {
 /// The top call with these words over this input, or that memory was refused to the call's devices.
 /// Words for threads aren't tried here.
 pub fn serve(alloc: Global, words: &[&str], input: &[u8]) -> Result<Outcome, AllocError> {
-    let mut given = Vec::new(alloc);
-    for word in words {
-        given.push(word.as_bytes().to_vec(alloc)?)?;
-    }
+    let given = copy_words(alloc, words)?;
     if is_threaded(&given) {
         return Err(AllocError);
     }
@@ -35,6 +35,40 @@ pub fn serve(alloc: Global, words: &[&str], input: &[u8]) -> Result<Outcome, All
         status,
         text: out.taken().to_vec(alloc)?,
     })
+}
+
+/// The same of the call that may start threads.
+pub fn serve_threaded<R: Threads + Wait + Sync>(
+    rt: &R,
+    alloc: Global,
+    words: &[&str],
+    input: &[u8],
+) -> Result<Outcome, AllocError> {
+    let given = copy_words(alloc, words)?;
+    let mut source = MemSource::new(input.to_vec(alloc)?, PIECE, Vec::new(alloc));
+    let mut out = MemSink::new(alloc, PIECE, Vec::new(alloc));
+    let mut err = MemSink::new(alloc, PIECE, Vec::new(alloc));
+    let status = aioc_top::serve(
+        rt,
+        alloc,
+        &given,
+        &mut source,
+        &mut out,
+        &mut err,
+        &OpenGate,
+    );
+    Ok(Outcome {
+        status,
+        text: out.taken().to_vec(alloc)?,
+    })
+}
+
+fn copy_words(alloc: Global, words: &[&str]) -> Result<Vec<Vec<u8>>, AllocError> {
+    let mut given = Vec::new(alloc);
+    for word in words {
+        given.push(word.as_bytes().to_vec(alloc)?)?;
+    }
+    Ok(given)
 }
 
 /// Whether a call in which one request may have been refused ended as it may: as the whole call

@@ -4,7 +4,7 @@
 use crate::bundles::{
     BUYER_SELLER, BUYER_SELLER_TRACE, DRAFT, EVERY_FORM, JUDGED, PLAYED, STOPPED,
 };
-use crate::calls::{Outcome, is_whole, may_end_so, serve};
+use crate::calls::{Outcome, is_whole, may_end_so, serve, serve_threaded};
 use aioc_top::Status;
 use std::alloc::AllocError;
 use std::test::Fail;
@@ -25,19 +25,31 @@ fn end_as_they_may(rt: &HostRuntime, words: &[&str], input: &[u8], status: Statu
     whole.status == status && may_end_so(&first, whole) && may_end_so(&second, whole)
 }
 
+// Whether a call that runs the buyer and the seller ended as it may.
+fn is_told(made: &Outcome) -> bool {
+    match made.status {
+        Status::Memory => made.text.is_empty(),
+        Status::WriteFault => BUYER_SELLER_TRACE.starts_with(&made.text),
+        status => status == Status::Done && made.text.as_slice() == BUYER_SELLER_TRACE,
+    }
+}
+
 #[test]
 fn refused_step(rt: HostRuntime) -> Result<(), Fail> {
     let Ok(made) = serve(rt.alloc(), &["step"], BUYER_SELLER) else {
         return Ok(());
     };
-    match made.status {
-        Status::Memory => assert_eq!(rt; made.text.len(), 0),
-        Status::WriteFault => assert!(rt; BUYER_SELLER_TRACE.starts_with(&made.text)),
-        status => {
-            assert_eq!(rt; status, Status::Done);
-            assert!(rt; made.text.as_slice() == BUYER_SELLER_TRACE);
-        }
-    }
+    assert!(rt; is_told(&made));
+    Ok(())
+}
+
+// (the visible entries of the two have one order alone)
+#[test]
+fn refused_run(rt: HostRuntime) -> Result<(), Fail> {
+    let Ok(made) = serve_threaded(&rt, rt.alloc(), &["run"], BUYER_SELLER) else {
+        return Ok(());
+    };
+    assert!(rt; is_told(&made));
     Ok(())
 }
 

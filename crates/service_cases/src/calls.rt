@@ -3,6 +3,7 @@
 mod projections;
 mod services;
 mod sweeps;
+mod threads;
 
 use case_tables::{Answers, Case, Problem};
 use std::alloc::Global;
@@ -41,7 +42,8 @@ fn answer_into<R: Threads + Wait + Sync>(
         b"each_read" => sweeps::answer_reads(alloc, case, out),
         b"each_write" => sweeps::answer_writes(alloc, case, out),
         b"each_front" => sweeps::answer_fronts(alloc, case, out),
-        b"each_workers" => sweeps::answer_workers(rt, alloc, case, out),
+        b"each_run" => threads::answer_runs(rt, alloc, case, out),
+        b"each_workers" => threads::answer_workers(rt, alloc, case, out),
         b"project" => projections::answer(alloc, case, out),
         _ => Err(Problem::Bad("there is no such call")),
     }

@@ -5,6 +5,7 @@ ghost use Rattle.std.specs.Prelude.{◌≤◌};
 use aioc_io::{MemSink, MemSource, Source};
 use aioc_top::{is_threaded, serve_alone};
 use case_tables::Problem;
+use role_runner::OpenGate;
 use std::alloc::Global;
 use std::sync::Wait;
 use std::thread::Threads;
@@ -115,7 +116,7 @@ pub fn serve_threaded<R: Threads + Wait + Sync>(
     let mut source = source_of(alloc, text, Course::usual())?;
     let mut out = sink_of(alloc, Course::usual())?;
     let mut err = sink_of(alloc, Course::usual())?;
-    let status = aioc_top::serve(rt, alloc, words, &mut source, &mut out, &mut err);
+    let status = aioc_top::serve(rt, alloc, words, &mut source, &mut out, &mut err, &OpenGate);
     Ok(Outcome {
         code: status.code(),
         out: out.taken().to_vec(alloc)?,

@@ -1,6 +1,6 @@
-//! The top call again and again, each time with another call of a device that fails, on another
-//! front of a text, or with another number of workers. An answer has a line where how it goes
-//! changes: `from K` says from which time on it goes so.
+//! The top call again and again, each time with another call of a device that fails, or on another
+//! front of a text. An answer has a line where how it goes changes: `from K` says from which time
+//! on it goes so.
 //!
 //! `each_read WORD..: BUNDLE`: the K-th call of the source fails, K from 1 on. A call gives at most
 //! seven bytes.
@@ -9,16 +9,11 @@
 //! seven bytes.
 //!
 //! `each_front WORD..: BUNDLE`: the input is the first K bytes of the text, K from 0 on.
-//!
-//! `each_workers W,..,W WORD..: SESSIONS`: the call that may start threads, with `--workers W` behind
-//! its words, for each W of these. The answer has a line for each.
 
-use crate::devices::{Course, Devices, Outcome, serve, serve_threaded};
+use crate::devices::{Course, Devices, Outcome, serve};
 use case_tables::{Case, Problem};
 use dioc_terms::Memory;
 use std::alloc::Global;
-use std::sync::Wait;
-use std::thread::Threads;
 use text_pieces::{write_bytes, write_number};
 
 // How many bytes a call moves at most.
@@ -71,75 +66,18 @@ pub fn answer_fronts(alloc: Global, case: &Case, out: &mut Vec<u8>) -> Result<()
     Ok(())
 }
 
-/// Appends how it goes with each of the numbers of workers that the first option tells.
-pub fn answer_workers<R: Threads + Wait + Sync>(
-    rt: &R,
-    alloc: Global,
-    case: &Case,
-    out: &mut Vec<u8>,
-) -> Result<(), Problem> {
-    let (numbers, words) = match case.options.as_slice() {
-        [numbers, words @ ..] => (numbers, words),
-        [] => return Err(Problem::Bad("the call has no numbers of workers")),
-    };
-    let mut first = None;
-    for number in numbers.split(|byte| *byte == b',') {
-        let made = serve_workers(rt, alloc, words, number, &case.text)?;
-        write_workers(number, &made, &first, out)?;
-        first = Some(first.unwrap_or(made));
-    }
-    Ok(())
-}
-
-// The top call with these words and so many workers.
-fn serve_workers<R: Threads + Wait + Sync>(
-    rt: &R,
-    alloc: Global,
-    words: &[Vec<u8>],
-    number: &[u8],
-    text: &[u8],
-) -> Result<Outcome, Problem> {
-    let mut all = Vec::new(alloc);
-    for word in words {
-        all.push(word.to_vec(alloc)?)?;
-    }
-    all.push(b"--workers".to_vec(alloc)?)?;
-    all.push(number.to_vec(alloc)?)?;
-    serve_threaded(rt, alloc, &all, text)
-}
-
-// Appends how it went with so many workers: the exit code, and how long the text is, or that it is
-// the first one again.
-fn write_workers(
-    number: &[u8],
-    made: &Outcome,
-    first: &Option<Outcome>,
-    out: &mut Vec<u8>,
-) -> Result<(), Memory> {
-    write_bytes(b"workers ", out)?;
-    write_bytes(number, out)?;
-    write_bytes(b": code ", out)?;
-    write_number(u64::from(made.code), out)?;
-    match first {
-        None => {
-            write_bytes(b", bytes ", out)?;
-            write_number(made.out.len() as u64, out)?;
-        }
-        Some(whole) => {
-            write_bytes(b", ", out)?;
-            write_bytes(part_of(&made.out, &whole.out).as_bytes(), out)?;
-        }
-    }
-    write_bytes(b"\n", out)
-}
-
 // A number that is two past that of the calls that move so many bytes and find their end.
 fn some_calls(bytes: usize) -> usize {
     bytes / PIECE + 4
 }
 
-// Appends how it goes from this time on, where that isn't how it went before.
-fn write_change(number: usize, last: &[u8], line: &[u8], out: &mut Vec<u8>) -> Result<(), Memory> {
+/// Appends how it goes from this time on, where that isn't how it went before.
+pub fn write_change(
+    number: usize,
+    last: &[u8],
+    line: &[u8],
+    out: &mut Vec<u8>,
+) -> Result<(), Memory> {
     if line == last {
         return Ok(());
     }
@@ -172,8 +110,8 @@ fn described(alloc: Global, made: &Outcome, whole: &[u8]) -> Result<Vec<u8>, Mem
     Ok(line)
 }
 
-// Which part of the text that it takes where nothing fails `out` took.
-fn part_of(taken: &[u8], whole: &[u8]) -> &'static str {
+/// Which part of the text that it takes where nothing fails `out` took.
+pub fn part_of(taken: &[u8], whole: &[u8]) -> &'static str {
     if taken.is_empty() {
         "nothing"
     } else if taken == whole {

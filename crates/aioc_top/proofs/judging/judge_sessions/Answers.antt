@@ -1,18 +1,12 @@
 -- The reply to the sessions that the bytes spell, and the fault of bytes that spell none.
-use Rattle.std.proofs.Common.{◌≡◌, ◌≢◌, ℕ, ap, ◌∙◌}
+use Rattle.std.proofs.Common.{ap, ◌∙◌}
 use Rattle.std.proofs.lemmas.List.Elements.{All-map}
 use Rattle.std.specs.Prelude.{map}
 use Rattle.dioc_terms.specs.Bundles.{IsFormed}
 use Rattle.dioc_terms.specs.Plain.{plain}
-use Rattle.dioc_terms.specs.declared.faults.SyntaxFault.{SyntaxFault}
-use Rattle.dioc_terms.specs.declared.faults.SyntaxFault.TheVariants.{Syntax, Memory}
 use Rattle.aioc_top.specs.Replies.{sessions_reply}
-use Rattle.aioc_top.proofs.FaultLemmas.{unspelled_sessions}
+use Rattle.aioc_top.proofs.FaultLemmas.{told_syntax, unspelled_sessions}
 use Rattle.aioc_top.proofs.judging.judge_sessions.Goals as goal
-
--- an answer that is said of each fault but want of memory
-told : {P : Type 0} (f : SyntaxFault) (byte : ℕ) → (f ≢ Memory → P) → f ≡ Syntax byte → P
-told f byte says is = says (λ e. cc)
 
 pub returns-in-Ok-sessions-clause-reply : goal.returns-in-Ok-sessions-clause-reply
 returns-in-Ok-sessions-clause-reply g c = record {
@@ -25,4 +19,4 @@ returns-in-Ok-sessions-clause-reply g c = record {
 pub returns-in-Err-Syntax-clause-fault : goal.returns-in-Err-Syntax-clause-fault
 returns-in-Err-Syntax-clause-fault g c =
     unspelled_sessions c.args.options.now c.args.bytes.now c.in-Err-Syntax.byte c.syntax_fault.result c.requires.small
-    (told c.in-Err-Syntax.field-0 c.in-Err-Syntax.byte c.in-Err-Syntax.ensures.syntax c.in-Err-Syntax.field-0-is) c.syntax_fault.ensures
+    (told_syntax c.in-Err-Syntax.field-0 c.in-Err-Syntax.byte c.in-Err-Syntax.ensures.syntax c.in-Err-Syntax.field-0-is) c.syntax_fault.ensures

@@ -1,21 +1,21 @@
--- Only commands that are built are asked for, and none of threads.
+-- Words ask for no longer runs than they can say, and these words for none of threads.
 use Rattle.std.proofs.Common.{◌≡◌, Option, Some, sym, ◌∙◌, subst}
 use Rattle.command_words.specs.Commands.{word_texts}
 use Rattle.command_words.specs.declared.commands.Command.{Command}
 use Rattle.aioc_top.specs.Calls.{Happens}
 use Rattle.aioc_top.specs.Words.{asked}
-use Rattle.aioc_top.proofs.Asked.{asked_served, asked_single}
+use Rattle.aioc_top.proofs.Asked.{asked_alone, asked_short}
 use Rattle.aioc_top.proofs.service.do_words.Goals as goal
 
 pub do_command-requires : goal.do_command-requires
 do_command-requires g c = record {
-  served = asked_served (word_texts c.args.words.now) c.in-Ok-Some.command (sym c.in-Ok-Some.ensures ∙ c.in-Ok-Some.field-0-is);
-  single = asked_single (word_texts c.args.words.now) c.in-Ok-Some.command c.requires.alone (sym c.in-Ok-Some.ensures ∙ c.in-Ok-Some.field-0-is);
+  short = asked_short (word_texts c.args.words.now) c.in-Ok-Some.command (sym c.in-Ok-Some.ensures.spelled ∙ c.in-Ok-Some.field-0-is);
+  alone = asked_alone (word_texts c.args.words.now) c.in-Ok-Some.command c.requires.alone (sym c.in-Ok-Some.ensures.spelled ∙ c.in-Ok-Some.field-0-is);
 }
 
 pub returns-in-Ok-Some : goal.returns-in-Ok-Some
 returns-in-Ok-Some g c =
-    let same : asked (word_texts c.args.words.now) ≡ Some c.in-Ok-Some.command = sym c.in-Ok-Some.ensures ∙ c.in-Ok-Some.field-0-is in
+    let same : asked (word_texts c.args.words.now) ≡ Some c.in-Ok-Some.command = sym c.in-Ok-Some.ensures.spelled ∙ c.in-Ok-Some.field-0-is in
     subst (λ (found : Option Command). Happens (record {
       asked = found;
       source = g.S.Source.state c.args.source.now;

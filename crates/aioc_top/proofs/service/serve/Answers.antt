@@ -6,9 +6,13 @@ use Rattle.aioc_top.proofs.Clauses as clauses
 use Rattle.aioc_top.proofs.Driven.{drive_told}
 use Rattle.aioc_top.proofs.service.serve.Goals as goal
 
+pub returns-clause-run_text : goal.returns-clause-run_text
+returns-clause-run_text g c options is prints =
+    clauses.run_text c.know_laws.ensures.formed c.know_laws.ensures.every_run options _ c.do_all_words.result c.do_all_words.ensures is prints
+
 pub returns-clause-step_text : goal.returns-clause-step_text
 returns-clause-step_text g c options is prints =
-    clauses.step_text c.know_laws.ensures.formed c.know_laws.ensures.every_run c.know_laws.ensures.sound options _ c.do_all_words.result c.do_all_words.ensures is prints
+    clauses.step_text c.know_laws.ensures.formed c.know_laws.ensures.every_run options c.know_laws.ensures.sound _ c.do_all_words.result c.do_all_words.ensures is prints
 
 pub returns-clause-check_text : goal.returns-clause-check_text
 returns-clause-check_text g c = clauses.check_text c.know_laws.ensures.formed _ c.do_all_words.result c.do_all_words.ensures
@@ -47,32 +51,32 @@ returns-clause-sessions_text g c =
 pub returns-clause-gen_text : goal.returns-clause-gen_text
 returns-clause-gen_text g c number size is prints =
     clauses.gen_text c.know_laws.ensures.made c.know_laws.ensures.every_run c.know_laws.ensures.sound number size _ c.do_all_words.result
-    (λ found asked. (asking.asked_served _ found asked).short) c.do_all_words.ensures is prints
+    (asking.asked_short _) c.do_all_words.ensures is prints
 
 pub returns-clause-headline : goal.returns-clause-headline
-returns-clause-headline g c options is prints =
-    (clauses.step_text c.know_laws.ensures.formed c.know_laws.ensures.every_run c.know_laws.ensures.sound options _ c.do_all_words.result c.do_all_words.ensures is prints).0
+returns-clause-headline g c =
+    clauses.headline c.know_laws.ensures.formed c.know_laws.ensures.every_run c.know_laws.ensures.sound _ c.do_all_words.result c.do_all_words.ensures
 
 pub returns-clause-usage : goal.returns-clause-usage
 returns-clause-usage g c = clauses.usage _ c.do_all_words.result c.do_all_words.ensures
 
 pub returns-clause-done : goal.returns-clause-done
-returns-clause-done g c = clauses.comes_exactly c.know_laws.ensures.one _ (asking.asked_built _) status.Done c.do_all_words.result refl c.do_all_words.ensures
+returns-clause-done g c = clauses.comes_exactly c.know_laws.ensures.one _ status.Done c.do_all_words.result refl c.do_all_words.ensures
 
 pub returns-clause-limit : goal.returns-clause-limit
-returns-clause-limit g c = clauses.comes_exactly c.know_laws.ensures.one _ (asking.asked_built _) status.Limit c.do_all_words.result refl c.do_all_words.ensures
+returns-clause-limit g c = clauses.comes_exactly c.know_laws.ensures.one _ status.Limit c.do_all_words.result refl c.do_all_words.ensures
 
 pub returns-clause-no : goal.returns-clause-no
-returns-clause-no g c = clauses.comes_exactly c.know_laws.ensures.one _ (asking.asked_built _) status.No c.do_all_words.result refl c.do_all_words.ensures
+returns-clause-no g c = clauses.comes_exactly c.know_laws.ensures.one _ status.No c.do_all_words.result refl c.do_all_words.ensures
 
 pub returns-clause-too_long : goal.returns-clause-too_long
-returns-clause-too_long g c = clauses.comes_exactly c.know_laws.ensures.one _ (asking.asked_built _) status.TooLong c.do_all_words.result refl c.do_all_words.ensures
+returns-clause-too_long g c = clauses.comes_exactly c.know_laws.ensures.one _ status.TooLong c.do_all_words.result refl c.do_all_words.ensures
 
 pub returns-clause-syntax : goal.returns-clause-syntax
-returns-clause-syntax g c = clauses.comes_exactly c.know_laws.ensures.one _ (asking.asked_built _) status.Syntax c.do_all_words.result refl c.do_all_words.ensures
+returns-clause-syntax g c = clauses.comes_exactly c.know_laws.ensures.one _ status.Syntax c.do_all_words.result refl c.do_all_words.ensures
 
 pub returns-clause-refused : goal.returns-clause-refused
-returns-clause-refused g c = clauses.comes_exactly c.know_laws.ensures.one _ (asking.asked_built _) status.Refused c.do_all_words.result refl c.do_all_words.ensures
+returns-clause-refused g c = clauses.comes_exactly c.know_laws.ensures.one _ status.Refused c.do_all_words.result refl c.do_all_words.ensures
 
 pub returns-clause-read_fault : goal.returns-clause-read_fault
 returns-clause-read_fault g c = clauses.read_fault _ c.do_all_words.result c.do_all_words.ensures
@@ -81,7 +85,7 @@ pub returns-clause-write_fault : goal.returns-clause-write_fault
 returns-clause-write_fault g c = clauses.write_fault _ c.do_all_words.result c.do_all_words.ensures
 
 pub returns-clause-complete : goal.returns-clause-complete
-returns-clause-complete g c = clauses.complete c.know_laws.ensures.one _ (asking.asked_built _) c.do_all_words.result c.do_all_words.ensures
+returns-clause-complete g c = clauses.complete c.know_laws.ensures.one _ c.do_all_words.result c.do_all_words.ensures
 
 pub returns-clause-reads_all : goal.returns-clause-reads_all
 returns-clause-reads_all g c = clauses.reads_all _ c.do_all_words.result c.do_all_words.ensures

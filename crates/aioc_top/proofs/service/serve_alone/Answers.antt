@@ -8,7 +8,7 @@ use Rattle.aioc_top.proofs.service.serve_alone.Goals as goal
 
 pub returns-clause-step_text : goal.returns-clause-step_text
 returns-clause-step_text g c options is prints =
-    clauses.step_text c.know_laws.ensures.formed c.know_laws.ensures.every_run c.know_laws.ensures.sound options _ c.do_words.result c.do_words.ensures is prints
+    clauses.step_text c.know_laws.ensures.formed c.know_laws.ensures.every_run options c.know_laws.ensures.sound _ c.do_words.result c.do_words.ensures is prints
 
 pub returns-clause-check_text : goal.returns-clause-check_text
 returns-clause-check_text g c = clauses.check_text c.know_laws.ensures.formed _ c.do_words.result c.do_words.ensures
@@ -43,32 +43,32 @@ returns-clause-resume_text g c options is prints =
 pub returns-clause-gen_text : goal.returns-clause-gen_text
 returns-clause-gen_text g c number size is prints =
     clauses.gen_text c.know_laws.ensures.made c.know_laws.ensures.every_run c.know_laws.ensures.sound number size _ c.do_words.result
-    (λ found asked. (asking.asked_served _ found asked).short) c.do_words.ensures is prints
+    (asking.asked_short _) c.do_words.ensures is prints
 
 pub returns-clause-headline : goal.returns-clause-headline
-returns-clause-headline g c options is prints =
-    (clauses.step_text c.know_laws.ensures.formed c.know_laws.ensures.every_run c.know_laws.ensures.sound options _ c.do_words.result c.do_words.ensures is prints).0
+returns-clause-headline g c =
+    clauses.headline c.know_laws.ensures.formed c.know_laws.ensures.every_run c.know_laws.ensures.sound _ c.do_words.result c.do_words.ensures
 
 pub returns-clause-usage : goal.returns-clause-usage
 returns-clause-usage g c = clauses.usage _ c.do_words.result c.do_words.ensures
 
 pub returns-clause-done : goal.returns-clause-done
-returns-clause-done g c = clauses.comes_exactly c.know_laws.ensures.one _ (asking.asked_built _) status.Done c.do_words.result refl c.do_words.ensures
+returns-clause-done g c = clauses.comes_exactly c.know_laws.ensures.one _ status.Done c.do_words.result refl c.do_words.ensures
 
 pub returns-clause-limit : goal.returns-clause-limit
-returns-clause-limit g c = clauses.comes_exactly c.know_laws.ensures.one _ (asking.asked_built _) status.Limit c.do_words.result refl c.do_words.ensures
+returns-clause-limit g c = clauses.comes_exactly c.know_laws.ensures.one _ status.Limit c.do_words.result refl c.do_words.ensures
 
 pub returns-clause-no : goal.returns-clause-no
-returns-clause-no g c = clauses.comes_exactly c.know_laws.ensures.one _ (asking.asked_built _) status.No c.do_words.result refl c.do_words.ensures
+returns-clause-no g c = clauses.comes_exactly c.know_laws.ensures.one _ status.No c.do_words.result refl c.do_words.ensures
 
 pub returns-clause-too_long : goal.returns-clause-too_long
-returns-clause-too_long g c = clauses.comes_exactly c.know_laws.ensures.one _ (asking.asked_built _) status.TooLong c.do_words.result refl c.do_words.ensures
+returns-clause-too_long g c = clauses.comes_exactly c.know_laws.ensures.one _ status.TooLong c.do_words.result refl c.do_words.ensures
 
 pub returns-clause-syntax : goal.returns-clause-syntax
-returns-clause-syntax g c = clauses.comes_exactly c.know_laws.ensures.one _ (asking.asked_built _) status.Syntax c.do_words.result refl c.do_words.ensures
+returns-clause-syntax g c = clauses.comes_exactly c.know_laws.ensures.one _ status.Syntax c.do_words.result refl c.do_words.ensures
 
 pub returns-clause-refused : goal.returns-clause-refused
-returns-clause-refused g c = clauses.comes_exactly c.know_laws.ensures.one _ (asking.asked_built _) status.Refused c.do_words.result refl c.do_words.ensures
+returns-clause-refused g c = clauses.comes_exactly c.know_laws.ensures.one _ status.Refused c.do_words.result refl c.do_words.ensures
 
 pub returns-clause-read_fault : goal.returns-clause-read_fault
 returns-clause-read_fault g c = clauses.read_fault _ c.do_words.result c.do_words.ensures
@@ -77,7 +77,7 @@ pub returns-clause-write_fault : goal.returns-clause-write_fault
 returns-clause-write_fault g c = clauses.write_fault _ c.do_words.result c.do_words.ensures
 
 pub returns-clause-complete : goal.returns-clause-complete
-returns-clause-complete g c = clauses.complete c.know_laws.ensures.one _ (asking.asked_built _) c.do_words.result c.do_words.ensures
+returns-clause-complete g c = clauses.complete c.know_laws.ensures.one _ c.do_words.result c.do_words.ensures
 
 pub returns-clause-reads_all : goal.returns-clause-reads_all
 returns-clause-reads_all g c = clauses.reads_all _ c.do_words.result c.do_words.ensures
