@@ -17,32 +17,20 @@ mod traces;
 mod values;
 mod words;
 
-use case_tables::{Answers, Case, Problem};
+use case_tables::{Case, Problem};
 use std::alloc::Global;
-use std::sync::Wait;
-use std::thread::Threads;
 
-/// The calls of this program.
-#[derive(Clone, Copy, Debug)]
-pub struct TextCalls;
-
-impl Answers for TextCalls {
-    fn answer<R: Threads + Wait + Sync>(
-        &self,
-        _rt: &R,
-        alloc: Global,
-        case: &Case,
-    ) -> Result<Vec<u8>, Problem> {
-        let mut out = Vec::new(alloc);
-        let is_answered = answer_piece(alloc, case, &mut out)?
-            || answer_choreography(alloc, case, &mut out)?
-            || answer_message(alloc, case, &mut out)?
-            || answer_whole(alloc, case, &mut out)?;
-        if is_answered {
-            Ok(out)
-        } else {
-            Err(Problem::Bad("there is no such call"))
-        }
+/// The lines that answer a case.
+pub fn answer(alloc: Global, case: &Case) -> Result<Vec<u8>, Problem> {
+    let mut out = Vec::new(alloc);
+    let is_answered = answer_piece(alloc, case, &mut out)?
+        || answer_choreography(alloc, case, &mut out)?
+        || answer_message(alloc, case, &mut out)?
+        || answer_whole(alloc, case, &mut out)?;
+    if is_answered {
+        Ok(out)
+    } else {
+        Err(Problem::Bad("there is no such call"))
     }
 }
 

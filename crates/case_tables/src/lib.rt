@@ -14,7 +14,7 @@ mod wholes;
 pub use cases::Case;
 pub use expansions::read_number;
 pub use problems::Problem;
-pub use tables::{Answers, answer_source, write_lines};
+pub use tables::{answer_lines, answer_source, write_lines};
 pub use wholes::{
     Front, MOST_TOKENS, front_choreo, front_expr, whole_choreo, whole_expr, write_count,
     write_place,

@@ -8,36 +8,27 @@ use crate::problems::Problem;
 use aioc_io::{Sink, Source, read_all, write_all};
 use dioc_terms::Memory;
 use std::alloc::Global;
-use std::sync::Wait;
-use std::thread::Threads;
 use text_pieces::write_bytes;
 
 // The most bytes of a table.
 const TABLE_LIMIT: usize = 1_048_576;
 
-/// What answers the cases of a table.
-pub trait Answers {
-    /// The lines that answer a case. A call that starts threads does so by `rt`.
-    fn answer<R: Threads + Wait + Sync>(
-        &self,
-        rt: &R,
-        alloc: Global,
-        case: &Case,
-    ) -> Result<Vec<u8>, Problem>;
-}
-
-/// Reads a table from the source, and writes it to `out` with the answers, or says why not.
-pub fn answer_source<R: Threads + Wait + Sync, A: Answers, S: Source, O: Sink>(
-    rt: &R,
+/// Reads a table from the source, and writes it to `out` with the answer to each of its cases, as
+/// it is to stand there, or says why not.
+pub fn answer_source<F, S: Source, O: Sink>(
     alloc: Global,
-    answers: &A,
+    answer: &F,
     source: &mut S,
     out: &mut O,
-) -> Result<(), &'static str> {
+) -> Result<(), &'static str>
+where
+    F: Fn(Global, &Case) -> Result<Vec<u8>, Memory>,
+    requires { F.IsAlwaysCallable answer.now }
+{
     let Ok(table) = read_all(alloc, source, TABLE_LIMIT) else {
         return Err("the table can't be read whole");
     };
-    let Ok(lines) = answer_table(rt, alloc, answers, &table) else {
+    let Ok(lines) = answer_table(alloc, answer, &table) else {
         return Err("out of memory");
     };
     match write_all(out, &lines) {
@@ -47,26 +38,25 @@ pub fn answer_source<R: Threads + Wait + Sync, A: Answers, S: Source, O: Sink>(
 }
 
 // The lines of the table, with the answer of each case behind its lines.
-fn answer_table<R: Threads + Wait + Sync, A: Answers>(
-    rt: &R,
-    alloc: Global,
-    answers: &A,
-    table: &[u8],
-) -> Result<Vec<u8>, Memory> {
+fn answer_table<F>(alloc: Global, answer: &F, table: &[u8]) -> Result<Vec<u8>, Memory>
+where
+    F: Fn(Global, &Case) -> Result<Vec<u8>, Memory>,
+    requires { F.IsAlwaysCallable answer.now }
+{
     let mut out = Vec::new(alloc);
     let mut begun = None;
     for line in lines(table).split(|byte| *byte == b'\n') {
         begun = match line {
             [b'|', rest @ ..] => continued(begun, rest),
             _ => {
-                write_answer(rt, alloc, answers, begun, &mut out)?;
+                write_answer(alloc, answer, begun, &mut out)?;
                 begin(alloc, line)
             }
         };
         write_bytes(line, &mut out)?;
         write_bytes(b"\n", &mut out)?;
     }
-    write_answer(rt, alloc, answers, begun, &mut out)?;
+    write_answer(alloc, answer, begun, &mut out)?;
     Ok(out)
 }
 
@@ -101,22 +91,35 @@ fn with_line(mut case: Case, line: &[u8]) -> Result<Case, Problem> {
 }
 
 // The lines of the answer to a case, where there is one.
-fn write_answer<R: Threads + Wait + Sync, A: Answers>(
-    rt: &R,
+fn write_answer<F>(
     alloc: Global,
-    answers: &A,
+    answer: &F,
     begun: Option<Result<Case, Problem>>,
     out: &mut Vec<u8>,
-) -> Result<(), Memory> {
-    let case = match begun {
-        None => return Ok(()),
-        Some(Err(problem)) => return write_problem(problem, out),
-        Some(Ok(case)) => case,
-    };
-    match answers.answer(rt, alloc, &case) {
-        Ok(lines) => write_lines(b"  ", &lines, out),
-        Err(problem) => write_problem(problem, out),
+) -> Result<(), Memory>
+where
+    F: Fn(Global, &Case) -> Result<Vec<u8>, Memory>,
+    requires { F.IsAlwaysCallable answer.now }
+{
+    match begun {
+        None => Ok(()),
+        Some(Err(problem)) => write_problem(problem, out),
+        Some(Ok(case)) => {
+            let lines = answer(alloc, &case)?;
+            write_bytes(&lines, out)
+        }
     }
+}
+
+/// The answer to a case as it stands in the table: its lines, each with two spaces before it, or the
+/// line that says why the case is bad.
+pub fn answer_lines(alloc: Global, answer: Result<Vec<u8>, Problem>) -> Result<Vec<u8>, Memory> {
+    let mut out = Vec::new(alloc);
+    match answer {
+        Ok(lines) => write_lines(b"  ", &lines, &mut out)?,
+        Err(problem) => write_problem(problem, &mut out)?,
+    }
+    Ok(out)
 }
 
 fn write_problem(problem: Problem, out: &mut Vec<u8>) -> Result<(), Memory> {

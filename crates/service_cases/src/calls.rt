@@ -5,26 +5,20 @@ mod services;
 mod sweeps;
 mod threads;
 
-use case_tables::{Answers, Case, Problem};
+use case_tables::{Case, Problem};
 use std::alloc::Global;
 use std::sync::Wait;
 use std::thread::Threads;
 
-/// The calls of this program.
-#[derive(Clone, Copy, Debug)]
-pub struct ServiceCalls;
-
-impl Answers for ServiceCalls {
-    fn answer<R: Threads + Wait + Sync>(
-        &self,
-        rt: &R,
-        alloc: Global,
-        case: &Case,
-    ) -> Result<Vec<u8>, Problem> {
-        let mut out = Vec::new(alloc);
-        answer_into(rt, alloc, case, &mut out)?;
-        Ok(out)
-    }
+/// The lines that answer a case.
+pub fn answer<R: Threads + Wait + Sync>(
+    rt: &R,
+    alloc: Global,
+    case: &Case,
+) -> Result<Vec<u8>, Problem> {
+    let mut out = Vec::new(alloc);
+    answer_into(rt, alloc, case, &mut out)?;
+    Ok(out)
 }
 
 // Appends the lines that answer a case.
