@@ -1,6 +1,6 @@
-"""Whether completions/ and the manual page know the commands that are built, and their options, and no others.
+"""Whether completions/ and the manual page know the commands and their options, and no others.
 
-What there is comes from the definitions: the table of command_words, and the list of aioc_top.
+What there is comes from the definition: the table of command_words.
 """
 import re
 import subprocess
@@ -8,23 +8,21 @@ import subprocess
 from pages.table import read
 
 TABLE = "crates/command_words/specs/Commands.antt"
-BUILT = "crates/aioc_top/specs/Words.antt"
 BASH, ZSH, FISH = (f"completions/aioc.{it}" for it in ("bash", "zsh", "fish"))
 MANUAL = "docs/aioc.1"
 
 
-def built():
-    """The commands that are built: of each its options, and whether an option has a value."""
+def table_of_commands():
+    """The commands: of each its options, and whether an option has a value."""
     table = read(TABLE)
     names = dict(re.findall(r'^name_of (\w+) = codes "(\w+)"', table, re.M))
     options = {}
     for verb, row in re.findall(r"^known_options (\w+) =((?:.|\n )*)", table, re.M):
         options[verb] = {name: kind == "valued" for kind, name in re.findall(r'(valued|flag) \(codes "(\w+)"\)', row)}
-    verbs = re.findall(r"^is_built \(?command\.(\w+).*= true$", read(BUILT), re.M)
-    return {names[verb]: options.get(verb, options["_"] if "_" in options else {}) for verb in verbs}
+    return {name: options.get(verb, options["_"] if "_" in options else {}) for verb, name in names.items()}
 
 
-# ---- what the files know, each as `built` tells it
+# ---- what the files know, each as the table tells it
 
 def bash_knows():
     """What the function of the completions answers, asked as bash asks it."""
@@ -67,16 +65,16 @@ def explained():
 
 
 def check_words():
-    wanted = built()
+    wanted = table_of_commands()
     if not wanted:
-        return [f"the commands can't be read from {TABLE} and {BUILT}"]
+        return [f"the commands can't be read from {TABLE}"]
     problems = []
     for file, knows in ((BASH, bash_knows()), (ZSH, zsh_knows()), (FISH, fish_knows()), (MANUAL, manual_knows())):
         for command in sorted(wanted.keys() | knows.keys()):
             if command not in knows:
                 problems.append(f"{file}: the command `{command}` is missing")
             elif command not in wanted:
-                problems.append(f"{file}: no command `{command}` is built")
+                problems.append(f"{file}: there is no command `{command}`")
             elif wanted[command] != knows[command]:
                 problems.append(f"{file}: the options of `{command}` are {told(wanted[command])}, not {told(knows[command])}")
     options = {name: valued for command in wanted.values() for name, valued in command.items()}
