@@ -1,0 +1,4 @@
+pub mod FrameLemmas
+pub mod GrowthLemmas
+pub mod PlayLemmas
+pub mod StateLemmas

@@ -1,0 +1,57 @@
+-- The process that frames stand for.
+use Rattle.std.specs.Prelude.{ℕ, List, Bool, true, false, ◌&&◌, ◌||◌, if◌then◌else◌, nat_lt}
+use Rattle.dioc_terms.specs.Processes.{Process, Skip, Seq, Par, Tell, Gather, process, letters}
+use Rattle.dpoc_process.specs.Acting.{is_single}
+use Rattle.flat_code.specs.Places.{at}
+use Rattle.flat_role.specs.declared.frames.Frame.{Frame}
+use Rattle.flat_role.specs.declared.frames.Frame as frame
+use Rattle.process_steps.specs.Steps.{ended}
+
+-- a part that is known to be over is one that has ended, else it is what it is
+abbrev pub marked : Bool → Process → Process
+marked true P = if ended P then P else Skip
+marked false P = P
+
+-- the process of a frame over code whose processes are these
+abbrev pub frame_process : List Process → Frame → Process
+frame_process done frame.Ended = Skip
+frame_process done (frame.At p) = at done p
+frame_process done (frame.Telling ms) = Tell (letters ms)
+frame_process done (frame.Gathering ks) = Gather ks.items
+frame_process done (frame.Arrived P) = process P
+frame_process done (frame.Seq' first_over _ F _ G) =
+    Seq (marked first_over (frame_process done F)) (frame_process done G)
+frame_process done (frame.Par' left_over _ F right_over _ G) =
+    Par (marked left_over (frame_process done F)) (marked right_over (frame_process done G))
+
+-- each place in the frame is one of the first n of the code
+abbrev pub is_placed : ℕ → Frame → Bool
+is_placed n (frame.At p) = nat_lt p n
+is_placed n (frame.Seq' first_over _ F _ G) = is_placed n F && is_placed n G
+is_placed n (frame.Par' left_over _ F right_over _ G) = is_placed n F && is_placed n G
+is_placed n F = true
+
+-- no part of what isn't over is still to be linked
+abbrev pub is_linked : Frame → Bool
+is_linked (frame.Arrived P) = false
+is_linked (frame.Seq' first_over _ F _ G) = (first_over || is_linked F) && is_linked G
+is_linked (frame.Par' left_over _ F right_over _ G) =
+    (left_over || is_linked F) && (right_over || is_linked G)
+is_linked F = true
+
+-- an op of which nothing is left once it has acted: neither a sequence nor a parallel, nor a tell
+-- or a gather
+abbrev pub is_plain : Process → Bool
+is_plain (Tell ms) = false
+is_plain (Gather ks) = false
+is_plain P = is_single P
+
+-- each leaf that may act is linked, and a place of the code among them is that of a plain op
+abbrev pub is_open : List Process → Frame → Bool
+is_open done (frame.At p) = is_plain (at done p)
+is_open done (frame.Arrived P) = false
+is_open done (frame.Seq' first_over _ F _ G) =
+    if first_over || ended (frame_process done F) then is_open done G else is_open done F
+is_open done (frame.Par' left_over _ F right_over _ G) =
+    (left_over || is_open done F) && (right_over || is_open done G)
+is_open done F = true

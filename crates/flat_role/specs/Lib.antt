@@ -1,0 +1,6 @@
+pub mod FlatStates
+pub mod Frames
+pub mod Growths
+pub mod Plays
+pub mod ReadyParts
+pub mod ShownParts

@@ -1,0 +1,141 @@
+//! What a step makes of the frames. It takes no memory, and lets go of what isn't needed any more.
+
+ghost use Rattle.std.specs.Prelude.{◌≡◌, ℕ, List, true, length};
+ghost use Rattle.std.specs.Option.{is_some};
+ghost use Rattle.dioc_terms.specs.Processes.{Process, Tell, Gather, letters};
+ghost use Rattle.dpoc_process.specs.Acting.{acting};
+ghost use Rattle.dpoc_process.specs.Changes.{changed, replaced, rest_of};
+ghost use Rattle.flat_code.specs.Places.{processes};
+ghost use Rattle.flat_role.specs.Frames.{frame_process, is_open, is_placed, marked};
+ghost use Rattle.flat_role.specs.Growths.{is_change_placed, part_change};
+
+use crate::frames::{Frame, gathering, is_ended, put, telling};
+use crate::offered::can_act;
+use dioc_terms::{Act, Key, Messages, Role};
+use flat_code::Code;
+use std::mem;
+
+/// What the part that does an act becomes.
+#[derive(Drop)]
+pub(crate) enum Change {
+    /// This in its place.
+    Becomes(Frame),
+    /// What is left to tell or to gather.
+    Rest,
+}
+
+/// Changes the part that does the act. A first part that is over is let go, and a part of a
+/// parallel that is over is marked so.
+#[tactic(auto, using(crate::proofs::FrameLemmas::marked_ended, crate::proofs::FrameLemmas::acting_marked, crate::proofs::FrameLemmas::replaced_plain))]
+pub(crate) fn replace(me: &Role, act: &Act, code: &Code, frame: &mut Frame, by: Change)
+    requires placed { is_placed (length code.now.ops.items) frame.old ≡ true }
+    requires opened { is_open (processes code.now.ops.items) frame.old ≡ true }
+    requires change { is_change_placed (length code.now.ops.items) by ≡ true }
+    requires acts { is_some (acting me.now act.now
+        (frame_process (processes code.now.ops.items) frame.old)) ≡ true }
+    ensures replaced { frame_process (processes code.now.ops.items) frame.new
+        ≡ replaced me.now act.now (frame_process (processes code.now.ops.items) frame.old)
+        (part_change (processes code.now.ops.items) by) }
+    ensures placed { is_placed (length code.now.ops.items) frame.new ≡ true }
+{
+    match frame {
+        Frame::Seq(first_over, first, second) => {
+            if *first_over || is_ended(code, first) {
+                replace(me, act, code, second, by);
+                let rest = mem::replace(&mut **second, Frame::Ended);
+                put(frame, rest);
+                return;
+            }
+            replace(me, act, code, first, by);
+            if is_ended(code, first) {
+                let rest = mem::replace(&mut **second, Frame::Ended);
+                put(frame, rest);
+            }
+        }
+        Frame::Par(left_over, left, right_over, right) => {
+            if acts_in(me, act, code, *left_over, left) {
+                replace(me, act, code, left, by);
+                *left_over = is_ended(code, left);
+                return;
+            }
+            replace(me, act, code, right, by);
+            *right_over = is_ended(code, right);
+        }
+        single => change_part(code, single, by),
+    }
+}
+
+/// Whether a part of a parallel does the act. It doesn't look into a part that is over.
+#[tactic(auto, using(crate::proofs::FrameLemmas::acting_marked))]
+fn acts_in(me: &Role, act: &Act, code: &Code, over: bool, part: &Frame) -> bool
+    requires { is_placed (length code.now.ops.items) part.now ≡ true }
+    ensures { result ≡ is_some (acting me.now act.now
+        (marked over (frame_process (processes code.now.ops.items) part.now))) }
+{
+    !over && can_act(me, act, code, part)
+}
+
+/// Changes a part that is neither a sequence nor a parallel.
+fn change_part(code: &Code, part: &mut Frame, by: Change)
+    requires { is_open (processes code.now.ops.items) part.old ≡ true }
+    ensures changed { frame_process (processes code.now.ops.items) part.new
+        ≡ changed (part_change (processes code.now.ops.items) by)
+        (frame_process (processes code.now.ops.items) part.old) }
+    ensures placed { (n : ℕ) → is_placed n part.old ≡ true → is_change_placed n by ≡ true →
+        is_placed n part.new ≡ true }
+{
+    match by {
+        Change::Becomes(frame) => put(part, frame),
+        Change::Rest => {
+            let left = mem::replace(part, Frame::Ended);
+            put(part, rest_of(code, left));
+        }
+    }
+}
+
+/// What is left to tell or to gather: nothing of a plain op.
+#[tactic(auto, using(crate::proofs::FrameLemmas::rest_of_plain))]
+fn rest_of(code: &Code, part: Frame) -> Frame
+    requires { is_open (processes code.now.ops.items) part ≡ true }
+    ensures rest { frame_process (processes code.now.ops.items) result
+        ≡ rest_of (frame_process (processes code.now.ops.items) part) }
+    ensures placed { (n : ℕ) → is_placed n result ≡ true }
+{
+    match part {
+        Frame::Telling(messages) => told(messages),
+        Frame::Gathering(keys) => gathered(keys),
+        other => {
+            drop(other);
+            Frame::Ended
+        }
+    }
+}
+
+/// What is left once the first of these messages is sent.
+fn told(messages: Messages) -> Frame
+    ensures rest { (done : List Process) →
+        frame_process done result ≡ rest_of (Tell (letters messages)) }
+    ensures placed { (n : ℕ) → is_placed n result ≡ true }
+{
+    match messages {
+        Messages::Nothing => Frame::Ended,
+        Messages::More(key, payload, rest) => {
+            drop((key, payload));
+            telling(Box::into_inner(rest))
+        }
+    }
+}
+
+/// What is left once the message of the first of these keys is taken.
+fn gathered(keys: Vec<Key>) -> Frame
+    ensures rest { (done : List Process) →
+        frame_process done result ≡ rest_of (Gather keys.items) }
+    ensures placed { (n : ℕ) → is_placed n result ≡ true }
+{
+    let mut left = keys;
+    if left.is_empty() {
+        return Frame::Ended;
+    }
+    let _taken = left.remove(0);
+    gathering(left)
+}

@@ -1,0 +1,105 @@
+//! A role whose process is kept as flat code.
+
+ghost use Rattle.std.specs.Prelude.{◌≡◌, true, IfOk, length};
+ghost use Rattle.dioc_terms.specs.KeptStores.{store_of};
+ghost use Rattle.flat_role.specs.Frames.{is_placed};
+
+use crate::frames::{Frame, is_ended};
+use crate::offered::{add_offers, can_act};
+use crate::opening::settle;
+use crate::ready::{Ready, advance, clear, keep_ready, make_ready};
+use dioc_terms::{Act, Memory, Role, Store};
+use dpoc_process::{Got, PrepareFault, Prepared, Runs};
+use flat_code::Code;
+use std::alloc::Global;
+
+/// A role that runs over flat code: the code, which only grows, by the parts of updates, and frames
+/// that say what is still to be done of it. A step copies nothing of the process.
+#[derive(Drop)]
+pub struct FlatRole {
+    role: Role,
+    code: Code,
+    frame: Frame,
+    store: Store,
+    ready: Option<Ready>,
+    ghost placed: { is_placed (length code.ops.items) frame ≡ true },
+}
+
+impl FlatRole {
+    ghost use Rattle.dpoc_process.specs.RoleLaws.{local};
+    ghost use Rattle.flat_code.specs.Codes.{process_of};
+    ghost use Rattle.flat_role.specs.FlatStates.{local_of};
+
+    /// The role with the process that the code stands for and this store. Want of memory is the
+    /// error of the signature; it takes none.
+    pub fn new(role: Role, code: Code, store: Store) -> Result<FlatRole, Memory>
+        ensures { IfOk result (λ flat. local_of flat ≡ local role (process_of code)
+            (store_of store)) }
+    {
+        let frame = Frame::At(code.start);
+        Ok(FlatRole {
+            role,
+            code,
+            frame,
+            store,
+            ready: None,
+        })
+    }
+}
+
+impl Runs for FlatRole {
+    ghost use Rattle.flat_role.specs.FlatStates.{local_of, IsReady};
+
+    ghost local = { local_of };
+
+    ghost is_ready = { IsReady };
+
+    fn acts(&self, alloc: Global) -> Result<Vec<Act>, Memory> {
+        let mut acts = Vec::new(alloc);
+        add_offers(alloc, &self.role, &self.code, &self.frame, &mut acts)?;
+        Ok(acts)
+    }
+
+    fn prepare(&mut self, alloc: Global, act: &Act) -> Result<Prepared, PrepareFault> {
+        clear(&mut self.ready);
+        if !can_act(&self.role, act, &self.code, &self.frame) {
+            return Err(PrepareFault::NoAct);
+        }
+        settle(alloc, &mut self.code, &mut self.frame)?;
+        match make_ready(
+            alloc,
+            &self.role,
+            &self.code,
+            &self.frame,
+            &mut self.store,
+            act,
+        ) {
+            Ok((ready, prepared)) => {
+                keep_ready(&mut self.ready, ready);
+                Ok(prepared)
+            }
+            Err(fault) => Err(fault),
+        }
+    }
+
+    fn advance(&mut self, act: &Act, got: Got) {
+        let ready = self.ready.take().unwrap();
+        advance(
+            &self.role,
+            act,
+            &self.code,
+            &mut self.frame,
+            &mut self.store,
+            ready,
+            got,
+        );
+    }
+
+    fn is_done(&self) -> bool {
+        is_ended(&self.code, &self.frame)
+    }
+
+    fn store(&self) -> &Store {
+        &self.store
+    }
+}
