@@ -8,10 +8,11 @@ use Rattle.aioc_tokens.specs.declared.words.Punctuator.TheVariants as punctuator
 use Rattle.aioc_tokens.specs.declared.words.Sort.TheVariants as sorts
 use Rattle.aioc_tokens.specs.Lexing.{Lexes, Breaks, place_of}
 use Rattle.aioc_tokens.specs.Lexemes.{Lexeme, sort_of, lexemes, HasLexemes}
+use Rattle.wanted_tokens.specs.declared.goals.Goal.TheVariants as goal
 use Rattle.bundle_text.specs.Many.{Many}
 use Rattle.bundle_text.specs.Grammar.{opened_by, closed_before, Section, IsSection, joined, IsBundle}
 use Rattle.bundle_text.specs.Readers.{FindsVersion}
-use Rattle.bundle_text.specs.Stops.{EndsInSection}
+use Rattle.bundle_text.specs.Stops.{EndsInSection, named_place}
 
 abbrev pub most_sessions : ℕ
 most_sessions = 1000
@@ -81,8 +82,8 @@ pub record EndsAmongSessions (text : List Lexeme) (place : ℕ) : Type 0 where
   pub more : (next < length text) ⊎ (sessions ≡ [])
   pub ends : EndsInSession text next place ⊎ ((place ≡ next) × (most_sessions ≤ length sessions))
 
--- The reading of a text ends at this byte: that of the limit of a text which is too long, the first
--- that is in no token, or the first of a token, or the end of the text.
+-- A fault names this byte of a text that spells no sessions: that of the limit of a text which is too
+-- long, the first that is in no token, or the first of a token, or the end of the text.
 pub data SessionsEndAtByte (bytes : List ℕ) (byte : ℕ) : Type 0 where
   too_long : most_bytes < length bytes → byte ≡ most_bytes → SessionsEndAtByte bytes byte
   bad_byte : length bytes ≤ most_bytes → Breaks 0 bytes byte → SessionsEndAtByte bytes byte
@@ -90,5 +91,5 @@ pub data SessionsEndAtByte (bytes : List ℕ) (byte : ℕ) : Type 0 where
       → length bytes ≤ most_bytes
       → Lexes 0 bytes tokens
       → EndsAmongSessions (lexemes bytes tokens) place
-      → byte ≡ place_of bytes tokens place
+      → byte ≡ place_of bytes tokens (named_place goal.Sessions (lexemes bytes tokens) place)
       → SessionsEndAtByte bytes byte

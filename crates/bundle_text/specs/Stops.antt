@@ -1,5 +1,5 @@
 -- Where the reading of a text ends that spells no bundle.
-use Rattle.std.specs.Prelude.{◌≡◌, ◌≢◌, ℕ, ◌+◌, ◌<◌, ◌≤◌, List, [], ◌∷◌, length, drop, codes}
+use Rattle.std.specs.Prelude.{◌≡◌, ◌≢◌, ℕ, ◌+◌, ◌<◌, ◌≤◌, List, [], ◌∷◌, length, drop, codes, Option, Some, None}
 use Rattle.limits.specs.Limits.{most_bytes}
 use Rattle.dioc_terms.specs.Terms.{Term}
 use Rattle.aioc_tokens.specs.declared.kinds.Token.{Token}
@@ -9,6 +9,9 @@ use Rattle.aioc_tokens.specs.declared.words.Sort.TheVariants as sorts
 use Rattle.aioc_tokens.specs.Lexing.{Lexes, Breaks, place_of}
 use Rattle.aioc_tokens.specs.Lexemes.{Lexeme, Reserved, Symbol, sort_of, lexemes}
 use Rattle.aioc_tokens.specs.Fronts.{Longest, NoFront}
+use Rattle.wanted_tokens.specs.declared.goals.Goal.{Goal}
+use Rattle.wanted_tokens.specs.declared.goals.Goal.TheVariants as goal
+use Rattle.wanted_tokens.specs.Wanted.{unwanted}
 use Rattle.dioc_syntax.specs.Choreographies.{IsChoreography}
 use Rattle.rule_syntax.specs.Grammar.{IsRule}
 use Rattle.bundle_text.specs.declared.stops.Stop.{Stop}
@@ -132,8 +135,18 @@ pub record EndsAt (text : List Lexeme) (place : ℕ) : Type 0 where
   pub begins : FindsVersion text version at
   pub ends : EndsBehind version text at place
 
--- The reading of a text ends at this byte: that of the limit of a text which is too long, the first
--- that is in no token, or the first of a token, or the end of the text.
+-- The token of a text that a fault names: the first one that may not stand there, or the end where
+-- more is wanted. Where each token may stand, brackets or depths pass a limit, or there are too many
+-- sessions; then it is the place at which the reading ended.
+abbrev pub or_else : Option ℕ → ℕ → ℕ
+or_else (Some first) place = first
+or_else None place = place
+
+abbrev pub named_place : Goal → List Lexeme → ℕ → ℕ
+named_place whole text place = or_else (unwanted whole text) place
+
+-- A fault names this byte of a text that spells no bundle: that of the limit of a text which is too
+-- long, the first that is in no token, or the first of a token, or the end of the text.
 pub data EndsAtByte (bytes : List ℕ) (byte : ℕ) : Type 0 where
   too_long : most_bytes < length bytes → byte ≡ most_bytes → EndsAtByte bytes byte
   bad_byte : length bytes ≤ most_bytes → Breaks 0 bytes byte → EndsAtByte bytes byte
@@ -141,5 +154,5 @@ pub data EndsAtByte (bytes : List ℕ) (byte : ℕ) : Type 0 where
       → length bytes ≤ most_bytes
       → Lexes 0 bytes tokens
       → EndsAt (lexemes bytes tokens) place
-      → byte ≡ place_of bytes tokens place
+      → byte ≡ place_of bytes tokens (named_place goal.Bundle (lexemes bytes tokens) place)
       → EndsAtByte bytes byte

@@ -10,20 +10,21 @@ ghost use Rattle.bundle_text.specs.Stops.{place_in, EndsAt, EndsAtByte};
 
 use crate::bundles::bundle_of;
 use crate::sections::sections_at;
-use crate::stops::Stop;
-use aioc_tokens::{Lexed, TokenFault, place, tokens};
+use crate::stops::{Stop, fault};
+use aioc_tokens::{Lexed, TokenFault, tokens};
 use dioc_terms::{Bundle, SyntaxFault};
 use expr_syntax::number_at;
 use limits::MOST_BYTES;
 use std::alloc::Global;
+use wanted_tokens::Goal;
 
 /// The bundle that the bytes spell.
 ///
-/// The error is `Syntax` exactly where they spell none. Its number is the byte at which the reading
-/// ended: the limit of bytes where there are more, the first byte that is in no token, or the first
-/// of the token where something else was wanted: a word of a section with its `{`, an item of a
-/// section or its `}`, a first choreography or trace; or the end of the text where a choreography
-/// is missing. It is `Memory` where memory runs out.
+/// The error is `Syntax` exactly where they spell none. Its number is a byte: the limit of bytes
+/// where there are more, the first byte that is in no token, or the first of the token that may not
+/// stand where it does, however deep inside, or the end of the text where more is wanted. Where each
+/// token may stand and a limit of brackets or depths is passed, it is that of the item inside which
+/// it is, or the token behind the longest choreography. The error is `Memory` where memory runs out.
 pub fn read_bundle(alloc: Global, bytes: &[u8]) -> Result<Bundle, SyntaxFault>
     ensures found { IfOk result (λ b. Spells bytes.now (plain b)) }
     ensures syntax { IfErr result (λ fault. fault ≢ SyntaxFault.Memory → SpellsNone bytes.now) }
@@ -41,7 +42,7 @@ pub fn read_bundle(alloc: Global, bytes: &[u8]) -> Result<Bundle, SyntaxFault>
     };
     match bundle_at(alloc, &Lexed::new(bytes, &tokens)) {
         Ok(bundle) => Ok(bundle),
-        Err(Stop::At(at)) => Err(SyntaxFault::Syntax(place(bytes, &tokens, at))),
+        Err(Stop::At(at)) => Err(fault(alloc, bytes, &tokens, Goal::Bundle, at)),
         Err(Stop::Memory) => Err(SyntaxFault::Memory),
     }
 }

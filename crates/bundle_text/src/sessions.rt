@@ -14,11 +14,12 @@ use crate::bundles::bundle_of;
 use crate::parts::Parts;
 use crate::reader::version_at;
 use crate::sections::section_at;
-use crate::stops::{Stop, lost};
-use aioc_tokens::{Lexed, Punctuator, Sort, TokenFault, place, tokens};
+use crate::stops::{Stop, fault, lost};
+use aioc_tokens::{Lexed, Punctuator, Sort, TokenFault, tokens};
 use dioc_terms::{Bundle, SyntaxFault};
 use limits::MOST_BYTES;
 use std::alloc::Global;
+use wanted_tokens::Goal;
 
 /// How many sessions a text may have.
 const MOST_SESSIONS: usize = 1000;
@@ -37,10 +38,9 @@ const CLOSING: Sort = Sort::Symbol(Punctuator::RightBrace);
 /// session  = "session" "{" bundle "}"
 /// ```
 ///
-/// The error is `Syntax` exactly where they spell none. Its number is the byte at which the reading
-/// ended: as `read_bundle` has it inside a bundle, where a `}` stands for the end of the text; else
-/// that of the token at which no session begins, or the first session too many. It is `Memory`
-/// where memory runs out.
+/// The error is `Syntax` exactly where they spell none. Its number is a byte, as `read_bundle` has
+/// it, and that of the first session too many where there are more than 1,000. It is `Memory` where
+/// memory runs out.
 pub fn read_sessions(alloc: Global, bytes: &[u8]) -> Result<Vec<Bundle>, SyntaxFault>
     ensures found { IfOk result (λ sessions.
         SpellsSessions bytes.now (map plain sessions.items)) }
@@ -61,7 +61,7 @@ pub fn read_sessions(alloc: Global, bytes: &[u8]) -> Result<Vec<Bundle>, SyntaxF
     };
     match sessions_of(alloc, &Lexed::new(bytes, &tokens)) {
         Ok(sessions) => Ok(sessions),
-        Err(Stop::At(at)) => Err(SyntaxFault::Syntax(place(bytes, &tokens, at))),
+        Err(Stop::At(at)) => Err(fault(alloc, bytes, &tokens, Goal::Sessions, at)),
         Err(Stop::Memory) => Err(SyntaxFault::Memory),
     }
 }

@@ -1,9 +1,14 @@
 //! Why a text is not read on.
 
-ghost use Rattle.std.specs.Prelude.{◌≡◌, Err, Some};
+ghost use Rattle.std.specs.Prelude.{◌≡◌, ◌≢◌, Err, Some};
+ghost use Rattle.aioc_tokens.specs.Lexing.{Lexes, place_of};
+ghost use Rattle.aioc_tokens.specs.Lexemes.{lexemes};
+ghost use Rattle.bundle_text.specs.Stops.{named_place};
 
-use dioc_terms::Memory;
-use std::alloc::{AllocError, AllocFailed};
+use aioc_tokens::{Lexed, Token, place};
+use dioc_terms::{Memory, SyntaxFault};
+use std::alloc::{AllocError, AllocFailed, Global};
+use wanted_tokens::{Goal, first_unwanted};
 
 /// Why a text is not read on: at a place of its tokens something else was wanted, or memory ran
 /// out.
@@ -55,4 +60,17 @@ pub fn lost<T: Drop, U: Drop>(_value: T, stop: Stop) -> Result<U, Stop>
     ensures { result ≡ Err stop }
 {
     Err(stop)
+}
+
+/// The fault of a text whose reading ended at a place of its tokens. It names the first token that
+/// may not stand there, or the end where more is wanted; where each may stand, that place.
+pub fn fault(alloc: Global, bytes: &[u8], tokens: &[Token], whole: Goal, at: usize) -> SyntaxFault
+    requires { Lexes 0 bytes.now tokens.now }
+    ensures { result ≢ SyntaxFault.Memory → result ≡ SyntaxFault.Syntax (place_of bytes.now
+        tokens.now (named_place whole (lexemes bytes.now tokens.now) at)) }
+{
+    match first_unwanted(alloc, &Lexed::new(bytes, tokens), whole) {
+        Ok(first) => SyntaxFault::Syntax(place(bytes, tokens, first.unwrap_or(at))),
+        Err(Memory) => SyntaxFault::Memory,
+    }
 }

@@ -5,10 +5,11 @@ use Rattle.dioc_terms.specs.Plain.{plain}
 use Rattle.aioc_tokens.specs.declared.kinds.Token.{Token}
 use Rattle.aioc_tokens.specs.Lexing.{Lexes, place_of}
 use Rattle.aioc_tokens.specs.Lexemes.{Lexeme, lexemes}
+use Rattle.wanted_tokens.specs.declared.goals.Goal.TheVariants as goals
 use Rattle.bundle_text.specs.declared.stops.Stop.{Stop}
 use Rattle.bundle_text.specs.declared.stops.Stop.TheVariants as stop
 use Rattle.bundle_text.specs.Grammar.{IsBundle}
-use Rattle.bundle_text.specs.Stops.{place_in, EndsAt, EndsAtByte, bad_byte, at_token}
+use Rattle.bundle_text.specs.Stops.{place_in, EndsAt, EndsAtByte, bad_byte, at_token, named_place}
 use Rattle.bundle_text.proofs.Wholes.{bad_byte_none, byte_none}
 use Rattle.bundle_text.proofs.Formed.{read_formed}
 use Rattle.bundle_text.proofs.reader.read_bundle.Goals as goal
@@ -33,17 +34,17 @@ stopped : (s : Stop) (at : ℕ) (text : List Lexeme) → (s ≢ stop.Memory → 
 stopped s at text told is = subst (λ (s : Stop). EndsAt text (place_in s)) is (told (λ e. cc))
 
 ends : (bytes : List ℕ) (tokens : List Token) (s : Stop) (at : ℕ) (text : List Lexeme) → length bytes ≤ most_bytes → Lexes 0 bytes tokens → text ≡ lexemes bytes tokens → (s ≢ stop.Memory → EndsAt text (place_in s)) → s ≡ stop.At at
-    → EndsAtByte bytes (place_of bytes tokens at)
+    → EndsAtByte bytes (place_of bytes tokens (named_place goals.Bundle (lexemes bytes tokens) at))
 ends bytes tokens s at text small lexes are told is = at_token small lexes (subst (λ list. EndsAt list at) are (stopped s at text told is)) refl
 
 pub returns-in-Err-At-clause-syntax : goal.returns-in-Err-At-clause-syntax
 returns-in-Err-At-clause-syntax c = λ other.
-    byte_none c.args.bytes.now (place_of c.args.bytes.now c.in-Ok.tokens.items c.in-Err-At.at)
+    byte_none c.args.bytes.now (place_of c.args.bytes.now c.in-Ok.tokens.items (named_place goals.Bundle (lexemes c.args.bytes.now c.in-Ok.tokens.items) c.in-Err-At.at))
     (ends c.args.bytes.now c.in-Ok.tokens.items c.in-Err-At.field-0 c.in-Err-At.at c.new.result (omega arith) c.in-Ok.ensures.found (c.new.ensures ∙ ap (lexemes c.args.bytes.now) c.deref.ensures.value) c.in-Err-At.ensures.stopped c.in-Err-At.field-0-is)
 
 pub returns-in-Err-At-clause-byte : goal.returns-in-Err-At-clause-byte
 returns-in-Err-At-clause-byte c = λ byte is.
-    let told = c.place.ensures in
-    let same : place_of c.args.bytes.now c.in-Ok.tokens.items c.in-Err-At.at ≡ byte = cc in
+    let told = c.fault.ensures in
+    let same : place_of c.args.bytes.now c.in-Ok.tokens.items (named_place goals.Bundle (lexemes c.args.bytes.now c.in-Ok.tokens.items) c.in-Err-At.at) ≡ byte = cc in
     subst (EndsAtByte c.args.bytes.now) same
     (ends c.args.bytes.now c.in-Ok.tokens.items c.in-Err-At.field-0 c.in-Err-At.at c.new.result (omega arith) c.in-Ok.ensures.found (c.new.ensures ∙ ap (lexemes c.args.bytes.now) c.deref.ensures.value) c.in-Err-At.ensures.stopped c.in-Err-At.field-0-is)

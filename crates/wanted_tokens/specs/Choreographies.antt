@@ -1,0 +1,116 @@
+-- Choreographies: what each goal makes of a token.
+use Rattle.std.specs.Prelude.{Bool, true, List, [], ◌∷◌, ◌++◌, Some}
+use Rattle.aioc_tokens.specs.declared.words.Word.TheVariants as word
+use Rattle.aioc_tokens.specs.declared.words.Punctuator.TheVariants as punctuator
+use Rattle.expr_syntax.specs.declared.levels.ExprKind.TheVariants as kinds
+use Rattle.wanted_tokens.specs.declared.looks.PlaceWord.TheVariants as place
+use Rattle.wanted_tokens.specs.declared.looks.Look.{Look}
+use Rattle.wanted_tokens.specs.declared.looks.Look.TheVariants as looks
+use Rattle.wanted_tokens.specs.declared.goals.Goal.{Goal}
+use Rattle.wanted_tokens.specs.declared.goals.Goal.TheVariants as goal
+use Rattle.wanted_tokens.specs.Goals.{left_brace, right_brace, left_paren, right_paren, equal, at_sign, arrow, dot, n_word}
+use Rattle.wanted_tokens.specs.Takings.{Effect, Takes, Passes, Stops}
+use Rattle.wanted_tokens.specs.Expressions.{expression}
+
+-- "{" choreo "}"
+abbrev pub block : List Goal
+block = left_brace ∷ goal.Step ∷ goal.MoreSteps ∷ goal.MoreParts ∷ right_brace ∷ []
+
+-- a step that begins with a reserved word or a bracket, behind that:
+--   step = "skip"
+--        | "if" expr "@" name "{" choreo "}" [ "else" "{" choreo "}" ]
+--        | "while" expr "@" name "{" choreo "}"
+--        | "scope" "@" name "{" choreo "}"
+--              [ "roles" "{" name { "," name } "}" ] [ "prop" "{" [ props ] "}" ]
+--        | "(" choreo ")"
+abbrev pub conditional : List Goal
+conditional = goal.Expression kinds.Step ∷ at_sign ∷ goal.Name ∷ block ++ goal.Otherwise ∷ []
+
+abbrev pub loop : List Goal
+loop = goal.Expression kinds.Step ∷ at_sign ∷ goal.Name ∷ block
+
+abbrev pub scope : List Goal
+scope = at_sign ∷ goal.Name ∷ block ++ goal.ExtraRoles ∷ goal.Properties ∷ []
+
+abbrev pub group : List Goal
+group = goal.Step ∷ goal.MoreSteps ∷ goal.MoreParts ∷ right_paren ∷ []
+
+-- a step, and what is wanted behind it
+abbrev pub step_before : List Goal → Look → Effect
+step_before others (looks.Reserved word.Skip) = Takes others
+step_before others (looks.Name word) = Takes (goal.StepBehindName ∷ others)
+step_before others (looks.Reserved word.If) = Takes (conditional ++ others)
+step_before others (looks.Reserved word.While) = Takes (loop ++ others)
+step_before others (looks.Reserved word.Scope) = Takes (scope ++ others)
+step_before others (looks.Symbol punctuator.LeftParen) = Takes (group ++ others)
+step_before others _ = Stops
+
+abbrev pub step : Look → Effect
+step look = step_before [] look
+
+-- behind the name at a step's front:
+--   ":" name "(" expr ")" "->" name "(" name ")" | "@" name "=" ( "input" "(" ")" | expr )
+abbrev pub sending : List Goal
+sending =
+    goal.Name ∷ left_paren ∷ goal.Expression kinds.Step ∷ right_paren ∷ arrow
+    ∷ goal.Name ∷ left_paren ∷ goal.Name ∷ right_paren ∷ []
+
+abbrev pub step_behind_name : Look → Effect
+step_behind_name (looks.Symbol punctuator.Colon) = Takes sending
+step_behind_name (looks.Symbol punctuator.At) =
+    Takes (goal.Name ∷ equal ∷ goal.Assigned ∷ [])
+step_behind_name _ = Stops
+
+abbrev pub assigned : Look → Effect
+assigned (looks.Reserved word.Input) = Takes (left_paren ∷ right_paren ∷ [])
+assigned look = expression kinds.Step look
+
+-- seq = step { ";" step } [ ";" ]
+abbrev pub more_steps : Look → Effect
+more_steps (looks.Symbol punctuator.Semicolon) = Takes (goal.NextStep ∷ [])
+more_steps _ = Passes
+
+abbrev pub or_nothing : Effect → Effect
+or_nothing Stops = Passes
+or_nothing other = other
+
+abbrev pub next_step : Look → Effect
+next_step look = or_nothing (step_before (goal.MoreSteps ∷ []) look)
+
+-- choreo = seq { "|" seq }
+abbrev pub more_parts : Look → Effect
+more_parts (looks.Symbol punctuator.Bar) =
+    Takes (goal.Step ∷ goal.MoreSteps ∷ goal.MoreParts ∷ [])
+more_parts _ = Passes
+
+-- [ "else" "{" choreo "}" ]
+abbrev pub otherwise : Look → Effect
+otherwise (looks.Reserved word.Else) = Takes block
+otherwise _ = Passes
+
+-- in version 2 alone: [ "roles" "{" name { "," name } "}" ]
+abbrev pub extra_roles : Bool → Look → Effect
+extra_roles true (looks.Name (Some place.Roles)) =
+    Takes (left_brace ∷ goal.Name ∷ goal.MoreNames ∷ right_brace ∷ [])
+extra_roles _ _ = Passes
+
+abbrev pub more_names : Look → Effect
+more_names (looks.Symbol punctuator.Comma) = Takes (goal.Name ∷ goal.MoreNames ∷ [])
+more_names _ = Passes
+
+-- [ "prop" "{" [ props ] "}" ], where props = "N" "." name "=" value { "," "N" "." name "=" value }
+abbrev pub properties : Look → Effect
+properties (looks.Reserved word.Prop) =
+    Takes (left_brace ∷ goal.FirstProperty ∷ right_brace ∷ [])
+properties _ = Passes
+
+abbrev pub property : List Goal
+property = dot ∷ goal.Name ∷ equal ∷ goal.Value ∷ goal.MoreProperties ∷ []
+
+abbrev pub first_property : Look → Effect
+first_property (looks.Reserved word.N) = Takes property
+first_property _ = Passes
+
+abbrev pub more_properties : Look → Effect
+more_properties (looks.Symbol punctuator.Comma) = Takes (n_word ∷ property)
+more_properties _ = Passes

@@ -1,0 +1,10 @@
+pub mod Looks
+pub mod Goals
+pub mod Takings
+pub mod Tokens
+pub mod Expressions
+pub mod Choreographies
+pub mod Rules
+pub mod Traces
+pub mod Sections
+pub mod Wanted

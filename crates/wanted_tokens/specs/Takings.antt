@@ -1,0 +1,23 @@
+-- What a goal makes of a token.
+use Rattle.std.specs.Prelude.{List, [], ◌∷◌, ◌++◌, Option, Some, None}
+use Rattle.wanted_tokens.specs.declared.goals.Goal.{Goal}
+use Rattle.wanted_tokens.specs.declared.takings.Taking.{Taking}
+use Rattle.wanted_tokens.specs.declared.takings.Taking.TheVariants as taking
+
+pub data Effect : Type 0 where
+  -- the token is taken, and then these are wanted in the goal's place, in their order
+  Takes : List Goal → Effect
+  -- the goal is reached without the token, which is for the next one
+  Passes : Effect
+  -- the token isn't wanted
+  Stops : Effect
+
+abbrev pub listed : Option Goal → List Goal
+listed None = []
+listed (Some goal) = goal ∷ []
+
+-- what the program's answer stands for
+abbrev pub effect : Taking → Effect
+effect (taking.Takes wanted last) = Takes (wanted.now ++ listed last)
+effect taking.Passes = Passes
+effect taking.Stops = Stops

@@ -1,0 +1,218 @@
+//! Sections, bundles and sessions: what each goal makes of a token.
+
+ghost use Rattle.std.specs.Prelude.{◌≡◌, ◌∷◌, [], if◌then◌else◌};
+ghost use Rattle.wanted_tokens.specs.Takings.{effect, Passes, Stops};
+ghost use Rattle.wanted_tokens.specs.declared.goals.Goal.{Goal};
+ghost use Rattle.wanted_tokens.specs.Sections.{bindings, inputs, script, repeated, traced, sections, sections_behind_trace, later_sections, last_sections, bundle, session};
+
+use crate::goals::Goal;
+use crate::looks::{Look, PlaceWord};
+use crate::takings::{Taking, takes, takes_before};
+use aioc_tokens::{Punctuator, Word};
+use expr_syntax::GREATEST;
+
+/// Behind the name of a binding.
+const BINDING: [Goal; 3] = [
+    Goal::Symbol(Punctuator::Equal),
+    Goal::Value,
+    Goal::Symbol(Punctuator::Semicolon),
+];
+
+/// Behind the role of inputs.
+const INPUT: [Goal; 4] = [
+    Goal::Symbol(Punctuator::Colon),
+    Goal::Value,
+    Goal::MoreValues,
+    Goal::Symbol(Punctuator::Semicolon),
+];
+
+/// Behind `after`.
+const TIMED: [Goal; 2] = [Goal::Number(GREATEST), Goal::Change];
+
+/// Behind `aioc`.
+const CHOREOGRAPHY: [Goal; 5] = [
+    Goal::Symbol(Punctuator::LeftBrace),
+    Goal::Step,
+    Goal::MoreSteps,
+    Goal::MoreParts,
+    Goal::Symbol(Punctuator::RightBrace),
+];
+
+/// Behind `rules`.
+const RULES: [Goal; 3] = [
+    Goal::Symbol(Punctuator::LeftBrace),
+    Goal::Rules,
+    Goal::Symbol(Punctuator::RightBrace),
+];
+
+/// Behind `env`.
+const BINDINGS: [Goal; 3] = [
+    Goal::Symbol(Punctuator::LeftBrace),
+    Goal::Bindings,
+    Goal::Symbol(Punctuator::RightBrace),
+];
+
+/// Behind `inputs`.
+const INPUTS: [Goal; 3] = [
+    Goal::Symbol(Punctuator::LeftBrace),
+    Goal::Inputs,
+    Goal::Symbol(Punctuator::RightBrace),
+];
+
+/// Behind `script`.
+const SCRIPT: [Goal; 3] = [
+    Goal::Symbol(Punctuator::LeftBrace),
+    Goal::Script,
+    Goal::Symbol(Punctuator::RightBrace),
+];
+
+/// Behind `trace`.
+const LINES: [Goal; 3] = [
+    Goal::Symbol(Punctuator::LeftBrace),
+    Goal::Lines,
+    Goal::Symbol(Punctuator::RightBrace),
+];
+
+/// Behind `version`.
+const VERSION: [Goal; 2] = [Goal::Two, Goal::Sections];
+
+/// Behind `session`.
+const SESSION: [Goal; 3] = [
+    Goal::Symbol(Punctuator::LeftBrace),
+    Goal::Bundle,
+    Goal::Symbol(Punctuator::RightBrace),
+];
+
+/// Bindings, or none.
+pub fn bindings(look: Look) -> Taking
+    ensures { effect result ≡ bindings look }
+{
+    match look {
+        Look::Name(_) => takes_before(BINDING.as_slice(), Goal::Bindings),
+        _ => Taking::Passes,
+    }
+}
+
+/// Inputs of roles, or none.
+pub fn inputs(look: Look) -> Taking
+    ensures { effect result ≡ inputs look }
+{
+    match look {
+        Look::Name(_) => takes_before(INPUT.as_slice(), Goal::Inputs),
+        _ => Taking::Passes,
+    }
+}
+
+/// Changes with their times, or none.
+pub fn script(look: Look) -> Taking
+    ensures { effect result ≡ script look }
+{
+    match look {
+        Look::Name(Some(PlaceWord::After)) => takes_before(TIMED.as_slice(), Goal::Script),
+        _ => Taking::Passes,
+    }
+}
+
+/// A section of a kind that may come any number of times, and the goal behind it; else the other
+/// answer.
+fn repeated(behind: Goal, other: Taking, word: PlaceWord) -> Taking
+    ensures { effect result ≡ repeated behind (effect other) word }
+{
+    match word {
+        PlaceWord::Rules => takes_before(RULES.as_slice(), behind),
+        PlaceWord::Env => takes_before(BINDINGS.as_slice(), behind),
+        PlaceWord::Inputs => takes_before(INPUTS.as_slice(), behind),
+        PlaceWord::Script => takes_before(SCRIPT.as_slice(), behind),
+        _ => other,
+    }
+}
+
+/// A section of a trace, and the goal behind it; else one of another kind, and the same goal behind
+/// that; else the other answer.
+fn traced(behind: Goal, same: Goal, other: Taking, word: PlaceWord) -> Taking
+    ensures { effect result ≡ traced behind same (effect other) word }
+{
+    match word {
+        PlaceWord::Trace => takes_before(LINES.as_slice(), behind),
+        _ => repeated(same, other, word),
+    }
+}
+
+/// Sections, a choreography among them.
+pub fn sections(look: Look) -> Taking
+    ensures { effect result ≡ sections look }
+{
+    match look {
+        Look::Reserved(Word::Aioc) => takes_before(CHOREOGRAPHY.as_slice(), Goal::LaterSections),
+        Look::Name(Some(word)) => {
+            traced(
+                Goal::SectionsBehindTrace,
+                Goal::Sections,
+                Taking::Stops,
+                word,
+            )
+        }
+        _ => Taking::Stops,
+    }
+}
+
+/// Sections behind a trace, a choreography among them.
+pub fn sections_behind_trace(look: Look) -> Taking
+    ensures { effect result ≡ sections_behind_trace look }
+{
+    match look {
+        Look::Reserved(Word::Aioc) => takes_before(CHOREOGRAPHY.as_slice(), Goal::LastSections),
+        Look::Name(Some(word)) => repeated(Goal::SectionsBehindTrace, Taking::Stops, word),
+        _ => Taking::Stops,
+    }
+}
+
+/// Sections behind a choreography, or none.
+pub fn later_sections(look: Look) -> Taking
+    ensures { effect result ≡ later_sections look }
+{
+    match look {
+        Look::Name(Some(word)) => {
+            traced(
+                Goal::LastSections,
+                Goal::LaterSections,
+                Taking::Passes,
+                word,
+            )
+        }
+        _ => Taking::Passes,
+    }
+}
+
+/// Sections behind a choreography and a trace, or none.
+pub fn last_sections(look: Look) -> Taking
+    ensures { effect result ≡ last_sections look }
+{
+    match look {
+        Look::Name(Some(word)) => repeated(Goal::LastSections, Taking::Passes, word),
+        _ => Taking::Passes,
+    }
+}
+
+/// The version of a bundle and its sections.
+pub fn bundle(look: Look) -> Taking
+    ensures { effect result ≡ bundle look }
+{
+    match look {
+        Look::Name(Some(PlaceWord::Version)) => takes(VERSION.as_slice()),
+        _ => sections(look),
+    }
+}
+
+/// A session, and others behind it; else the other answer.
+pub fn session(other: Taking, look: Look) -> Taking
+    ensures { effect result ≡ session (effect other) look }
+{
+    match look {
+        Look::Name(Some(PlaceWord::Session)) => takes_before(
+            SESSION.as_slice(),
+            Goal::MoreSessions,
+        ),
+        _ => other,
+    }
+}
