@@ -1,6 +1,6 @@
 -- At most one list of sessions is spelled by a text, each bundle is formed, and none is spelled where a
 -- reader stopped.
-use Rattle.std.proofs.Common.{◌≡◌, ◌≢◌, ℕ, ◌+◌, ◌<◌, ◌≤◌, ◌⊎◌, inl, inr, List, [], ◌∷◌, ◌++◌, length, map, drop, refl, ap, sym, ◌∙◌, subst, arith, length-drop, length-append, drop-drop, All}
+use Rattle.std.proofs.Common.{◌≡◌, ℕ, ◌+◌, ◌<◌, ◌≤◌, ◌⊎◌, inl, inr, List, [], ◌∷◌, ◌++◌, length, map, drop, refl, ap, sym, ◌∙◌, subst, arith, length-drop, length-append, drop-drop, All}
 use Rattle.std.specs.List.{AllByRecursion}
 use Rattle.std.proofs.lemmas.List.Elements.{All-from_recursion}
 use Rattle.dioc_terms.specs.declared.bundles.Bundle.{Bundle}
@@ -8,17 +8,16 @@ use Rattle.dioc_terms.specs.declared.bundles.Trace.{Trace}
 use Rattle.dioc_terms.specs.Bundles.{IsFormed}
 use Rattle.dioc_terms.specs.Plain.{PlainBundle, plain}
 use Rattle.dioc_terms.specs.Terms.{Term}
-use Rattle.aioc_tokens.specs.declared.kinds.Token.{Token}
 use Rattle.aioc_tokens.specs.declared.words.Punctuator.TheVariants as punctuator
 use Rattle.aioc_tokens.specs.declared.words.Sort.TheVariants as sorts
-use Rattle.aioc_tokens.specs.Lexing.{Lexes, Breaks}
+use Rattle.aioc_tokens.specs.Lexing.{Breaks}
 use Rattle.aioc_tokens.specs.Lexemes.{Lexeme, sort_of, lexemes, HasLexemes}
 use Rattle.aioc_tokens.proofs.Readings.{one_reading}
 use Rattle.aioc_tokens.proofs.Unique.{tokens_or_bad_byte}
 use Rattle.expr_syntax.proofs.ReadFormed.{all_valid}
-use Rattle.bundle_text.specs.Many.{Many, no_more, one_more}
+use Rattle.bundle_text.specs.Many.{Many, one_more}
 use Rattle.bundle_text.specs.Grammar.{closed_before, Section, IsSection, aioc, rules, environment, inputs, script, trace, joined, IsOnly, IsMadeOf, HasVersion, first_version, second_version, IsBundle}
-use Rattle.bundle_text.specs.Sessions.{session_before, IsSession, SpellsSessions, SpellsNoSessions, EndsBeforeClose, EndsInBrackets, before_close, at_close, EndsInSession, no_session, in_bundle, EndsAmongSessions, SessionsEndAtByte, too_long, bad_byte, at_token}
+use Rattle.bundle_text.specs.Sessions.{IsSession, SpellsSessions, SpellsNoSessions, EndsInBrackets, before_close, at_close, EndsInSession, no_session, in_bundle, EndsAmongSessions, SessionsEndAtByte, too_long, bad_byte, at_token}
 use Rattle.bundle_text.proofs.FormedParts.{IsFormedSection}
 use Rattle.bundle_text.proofs.Formed.{AllWritten, Forms, many_formed, section_formed, bundle_formed}
 use Rattle.bundle_text.proofs.Repeated.{OneEach, NoneAt, Behind, many_behind, many_same, ended}

@@ -1,14 +1,14 @@
 -- What the readers of sessions found.
-use Rattle.std.proofs.Common.{◌≡◌, ◌≢◌, ℕ, ◌+◌, ◌<◌, ◌≤◌, List, [], ◌∷◌, ◌++◌, length, map, drop, codes, refl, ap, sym, ◌∙◌, subst, arith, length-drop, drop-drop, drop_of_length-le}
+use Rattle.std.proofs.Common.{◌≡◌, ◌≢◌, ℕ, ◌+◌, ◌≤◌, List, [], ◌∷◌, ◌++◌, length, map, drop, codes, refl, ap, sym, ◌∙◌, subst, arith, length-drop, drop-drop, drop_of_length-le}
 use Rattle.std.proofs.lemmas.List.{map-append}
 use Rattle.dioc_terms.specs.declared.bundles.Bundle.{Bundle}
 use Rattle.dioc_terms.specs.Plain.{PlainBundle, plain}
 use Rattle.aioc_tokens.specs.declared.words.Punctuator.TheVariants as punctuator
 use Rattle.aioc_tokens.specs.declared.words.Sort.TheVariants as sorts
-use Rattle.aioc_tokens.specs.Lexemes.{Lexeme, Name, Symbol, sort_of}
+use Rattle.aioc_tokens.specs.Lexemes.{Lexeme, Name, sort_of}
 use Rattle.dioc_syntax.proofs.HeadSorts.{further, symbol_here, within_here}
 use Rattle.bundle_text.specs.Many.{Many}
-use Rattle.bundle_text.specs.Grammar.{closed_before, IsSection, Joined, joined, IsMadeOf, HasVersion, IsBundle}
+use Rattle.bundle_text.specs.Grammar.{closed_before, IsSection, Joined, IsMadeOf, HasVersion}
 use Rattle.bundle_text.specs.Readers.{FindsVersion}
 use Rattle.bundle_text.specs.Stops.{BeginsSection, begins_aioc, begins_rules, begins_environment, begins_inputs, begins_script, begins_trace, EndsInSection, no_word}
 use Rattle.bundle_text.specs.Sessions.{session_before, IsSession, EndsBeforeClose, EndsInBrackets, at_close}

@@ -1,10 +1,12 @@
 -- What the looks show, said of the bytes.
-use Rattle.std.proofs.Common.{◌≡◌, ◌≢◌, ℕ, ◌≤◌, List, [], length, Err, refl, subst, ap, ◌∙◌, arith}
+use Rattle.std.proofs.Common.{◌≡◌, ◌≢◌, ℕ, ◌≤◌, List, [], length, Result, Err, refl, sym, subst, ap, ◌∙◌, arith}
 use Rattle.limits.specs.Limits.{most_bytes}
 use Rattle.dioc_terms.specs.Plain.{plain}
 use Rattle.aioc_tokens.specs.declared.kinds.Token.{Token}
 use Rattle.aioc_tokens.specs.Lexing.{Lexes, place_of}
 use Rattle.aioc_tokens.specs.Lexemes.{Lexeme, lexemes}
+use Rattle.dioc_terms.specs.declared.faults.SyntaxFault.{SyntaxFault}
+use Rattle.dioc_terms.specs.declared.faults.SyntaxFault.TheVariants as fault
 use Rattle.wanted_tokens.specs.declared.goals.Goal.TheVariants as goals
 use Rattle.bundle_text.specs.declared.stops.Stop.{Stop}
 use Rattle.bundle_text.specs.declared.stops.Stop.TheVariants as stop
@@ -42,9 +44,16 @@ returns-in-Err-At-clause-syntax c = λ other.
     byte_none c.args.bytes.now (place_of c.args.bytes.now c.in-Ok.tokens.items (named_place goals.Bundle (lexemes c.args.bytes.now c.in-Ok.tokens.items) c.in-Err-At.at))
     (ends c.args.bytes.now c.in-Ok.tokens.items c.in-Err-At.field-0 c.in-Err-At.at c.new.result (omega arith) c.in-Ok.ensures.found (c.new.ensures ∙ ap (lexemes c.args.bytes.now) c.deref.ensures.value) c.in-Err-At.ensures.stopped c.in-Err-At.field-0-is)
 
+-- the byte that a fault names
+syntax_of : {A : Type 0} {told wanted : SyntaxFault} → ◌≡◌ {A = Result A SyntaxFault} (Err told) (Err wanted) → told ≡ wanted
+syntax_of is = cc
+
+named_byte : (told : SyntaxFault) (byte place : ℕ) → (told ≢ fault.Memory → told ≡ fault.Syntax place) → told ≡ fault.Syntax byte → place ≡ byte
+named_byte told byte place names is = let named = names (λ e. cc) in cc
+
 pub returns-in-Err-At-clause-byte : goal.returns-in-Err-At-clause-byte
 returns-in-Err-At-clause-byte c = λ byte is.
-    let told = c.fault.ensures in
-    let same : place_of c.args.bytes.now c.in-Ok.tokens.items (named_place goals.Bundle (lexemes c.args.bytes.now c.in-Ok.tokens.items) c.in-Err-At.at) ≡ byte = cc in
-    subst (EndsAtByte c.args.bytes.now) same
-    (ends c.args.bytes.now c.in-Ok.tokens.items c.in-Err-At.field-0 c.in-Err-At.at c.new.result (omega arith) c.in-Ok.ensures.found (c.new.ensures ∙ ap (lexemes c.args.bytes.now) c.deref.ensures.value) c.in-Err-At.ensures.stopped c.in-Err-At.field-0-is)
+    let text = c.args.bytes.now in
+    let same = named_byte c.fault.result byte _ c.fault.ensures (syntax_of is) in
+    subst (EndsAtByte text) (ap (λ tokens. place_of text tokens (named_place goals.Bundle (lexemes text tokens) c.in-Err-At.at)) (sym c.deref-in-Err-At.ensures.value) ∙ same)
+    (ends text c.in-Ok.tokens.items c.in-Err-At.field-0 c.in-Err-At.at c.new.result (omega arith) c.in-Ok.ensures.found (c.new.ensures ∙ ap (lexemes text) c.deref.ensures.value) c.in-Err-At.ensures.stopped c.in-Err-At.field-0-is)
