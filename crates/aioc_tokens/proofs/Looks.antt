@@ -1,9 +1,10 @@
 -- What a look at a place of a text with its tokens shows.
-use Rattle.std.proofs.Common.{◌≡◌, ◌≢◌, ℕ, ◌+◌, ◌-◌, ◌<◌, ◌≤◌, Bool, true, false, cond, List, [], ◌∷◌, length, get_or, drop, map, Option, Some, None, refl, ap, sym, ◌∙◌, subst, arith, length-drop, drop-drop, add_assoc, min, ⊎_elim, ◌↔◌, IfOk, Result, Ok, Err, Vec, Global}
+use Rattle.std.proofs.Common.{◌≡◌, ◌≢◌, ℕ, zero, suc, ◌+◌, ◌-◌, ◌<◌, ◌≤◌, Bool, true, false, cond, List, [], ◌∷◌, length, get_or, drop, take, map, ◌++◌, Option, Some, None, refl, ap, sym, ◌∙◌, subst, arith, length-drop, drop-drop, add_assoc, min, ⊎_elim, ◌↔◌, IfOk, Result, Ok, Err, Vec, Global}
 use Rattle.std.specs.Prelude.{nat_le}
 use Rattle.std.specs.Option.{option_map_or}
 use Rattle.std.proofs.str.Laws.{order}
-use Rattle.std.proofs.lemmas.List.{drop_more, drop-map, drop_all, length-map, get_or_default}
+use Rattle.std.proofs.Math.Seq.{take-suc}
+use Rattle.std.proofs.lemmas.List.{get_or-take, drop_more, drop-map, drop_all, length-map, get_or_default}
 use Rattle.std.proofs.lemmas.Bool.Decides.{nat_tests}
 use Rattle.aioc_tokens.specs.declared.kinds.Kind.{Kind}
 use Rattle.aioc_tokens.specs.declared.kinds.Kind.TheVariants as kinds
@@ -16,7 +17,7 @@ use Rattle.aioc_tokens.specs.declared.words.Sort.TheVariants as sorts
 use Rattle.aioc_tokens.specs.Words.{word_of, punctuator_of}
 use Rattle.aioc_tokens.specs.Tokens.{Spells}
 use Rattle.aioc_tokens.specs.Lexing.{Lexes, IsTokenOf, bytes_of}
-use Rattle.aioc_tokens.specs.Lexemes.{Lexeme, Name, Long, Number, Text, Reserved, Symbol, lexeme, lexemes, sort_of, value_of, Begins, HasSpelling}
+use Rattle.aioc_tokens.specs.Lexemes.{Lexeme, Name, Long, Number, Text, Reserved, Symbol, lexeme, lexemes, sort_of, all_sorts, AreKnown, value_of, Begins, HasSpelling}
 use Rattle.aioc_tokens.proofs.Walk.{token_size}
 use Rattle.aioc_tokens.proofs.Order.{lexes_longest}
 use Rattle.aioc_tokens.proofs.Values.{text_quoted}
@@ -275,3 +276,36 @@ pub text_copied_formed : {Fault : Type 0} (result : Result (Vec ℕ Global) Faul
     → IfOk result (λ v. HasSpelling (Text v.items))
 text_copied_formed (Ok copy) bytes same formed = subst (λ value. HasSpelling (Text value)) (sym same) formed
 text_copied_formed (Err fault) bytes same formed = tt
+
+-- the sort at a place of all sorts
+sort_at : (list : List Lexeme) (at : ℕ) → get_or (all_sorts list) at sorts.End ≡ sort_of (drop at list)
+sort_at [] zero = refl
+sort_at [] (suc at) = refl
+sort_at (first ∷ others) zero = sym (sort_of_first first others)
+sort_at (first ∷ others) (suc at) = sort_at others at
+
+-- a sort that is known is that of the lexeme at its place
+pub known_sort : (known : List Sort) (list : List Lexeme) (at : ℕ) → AreKnown known list → at < length known → get_or known at sorts.End ≡ sort_of (drop at list)
+known_sort known list at are within =
+    ap (λ known. get_or known at sorts.End) are ∙ get_or-take (length known) (all_sorts list) at sorts.End within ∙ sort_at list at
+
+-- a place where a lexeme stands is one of the list
+pub sort_within : (list : List Lexeme) (at : ℕ) → sort_of (drop at list) ≢ sorts.End → at < length list
+sort_within [] zero stands = absurd (stands refl)
+sort_within [] (suc at) stands = absurd (stands refl)
+sort_within (first ∷ others) zero stands = omega arith
+sort_within (first ∷ others) (suc at) stands = let within = sort_within others at stands in omega arith
+
+-- one token more, and its sort behind the others
+pub sorts_further : (text : List ℕ) (tokens : List Token) (at : ℕ) (token : Token) (found : List Sort) → Lexes 0 text tokens → at < length tokens → token ≡ get_or tokens at token
+    → found ≡ take at (all_sorts (lexemes text tokens))
+    → found ++ (sort_of (lexeme token.kind (bytes_of text token) ∷ []) ∷ []) ≡ take (at + 1) (all_sorts (lexemes text tokens))
+sorts_further text tokens at token found lexes inside read are =
+    let list = lexemes text tokens in
+    let here : get_or (all_sorts list) at sorts.End ≡ sort_of (lexeme token.kind (bytes_of text token) ∷ []) = sort_at list at ∙ sort_read text tokens lexes at token inside read in
+    let next : suc at ≡ at + 1 = omega arith in
+    let within : at < length (all_sorts list) = omega (arith, length-map list (λ (first : Lexeme). sort_of (first ∷ [])), length-map tokens (λ (token : Token). lexeme token.kind (bytes_of text token))) in
+    ap (λ found. found ++ (sort_of (lexeme token.kind (bytes_of text token) ∷ []) ∷ [])) are
+    ∙ ap (λ last. take at (all_sorts list) ++ (last ∷ [])) (sym here)
+    ∙ sym (take-suc (all_sorts list) at sorts.End within)
+    ∙ ap (λ n. take n (all_sorts list)) next

@@ -1,5 +1,5 @@
 -- What the grammar sees of a text: the list of its lexemes.
-use Rattle.std.specs.Prelude.{◌≡◌, ℕ, ◌-◌, ◌<◌, ◌≤◌, Bool, true, false, List, [], ◌∷◌, length, drop, map, None, slice_range, nat_le, if◌then◌else◌, ◌==◌, IsTrue}
+use Rattle.std.specs.Prelude.{◌≡◌, ℕ, ◌-◌, ◌<◌, ◌≤◌, Bool, true, false, List, [], ◌∷◌, length, drop, take, map, None, slice_range, nat_le, if◌then◌else◌, ◌==◌, IsTrue}
 use Rattle.std.specs.Char.{is_ascii_digit}
 use Rattle.std.specs.List.{list_all}
 use Rattle.std.specs.Option.{option_map_or}
@@ -80,6 +80,14 @@ sort_of (Number digits ∷ others) = sorts.Number
 sort_of (Text value ∷ others) = sorts.Text
 sort_of (Reserved word ∷ others) = sorts.Reserved word
 sort_of (Symbol punctuator ∷ others) = sorts.Symbol punctuator
+
+-- the sorts of all lexemes
+abbrev pub all_sorts : List Lexeme → List Sort
+all_sorts list = map (λ first. sort_of (first ∷ [])) list
+
+-- these are the sorts of the first lexemes of a list
+abbrev pub AreKnown : List Sort → List Lexeme → Type 0
+AreKnown known list = known ≡ take (length known) (all_sorts list)
 
 -- the list begins with lexemes of these sorts
 abbrev pub Begins : List Sort → List Lexeme → Type 0

@@ -14,5 +14,5 @@ mod words;
 
 pub use kinds::{Kind, Token, TokenFault};
 pub use scan::tokens;
-pub use view::{Lexed, place};
+pub use view::{Lexed, place, sorts};
 pub use words::{Punctuator, Sort, Word, find_punctuator, find_word};

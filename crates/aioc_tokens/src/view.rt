@@ -3,7 +3,7 @@ ghost use Rattle.std.specs.Prelude.{◌≡◌, ◌≢◌, ℕ, ◌+◌, ◌^◌,
 ghost use Rattle.aioc_tokens.specs.declared.kinds.Kind.{Kind};
 ghost use Rattle.aioc_tokens.specs.Tokens.{Spells};
 ghost use Rattle.aioc_tokens.specs.Lexing.{Lexes, IsTokenOf, bytes_of, place_of};
-ghost use Rattle.aioc_tokens.specs.Lexemes.{lexeme, lexemes, sort_of, value_of, unescaped, Begins, HasSpelling};
+ghost use Rattle.aioc_tokens.specs.Lexemes.{lexeme, lexemes, sort_of, all_sorts, value_of, unescaped, Begins, HasSpelling};
 ghost use Rattle.limits.specs.Limits.{most_text_bytes};
 
 use crate::kinds::{Kind, Token};
@@ -97,24 +97,43 @@ pub fn place(bytes: &[u8], tokens: &[Token], at: usize) -> usize
     }
 }
 
+/// The sorts of a text's tokens, in their order: what [`Lexed::with_sorts`] takes, so that no sort is
+/// found twice. The error says that memory ran out.
+pub fn sorts(alloc: Global, bytes: &[u8], tokens: &[Token]) -> Result<Vec<Sort>, AllocError>
+    requires { Lexes 0 bytes.now tokens.now }
+    ensures { IfOk result (λ found. found.items ≡ all_sorts (lexemes bytes.now tokens.now)) }
+{
+    let mut found = Vec::with_capacity(alloc, tokens.len())?;
+    for token in tokens {
+        found.push(sort_of(token.kind, bytes_of(bytes, token)))?;
+    }
+    Ok(found)
+}
+
 /// A text and its tokens, as the grammar sees them: a list of lexemes. To look at one takes no
 /// longer far from the front than near it.
 #[derive(Drop)]
 pub struct Lexed<'a> {
     bytes: &'a [u8],
     tokens: &'a [Token],
+    /// The sorts of the first tokens, or of none: those of the others are found when they are asked
+    /// for.
+    known: &'a [Sort],
 }
+
+const NONE_KNOWN: [Sort; 0] = [];
 
 impl<'a> Model for Lexed<'a> {
     ghost use Rattle.std.specs.Prelude.{List};
     ghost use Rattle.aioc_tokens.specs.Lexing.{Lexes};
-    ghost use Rattle.aioc_tokens.specs.Lexemes.{Lexeme, lexemes};
+    ghost use Rattle.aioc_tokens.specs.Lexemes.{Lexeme, lexemes, AreKnown};
 
     ghost Value = { List Lexeme };
 
     ghost view = { λ s. lexemes s.bytes.now s.tokens.now };
 
-    ghost invariant = { λ s. Lexes 0 s.bytes.now s.tokens.now };
+    ghost invariant = { λ s. Lexes 0 s.bytes.now s.tokens.now
+        × AreKnown s.known.now (lexemes s.bytes.now s.tokens.now) };
 }
 
 impl<'a> Lexed<'a> {
@@ -125,7 +144,24 @@ impl<'a> Lexed<'a> {
         requires { Lexes 0 bytes.now tokens.now }
         ensures { result ≡ lexemes bytes.now tokens.now }
     {
-        Lexed { bytes, tokens }
+        Lexed {
+            bytes,
+            tokens,
+            known: NONE_KNOWN.as_slice(),
+        }
+    }
+
+    /// The lexemes of a text whose tokens these are, and whose tokens have these sorts.
+    pub fn with_sorts(bytes: &'a [u8], tokens: &'a [Token], sorts: &'a [Sort]) -> Lexed<'a>
+        requires lexes { Lexes 0 bytes.now tokens.now }
+        requires sorts { sorts.now ≡ all_sorts (lexemes bytes.now tokens.now) }
+        ensures { result ≡ lexemes bytes.now tokens.now }
+    {
+        Lexed {
+            bytes,
+            tokens,
+            known: sorts,
+        }
     }
 
     /// How many lexemes there are.
@@ -148,6 +184,16 @@ impl<'a> Lexed<'a> {
         ensures value { result ≡ sort_of (drop at self.now) }
         ensures within { result ≢ Sort.End → at < length self.now }
         ensures small { length self.now < 2 ^ 63 }
+    {
+        match self.known.get(at) {
+            Some(sort) => *sort,
+            None => self.found_sort(at),
+        }
+    }
+
+    /// The sort of the lexeme at this place, found from its bytes.
+    fn found_sort(&self, at: usize) -> Sort
+        ensures { result ≡ sort_of (drop at self.now) }
     {
         match self.tokens.get(at) {
             Some(token) => sort_of(token.kind, bytes_of(self.bytes, token)),

@@ -11,7 +11,7 @@ ghost use Rattle.bundle_text.specs.Stops.{place_in, EndsAt, EndsAtByte};
 use crate::bundles::bundle_of;
 use crate::sections::sections_at;
 use crate::stops::{Stop, fault};
-use aioc_tokens::{Lexed, TokenFault, tokens};
+use aioc_tokens::{Lexed, TokenFault, sorts, tokens};
 use dioc_terms::{Bundle, SyntaxFault};
 use expr_syntax::number_at;
 use limits::MOST_BYTES;
@@ -40,7 +40,11 @@ pub fn read_bundle(alloc: Global, bytes: &[u8]) -> Result<Bundle, SyntaxFault>
         Err(TokenFault::BadByte(at)) => return Err(SyntaxFault::Syntax(at)),
         Err(TokenFault::Memory) => return Err(SyntaxFault::Memory),
     };
-    match bundle_at(alloc, &Lexed::new(bytes, &tokens)) {
+    let sorts = match sorts(alloc, bytes, &tokens) {
+        Ok(sorts) => sorts,
+        Err(_) => return Err(SyntaxFault::Memory),
+    };
+    match bundle_at(alloc, &Lexed::with_sorts(bytes, &tokens, &sorts)) {
         Ok(bundle) => Ok(bundle),
         Err(Stop::At(at)) => Err(fault(alloc, bytes, &tokens, Goal::Bundle, at)),
         Err(Stop::Memory) => Err(SyntaxFault::Memory),

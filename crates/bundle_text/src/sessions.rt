@@ -15,7 +15,7 @@ use crate::parts::Parts;
 use crate::reader::version_at;
 use crate::sections::section_at;
 use crate::stops::{Stop, fault, lost};
-use aioc_tokens::{Lexed, Punctuator, Sort, TokenFault, tokens};
+use aioc_tokens::{Lexed, Punctuator, Sort, TokenFault, sorts, tokens};
 use dioc_terms::{Bundle, SyntaxFault};
 use limits::MOST_BYTES;
 use std::alloc::Global;
@@ -59,7 +59,11 @@ pub fn read_sessions(alloc: Global, bytes: &[u8]) -> Result<Vec<Bundle>, SyntaxF
         Err(TokenFault::BadByte(at)) => return Err(SyntaxFault::Syntax(at)),
         Err(TokenFault::Memory) => return Err(SyntaxFault::Memory),
     };
-    match sessions_of(alloc, &Lexed::new(bytes, &tokens)) {
+    let sorts = match sorts(alloc, bytes, &tokens) {
+        Ok(sorts) => sorts,
+        Err(_) => return Err(SyntaxFault::Memory),
+    };
+    match sessions_of(alloc, &Lexed::with_sorts(bytes, &tokens, &sorts)) {
         Ok(sessions) => Ok(sessions),
         Err(Stop::At(at)) => Err(fault(alloc, bytes, &tokens, Goal::Sessions, at)),
         Err(Stop::Memory) => Err(SyntaxFault::Memory),

@@ -1,17 +1,12 @@
-use Rattle.std.proofs.Common.{[], ◌∷◌, drop, ap, sym, ◌∙◌}
-use Rattle.aioc_tokens.specs.Lexemes.{lexeme, sort_of}
-use Rattle.aioc_tokens.proofs.Looks.{token_read, sort_read}
+use Rattle.std.proofs.Common.{drop, ap, ◌∙◌}
+use Rattle.aioc_tokens.specs.declared.words.Sort.TheVariants as sorts
+use Rattle.aioc_tokens.specs.Lexemes.{lexemes, sort_of}
+use Rattle.aioc_tokens.proofs.Looks.{known_sort}
 use Rattle.aioc_tokens.proofs.view.Lexed.sort.Goals as goal
-
-pub bytes_of-requires : goal.bytes_of-requires
-bytes_of-requires c =
-    let token = c.in-Some.token.now in
-    let found = c.in-Some.ensures.lookup.3 in
-    token_read c.self.inside.bytes.now c.self.inside.tokens.now c.self.invariant c.args.at token found.0 (found.1 token)
 
 pub returns-in-Some-clause-value : goal.returns-in-Some-clause-value
 returns-in-Some-clause-value c =
-    let token = c.in-Some.token.now in
     let found = c.in-Some.ensures.lookup.3 in
-    c.sort_of.ensures ∙ ap (λ bytes. sort_of (lexeme token.kind bytes ∷ [])) c.bytes_of.ensures.value
-    ∙ sym (sort_read c.self.inside.bytes.now c.self.inside.tokens.now c.self.invariant c.args.at token found.0 (found.1 token)) ∙ ap (λ all. sort_of (drop c.args.at all)) c.self.view_is
+    found.1 sorts.End
+    ∙ known_sort c.self.inside.known.now (lexemes c.self.inside.bytes.now c.self.inside.tokens.now) c.args.at c.self.invariant.1 found.0
+    ∙ ap (λ all. sort_of (drop c.args.at all)) c.self.view_is
