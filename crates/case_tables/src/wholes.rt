@@ -71,25 +71,26 @@ pub fn front_choreo(alloc: Global, text: &[u8], version: u32) -> Result<Front<Ch
 
 /// The expression of steps that a case's whole text is.
 pub fn whole_expr(alloc: Global, case: &Case) -> Result<Expr, Problem> {
-    match front_expr(alloc, &case.text, ExprKind::Step)? {
-        Front::Found {
-            value,
-            is_whole: true,
-            ..
-        } => Ok(value),
-        _ => Err(Problem::Bad("the text is no expression")),
-    }
+    let front = front_expr(alloc, &case.text, ExprKind::Step)?;
+    whole_of(front, "the text is no expression")
 }
 
 /// The choreography that a case's whole text is.
 pub fn whole_choreo(alloc: Global, case: &Case) -> Result<Choreo, Problem> {
-    match front_choreo(alloc, &case.text, LAST_VERSION)? {
+    let front = front_choreo(alloc, &case.text, LAST_VERSION)?;
+    whole_of(front, "the text is no choreography")
+}
+
+// What stands at the front, where that is the whole text. (For any type: what isn't answered is
+// dropped by one call then, and not part by part.)
+fn whole_of<T: Drop>(front: Front<T>, otherwise: &'static str) -> Result<T, Problem> {
+    match front {
         Front::Found {
             value,
             is_whole: true,
             ..
         } => Ok(value),
-        _ => Err(Problem::Bad("the text is no choreography")),
+        _ => Err(Problem::Bad(otherwise)),
     }
 }
 
