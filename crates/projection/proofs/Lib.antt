@@ -1,3 +1,4 @@
-pub mod Kept
+pub mod Flags
 pub mod Leading
 pub mod Lemmas
+pub mod Places

@@ -1,3 +1,4 @@
 pub mod Laws
 pub mod Leaders
+pub mod Named
 pub mod Projection

@@ -1,12 +1,20 @@
-use Rattle.std.proofs.Common.{◌<◌, Bool, ◌&&◌, not, length, arith}
+use Rattle.std.proofs.Common.{◌<◌, ◌++◌, ◌∙◌, ◌∷◌, [], Bool, ap, arith, cond, filter, length, not}
 use Rattle.dioc_terms.specs.declared.names.Role.{Role}
 use Rattle.dioc_terms.specs.Equality.{role_eq}
-use Rattle.dioc_terms.specs.Terms.{term, is_in}
-use Rattle.projection.proofs.Kept.{kept_next}
+use Rattle.projection.proofs.Places.{flagged_all, passed_next}
 use Rattle.projection.proofs.named.others.Goals as goal
 
-pub loop-role-preserved : goal.loop-role-preserved
-loop-role-preserved c =
-    let within : c.loop-role.role-index < length c.args.cast.now = omega arith in
-    let is_other : Role → Bool = λ q. is_in q (term c.args.whole.now) && not (role_eq q c.args.leader.now) in
-    kept_next is_other c.args.cast.now c.loop-role.role-index c.role-item.result _ _ _ within c.role-item.is c.loop-role.invariant c.is_other.ensures c.in_ok-keep.ensures
+pub loop-place-preserved : goal.loop-place-preserved
+loop-place-preserved c =
+    let within : c.loop-place.place < length c.args.cast.now = omega (arith, c.loop-place-test.true, c.min-places.ensures) in
+    let inside : c.loop-place.place < length c.args.named.now = omega (arith, c.loop-place-test.true, c.min-places.ensures) in
+    let follows : Role → Bool = λ q. not (role_eq q c.args.leader.now) in
+    passed_next follows c.args.cast.now c.args.named.now c.loop-place.place c.index-cast-place.result c.loop-place.roles.items _ within inside c.index-cast-place.is c.loop-place.invariant
+    (c.in_ok-keep.ensures ∙ ap (λ b. c.loop-place.roles.items ++ cond b (c.index-cast-place.result ∷ []) []) c.is_other.ensures)
+
+pub returns : goal.returns
+returns c =
+    let follows : Role → Bool = λ q. not (role_eq q c.args.leader.now) in
+    c.new.ensures
+    ∙ (c.loop-place.invariant
+    ∙ ap (filter follows) (flagged_all c.args.cast.now c.args.named.now c.loop-place.place (λ i within inside. omega (arith, within, inside, c.loop-place-test.false, c.min-places.ensures))))

@@ -1,9 +1,15 @@
-use Rattle.std.proofs.Common.{◌<◌, length, arith}
-use Rattle.dioc_terms.specs.Terms.{term, is_in}
-use Rattle.projection.proofs.Kept.{kept_next}
+use Rattle.std.proofs.Common.{◌<◌, ◌∙◌, length, arith}
+use Rattle.projection.proofs.Places.{flagged_all, flagged_next}
 use Rattle.projection.proofs.named.roles_in.Goals as goal
 
-pub loop-role-preserved : goal.loop-role-preserved
-loop-role-preserved c =
-    let within : c.loop-role.role-index < length c.args.cast.now = omega arith in
-    kept_next (λ q. is_in q (term c.args.whole.now)) c.args.cast.now c.loop-role.role-index c.role-item.result _ _ _ within c.role-item.is c.loop-role.invariant c.names.ensures c.in_ok-keep.ensures
+pub loop-place-preserved : goal.loop-place-preserved
+loop-place-preserved c =
+    let within : c.loop-place.place < length c.args.cast.now = omega (arith, c.loop-place-test.true, c.min-places.ensures) in
+    let inside : c.loop-place.place < length c.args.named.now = omega (arith, c.loop-place-test.true, c.min-places.ensures) in
+    flagged_next c.args.cast.now c.args.named.now c.loop-place.place c.index-cast-place.result _ _ within inside c.index-cast-place.is c.loop-place.invariant c.in_ok-keep.ensures
+
+pub returns : goal.returns
+returns c =
+    c.new.ensures
+    ∙ (c.loop-place.invariant
+    ∙ flagged_all c.args.cast.now c.args.named.now c.loop-place.place (λ i within inside. omega (arith, within, inside, c.loop-place-test.false, c.min-places.ensures)))

@@ -1,7 +1,7 @@
--- The roles so far are those that the construct names of the roles that were looked at.
-use Rattle.std.proofs.Common.{◌≡◌, filter, take}
-use Rattle.dioc_terms.specs.Terms.{term, is_in}
+-- The roles so far are those with raised flags of the roles that were looked at.
+use Rattle.std.proofs.Common.{◌≡◌, take}
+use Rattle.projection.specs.Named.{flagged}
 use Rattle.projection.proofs.named.roles_in.Given as goal
 
-abbrev pub invariant-loop-role : goal.invariant-loop-role
-invariant-loop-role l = l.roles.items ≡ filter (λ q. is_in q (term l.whole)) (take l.role-index l.cast)
+abbrev pub invariant-loop-place : goal.invariant-loop-place
+invariant-loop-place l = l.roles.items ≡ flagged (take l.place l.cast) l.named
