@@ -29,7 +29,7 @@ pub returns-in-Ok-bundle_at-clause-formed : goal.returns-in-Ok-bundle_at-clause-
 returns-in-Ok-bundle_at-clause-formed c =
     read_formed c.args.bytes.now (lexemes c.args.bytes.now c.in-Ok.tokens.items) (plain c.in-Ok-bundle_at.bundle)
     (record { tokens = c.in-Ok.tokens.items; lexes = c.in-Ok.ensures.found; lexemes_are = refl })
-    (subst (λ l. IsBundle l (plain c.in-Ok-bundle_at.bundle) []) (c.with_sorts.ensures ∙ ap (lexemes c.args.bytes.now) c.deref.ensures.value) c.in-Ok-bundle_at.ensures.found)
+    (subst (λ l. IsBundle l (plain c.in-Ok-bundle_at.bundle) []) (c.with_sorts.ensures ∙ ap (lexemes c.args.bytes.now) c.deref-2.ensures.value) c.in-Ok-bundle_at.ensures.found)
 
 -- the reader stopped at a place
 stopped : (s : Stop) (at : ℕ) (text : List Lexeme) → (s ≢ stop.Memory → EndsAt text (place_in s)) → s ≡ stop.At at → EndsAt text at
@@ -42,7 +42,7 @@ ends bytes tokens s at text small lexes are told is = at_token small lexes (subs
 pub returns-in-Err-At-clause-syntax : goal.returns-in-Err-At-clause-syntax
 returns-in-Err-At-clause-syntax c = λ other.
     byte_none c.args.bytes.now (place_of c.args.bytes.now c.in-Ok.tokens.items (named_place goals.Bundle (lexemes c.args.bytes.now c.in-Ok.tokens.items) c.in-Err-At.at))
-    (ends c.args.bytes.now c.in-Ok.tokens.items c.in-Err-At.field-0 c.in-Err-At.at c.with_sorts.result (omega arith) c.in-Ok.ensures.found (c.with_sorts.ensures ∙ ap (lexemes c.args.bytes.now) c.deref.ensures.value) c.in-Err-At.ensures.stopped c.in-Err-At.field-0-is)
+    (ends c.args.bytes.now c.in-Ok.tokens.items c.in-Err-At.field-0 c.in-Err-At.at c.with_sorts.result (omega arith) c.in-Ok.ensures.found (c.with_sorts.ensures ∙ ap (lexemes c.args.bytes.now) c.deref-2.ensures.value) c.in-Err-At.ensures.stopped c.in-Err-At.field-0-is)
 
 -- the byte that a fault names
 syntax_of : {A : Type 0} {told wanted : SyntaxFault} → ◌≡◌ {A = Result A SyntaxFault} (Err told) (Err wanted) → told ≡ wanted
@@ -56,4 +56,4 @@ returns-in-Err-At-clause-byte c = λ byte is.
     let text = c.args.bytes.now in
     let same = named_byte c.fault.result byte _ c.fault.ensures (syntax_of is) in
     subst (EndsAtByte text) (ap (λ tokens. place_of text tokens (named_place goals.Bundle (lexemes text tokens) c.in-Err-At.at)) (sym c.deref-in-Err-At.ensures.value) ∙ same)
-    (ends text c.in-Ok.tokens.items c.in-Err-At.field-0 c.in-Err-At.at c.with_sorts.result (omega arith) c.in-Ok.ensures.found (c.with_sorts.ensures ∙ ap (lexemes text) c.deref.ensures.value) c.in-Err-At.ensures.stopped c.in-Err-At.field-0-is)
+    (ends text c.in-Ok.tokens.items c.in-Err-At.field-0 c.in-Err-At.at c.with_sorts.result (omega arith) c.in-Ok.ensures.found (c.with_sorts.ensures ∙ ap (lexemes text) c.deref-2.ensures.value) c.in-Err-At.ensures.stopped c.in-Err-At.field-0-is)
