@@ -23,12 +23,22 @@ use std::alloc::Global;
 /// The lines that answer a case.
 pub fn answer(alloc: Global, case: &Case) -> Result<Vec<u8>, Problem> {
     let mut out = Vec::new(alloc);
-    let is_answered = answer_piece(alloc, case, &mut out)?
-        || answer_choreography(alloc, case, &mut out)?
-        || answer_message(alloc, case, &mut out)?
-        || answer_whole(alloc, case, &mut out)?;
+    match write_answer(alloc, case, &mut out) {
+        Ok(()) => Ok(out),
+        Err(problem) => {
+            drop(out);
+            Err(problem)
+        }
+    }
+}
+
+fn write_answer(alloc: Global, case: &Case, out: &mut Vec<u8>) -> Result<(), Problem> {
+    let is_answered = answer_piece(alloc, case, out)?
+        || answer_choreography(alloc, case, out)?
+        || answer_message(alloc, case, out)?
+        || answer_whole(alloc, case, out)?;
     if is_answered {
-        Ok(out)
+        Ok(())
     } else {
         Err(Problem::Bad("there is no such call"))
     }

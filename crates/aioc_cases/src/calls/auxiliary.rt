@@ -2,7 +2,7 @@
 
 use aux_messages::leader_plan;
 use case_tables::{Case, Problem};
-use dioc_terms::{Entry, Index, Key, Name, Note, Role, Tag};
+use dioc_terms::{Entry, Index, Key, Memory, Name, Note, Role, Tag};
 use std::alloc::Global;
 use text_pieces::write_bytes;
 use trace_text::write_line;
@@ -12,22 +12,42 @@ const INDEX: Index = Index { epoch: 1, place: 6 };
 /// Appends the lines of the messages.
 pub fn answer_plan(alloc: Global, case: &Case, out: &mut Vec<u8>) -> Result<(), Problem> {
     let roles = roles_of(alloc, case)?;
-    let [leader, others @ ..] = roles.as_slice() else {
+    let written = write_plan(alloc, &case.text, roles.as_slice(), out);
+    drop(roles);
+    written
+}
+
+// Appends the lines by which the first of the roles tells the others.
+fn write_plan(
+    alloc: Global,
+    text: &[u8],
+    roles: &[Role],
+    out: &mut Vec<u8>,
+) -> Result<(), Problem> {
+    let [leader, others @ ..] = roles else {
         return Err(Problem::Bad("the first option is the leader"));
     };
-    let tag = tag_of(alloc, &case.text)?;
-    for key in leader_plan(alloc, tag, INDEX, leader, others)? {
-        write_line(&put(key), out)?;
-        write_bytes(b"\n", out)?;
+    let tag = tag_of(alloc, text)?;
+    let keys = leader_plan(alloc, tag, INDEX, leader, others)?;
+    Ok(write_puts(keys, out)?)
+}
+
+fn write_puts(keys: Vec<Key>, out: &mut Vec<u8>) -> Result<(), Memory> {
+    for key in keys {
+        write_put(key, out)?;
     }
     Ok(())
 }
 
-fn put(key: Key) -> Entry {
-    Entry::Put {
+fn write_put(key: Key, out: &mut Vec<u8>) -> Result<(), Memory> {
+    let entry = Entry::Put {
         key,
         note: Note::Done,
-    }
+    };
+    let written = write_line(&entry, out);
+    drop(entry);
+    written?;
+    write_bytes(b"\n", out)
 }
 
 fn tag_of(alloc: Global, text: &[u8]) -> Result<Tag, Problem> {

@@ -2,44 +2,54 @@
 //! bundle, how that bundle is written, and how many sessions a text spells.
 
 use bundle_text::{read_bundle, read_sessions, write_bundle};
-use case_tables::{Case, Problem};
-use dioc_terms::SyntaxFault;
+use case_tables::{Case, Problem, write_place};
+use dioc_terms::{Bundle, SyntaxFault};
 use std::alloc::Global;
 use text_pieces::{write_bytes, write_number};
 
-/// Appends `a bundle`, or `none`.
+/// Appends `a bundle`, or `none` with the byte that the fault names.
 pub fn answer_read(alloc: Global, case: &Case, out: &mut Vec<u8>) -> Result<(), Problem> {
-    let said = match read_bundle(alloc, &case.text) {
-        Ok(_) => "a bundle",
-        Err(SyntaxFault::Syntax(_)) => "none",
-        Err(SyntaxFault::Memory) => return Err(Problem::Memory),
-    };
-    write_bytes(said.as_bytes(), out)?;
-    Ok(())
+    match read_bundle(alloc, &case.text).err() {
+        None => Ok(write_bytes(b"a bundle", out)?),
+        Some(SyntaxFault::Syntax(byte)) => Ok(write_place("none at byte", byte, out)?),
+        Some(SyntaxFault::Memory) => Err(Problem::Memory),
+    }
 }
 
 /// Appends the lines of the bundle as it is written, or `none`.
 pub fn answer_written(alloc: Global, case: &Case, out: &mut Vec<u8>) -> Result<(), Problem> {
-    let written = match read_bundle(alloc, &case.text) {
-        Ok(bundle) => write_bundle(&bundle, out),
-        Err(SyntaxFault::Syntax(_)) => write_bytes(b"none", out),
-        Err(SyntaxFault::Memory) => return Err(Problem::Memory),
-    };
-    Ok(written?)
+    let read = read_bundle(alloc, &case.text);
+    let written = write_read(&read, out);
+    drop(read);
+    written
 }
 
-/// Appends how many sessions the text spells, or the byte at which the reading ended.
+fn write_read(read: &Result<Bundle, SyntaxFault>, out: &mut Vec<u8>) -> Result<(), Problem> {
+    match read {
+        Ok(bundle) => Ok(write_bundle(bundle, out)?),
+        Err(SyntaxFault::Syntax(_)) => Ok(write_bytes(b"none", out)?),
+        Err(SyntaxFault::Memory) => Err(Problem::Memory),
+    }
+}
+
+/// Appends how many sessions the text spells, or the byte that the fault names.
 pub fn answer_sessions(alloc: Global, case: &Case, out: &mut Vec<u8>) -> Result<(), Problem> {
-    match read_sessions(alloc, &case.text) {
+    let read = read_sessions(alloc, &case.text);
+    let written = write_sessions(&read, out);
+    drop(read);
+    written
+}
+
+fn write_sessions(
+    read: &Result<Vec<Bundle>, SyntaxFault>,
+    out: &mut Vec<u8>,
+) -> Result<(), Problem> {
+    match read {
         Ok(sessions) => {
             write_number(sessions.len() as u64, out)?;
-            write_bytes(b" sessions", out)?;
+            Ok(write_bytes(b" sessions", out)?)
         }
-        Err(SyntaxFault::Syntax(byte)) => {
-            write_bytes(b"none at byte ", out)?;
-            write_number(byte as u64, out)?;
-        }
-        Err(SyntaxFault::Memory) => return Err(Problem::Memory),
+        Err(SyntaxFault::Syntax(byte)) => Ok(write_place("none at byte", *byte, out)?),
+        Err(SyntaxFault::Memory) => Err(Problem::Memory),
     }
-    Ok(())
 }

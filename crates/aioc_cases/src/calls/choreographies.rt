@@ -2,19 +2,26 @@
 
 use case_tables::{Case, Front, Problem, front_choreo, write_count, write_place};
 use dioc_syntax::write_choreo;
+use dioc_terms::{Choreo, Memory};
 use std::alloc::Global;
 
 /// Appends `reads N: ` with the choreography as it is written; `none at byte N`; or `bad byte N`.
 pub fn answer(alloc: Global, case: &Case, out: &mut Vec<u8>) -> Result<(), Problem> {
-    match front_choreo(alloc, &case.text, version_of(case)?)? {
+    let front = front_choreo(alloc, &case.text, version_of(case)?)?;
+    let written = write_front(&front, out);
+    drop(front);
+    Ok(written?)
+}
+
+fn write_front(front: &Front<Choreo>, out: &mut Vec<u8>) -> Result<(), Memory> {
+    match front {
         Front::Found { value, count, .. } => {
-            write_count(count, out)?;
-            write_choreo(&value, out)?;
+            write_count(*count, out)?;
+            write_choreo(value, out)
         }
-        Front::Nothing(byte) => write_place("none at byte", byte, out)?,
-        Front::BadByte(byte) => write_place("bad byte", byte, out)?,
+        Front::Nothing(byte) => write_place("none at byte", *byte, out),
+        Front::BadByte(byte) => write_place("bad byte", *byte, out),
     }
-    Ok(())
 }
 
 /// The version that the only option names.

@@ -2,20 +2,27 @@
 //! text.
 
 use case_tables::{Case, Front, Problem, front_expr, write_count, write_place};
+use dioc_terms::{Expr, Memory};
 use expr_syntax::{ExprKind, write_expr};
 use std::alloc::Global;
 
 /// Appends `reads N: ` with the expression as it is written; `none at byte N`; or `bad byte N`.
 pub fn answer(alloc: Global, case: &Case, out: &mut Vec<u8>) -> Result<(), Problem> {
-    match front_expr(alloc, &case.text, kind_of(case)?)? {
+    let front = front_expr(alloc, &case.text, kind_of(case)?)?;
+    let written = write_front(&front, out);
+    drop(front);
+    Ok(written?)
+}
+
+fn write_front(front: &Front<Expr>, out: &mut Vec<u8>) -> Result<(), Memory> {
+    match front {
         Front::Found { value, count, .. } => {
-            write_count(count, out)?;
-            write_expr(&value, out)?;
+            write_count(*count, out)?;
+            write_expr(value, out)
         }
-        Front::Nothing(byte) => write_place("none at byte", byte, out)?,
-        Front::BadByte(byte) => write_place("bad byte", byte, out)?,
+        Front::Nothing(byte) => write_place("none at byte", *byte, out),
+        Front::BadByte(byte) => write_place("bad byte", *byte, out),
     }
-    Ok(())
 }
 
 fn kind_of(case: &Case) -> Result<ExprKind, Problem> {

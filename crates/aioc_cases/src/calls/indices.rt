@@ -10,7 +10,9 @@ use trace_text::write_index;
 /// Appends whether no index stands twice, and the indices in the order of the text.
 pub fn answer(alloc: Global, case: &Case, out: &mut Vec<u8>) -> Result<(), Problem> {
     let choreo = whole_choreo(alloc, case)?;
-    Ok(write_marks(alloc, &choreo, out)?)
+    let written = write_marks(alloc, &choreo, out);
+    drop(choreo);
+    Ok(written?)
 }
 
 fn write_marks(alloc: Global, choreo: &Choreo, out: &mut Vec<u8>) -> Result<(), Memory> {

@@ -1,27 +1,43 @@
 //! `lexemes: TEXT`: what the grammar sees of a text, a line for each lexeme and one for the end.
 
-use aioc_tokens::{Lexed, Sort, TokenFault, place, tokens};
+ghost use Rattle.aioc_tokens.specs.Lexing.{Lexes};
+
+use aioc_tokens::{Lexed, Sort, Token, TokenFault, place, tokens};
 use case_tables::{Case, Problem, write_place};
+use dioc_terms::Memory;
 use std::alloc::Global;
 use text_pieces::write_bytes;
 
 /// Appends `at N SORT VALUE` for each lexeme that begins at byte N, and `at N end`; or `bad byte
 /// N`.
 pub fn answer(alloc: Global, case: &Case, out: &mut Vec<u8>) -> Result<(), Problem> {
-    let found = match tokens(alloc, &case.text) {
-        Ok(found) => found,
-        Err(TokenFault::BadByte(byte)) => return Ok(write_place("bad byte", byte, out)?),
-        Err(TokenFault::Memory) => return Err(Problem::Memory),
-    };
-    let lexed = Lexed::new(&case.text, &found);
-    for at in 0..lexed.len() {
-        write_place("at", place(&case.text, &found, at), out)?;
+    match tokens(alloc, &case.text) {
+        Ok(found) => {
+            let written = write_lexemes(alloc, &case.text, &found, out);
+            drop(found);
+            written
+        }
+        Err(TokenFault::BadByte(byte)) => Ok(write_place("bad byte", byte, out)?),
+        Err(TokenFault::Memory) => Err(Problem::Memory),
+    }
+}
+
+fn write_lexemes(
+    alloc: Global,
+    text: &[u8],
+    found: &[Token],
+    out: &mut Vec<u8>,
+) -> Result<(), Problem>
+    requires { Lexes 0 text.now found.now }
+{
+    let lexed = Lexed::new(text, found);
+    for at in 0..found.len() {
+        write_place("at", place(text, found, at), out)?;
         write_lexeme(alloc, &lexed, at, out)?;
         write_bytes(b"\n", out)?;
     }
-    write_place("at", place(&case.text, &found, lexed.len()), out)?;
-    write_bytes(b" end", out)?;
-    Ok(())
+    write_place("at", place(text, found, found.len()), out)?;
+    Ok(write_bytes(b" end", out)?)
 }
 
 // The sort and the value of a lexeme.
@@ -32,20 +48,24 @@ fn write_lexeme(
     out: &mut Vec<u8>,
 ) -> Result<(), Problem> {
     match lexed.sort(at) {
-        Sort::Name => write_valued("name", lexed.name(at), out),
-        Sort::Number => write_valued("number", lexed.digits(at), out),
-        Sort::Text => write_valued("text", &lexed.text(alloc, at)?, out),
-        Sort::Reserved(word) => write_valued("word", word.spelling(), out),
-        Sort::Symbol(symbol) => write_valued("symbol", symbol.spelling(), out),
+        Sort::Name => Ok(write_valued("name", lexed.name(at), out)?),
+        Sort::Number => Ok(write_valued("number", lexed.digits(at), out)?),
+        Sort::Text => {
+            let value = lexed.text(alloc, at)?;
+            let written = write_valued("text", &value, out);
+            drop(value);
+            Ok(written?)
+        }
+        Sort::Reserved(word) => Ok(write_valued("word", word.spelling(), out)?),
+        Sort::Symbol(symbol) => Ok(write_valued("symbol", symbol.spelling(), out)?),
         Sort::Long => Ok(write_bytes(b" too long", out)?),
         Sort::End => Ok(()),
     }
 }
 
-fn write_valued(sort: &str, value: &[u8], out: &mut Vec<u8>) -> Result<(), Problem> {
+fn write_valued(sort: &str, value: &[u8], out: &mut Vec<u8>) -> Result<(), Memory> {
     write_bytes(b" ", out)?;
     write_bytes(sort.as_bytes(), out)?;
     write_bytes(b" ", out)?;
-    write_bytes(value, out)?;
-    Ok(())
+    write_bytes(value, out)
 }

@@ -11,18 +11,24 @@ use trace_text::write_index;
 /// isn't linked by role R.
 pub fn answer(alloc: Global, case: &Case, out: &mut Vec<u8>) -> Result<(), Problem> {
     let choreo = whole_choreo(alloc, case)?;
-    let checked = check_links(alloc, &choreo)?;
-    write_checked(checked, out)
+    let found = check_links(alloc, &choreo);
+    drop(choreo);
+    let checked = found?;
+    let written = write_checked(&checked, out);
+    drop(checked);
+    written
 }
 
 // What the check says of a choreography with its own cast.
 fn check_links(alloc: Global, choreo: &Choreo) -> Result<Result<(), CheckFault>, Memory> {
     casts_are_roles();
     let cast = roles(alloc, choreo)?;
-    Ok(check(alloc, choreo, cast.as_slice()))
+    let checked = check(alloc, choreo, cast.as_slice());
+    drop(cast);
+    Ok(checked)
 }
 
-fn write_checked(checked: Result<(), CheckFault>, out: &mut Vec<u8>) -> Result<(), Problem> {
+fn write_checked(checked: &Result<(), CheckFault>, out: &mut Vec<u8>) -> Result<(), Problem> {
     match checked {
         Ok(()) => Ok(write_bytes(b"connected", out)?),
         Err(
@@ -31,7 +37,7 @@ fn write_checked(checked: Result<(), CheckFault>, out: &mut Vec<u8>) -> Result<(
                 second,
                 role,
             },
-        ) => Ok(write_gap(first, second, &role, out)?),
+        ) => Ok(write_gap(*first, *second, role, out)?),
         Err(CheckFault::Memory) => Err(Problem::Memory),
     }
 }

@@ -9,15 +9,32 @@ use text_pieces::write_bytes;
 
 /// Appends `accepted`, the text of the first refusal, or `no bundle`.
 pub fn answer(alloc: Global, case: &Case, out: &mut Vec<u8>) -> Result<(), Problem> {
-    let accepted = match read_bundle(alloc, &case.text) {
-        Ok(bundle) => accept(alloc, &bundle),
-        Err(SyntaxFault::Syntax(_)) => return Ok(write_bytes(b"no bundle", out)?),
-        Err(SyntaxFault::Memory) => return Err(Problem::Memory),
-    };
-    match accepted {
-        Ok(()) => write_bytes(b"accepted", out)?,
-        Err(Refusal::Memory) => return Err(Problem::Memory),
-        Err(refusal) => write_bytes(refusal.to_string(alloc)?.as_bytes(), out)?,
+    match read_bundle(alloc, &case.text) {
+        Ok(bundle) => {
+            let accepted = accept(alloc, &bundle);
+            drop(bundle);
+            let written = write_accepted(alloc, &accepted, out);
+            drop(accepted);
+            written
+        }
+        Err(SyntaxFault::Syntax(_)) => Ok(write_bytes(b"no bundle", out)?),
+        Err(SyntaxFault::Memory) => Err(Problem::Memory),
     }
-    Ok(())
+}
+
+fn write_accepted(
+    alloc: Global,
+    accepted: &Result<(), Refusal>,
+    out: &mut Vec<u8>,
+) -> Result<(), Problem> {
+    match accepted {
+        Ok(()) => Ok(write_bytes(b"accepted", out)?),
+        Err(Refusal::Memory) => Err(Problem::Memory),
+        Err(refusal) => {
+            let told = refusal.to_string(alloc)?;
+            let written = write_bytes(told.as_bytes(), out);
+            drop(told);
+            Ok(written?)
+        }
+    }
 }

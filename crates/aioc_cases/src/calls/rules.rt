@@ -1,61 +1,120 @@
 //! `read_rule VERSION: TEXT` and `read_change VERSION: TEXT`: the longest rule and the longest
 //! change at the front of a text.
 
+ghost use Rattle.aioc_tokens.specs.Lexing.{Lexes};
+
 use crate::calls::choreographies::version_of;
-use aioc_tokens::{TokenFault, tokens};
-use case_tables::{Case, MOST_TOKENS, Problem, write_count, write_place};
+use aioc_tokens::{Token, TokenFault, tokens};
+use case_tables::{Case, Front, MOST_TOKENS, Problem, write_count, write_place};
 use dioc_terms::{Memory, Rule, SyntaxFault};
-use rule_syntax::{read_change, read_rule, write_rule};
+use rule_syntax::{ReadChange, read_change, read_rule, write_rule};
 use std::alloc::Global;
 use text_pieces::write_bytes;
 
 /// Appends `reads N: ` with the rule as it is written; `none at byte N`; or `bad byte N`.
 pub fn answer_rule(alloc: Global, case: &Case, out: &mut Vec<u8>) -> Result<(), Problem> {
-    let version = version_of(case)?;
-    let found = match tokens(alloc, &case.text) {
-        Ok(found) => found,
-        Err(TokenFault::BadByte(byte)) => return Ok(write_place("bad byte", byte, out)?),
-        Err(TokenFault::Memory) => return Err(Problem::Memory),
-    };
-    if found.len() > MOST_TOKENS {
-        return Err(Problem::Bad("the text has too many tokens"));
-    }
-    match read_rule(alloc, &case.text, &found, 0, version) {
-        Ok((rule, count)) => Ok(write_found(&rule, count, out)?),
-        Err(fault) => write_fault(fault, out),
+    let front = front_rule(alloc, &case.text, version_of(case)?)?;
+    let written = write_rule_front(&front, out);
+    drop(front);
+    Ok(written?)
+}
+
+fn front_rule(alloc: Global, text: &[u8], version: u32) -> Result<Front<Rule>, Problem> {
+    match tokens(alloc, text) {
+        Ok(found) => {
+            let front = rule_of(alloc, text, &found, version);
+            drop(found);
+            front
+        }
+        Err(TokenFault::BadByte(byte)) => Ok(Front::BadByte(byte)),
+        Err(TokenFault::Memory) => Err(Problem::Memory),
     }
 }
 
-fn write_found(rule: &Rule, count: usize, out: &mut Vec<u8>) -> Result<(), Memory> {
-    write_count(count, out)?;
-    write_rule(rule, out)
+// The rule at the front of a text with these tokens.
+fn rule_of(
+    alloc: Global,
+    text: &[u8],
+    found: &[Token],
+    version: u32,
+) -> Result<Front<Rule>, Problem>
+    requires { Lexes 0 text.now found.now }
+{
+    if found.len() > MOST_TOKENS {
+        return Err(Problem::Bad("the text has too many tokens"));
+    }
+    match read_rule(alloc, text, found, 0, version) {
+        Ok((value, count)) => Ok(Front::Found {
+            value,
+            count,
+            is_whole: count == found.len(),
+        }),
+        Err(SyntaxFault::Syntax(byte)) => Ok(Front::Nothing(byte)),
+        Err(SyntaxFault::Memory) => Err(Problem::Memory),
+    }
+}
+
+fn write_rule_front(front: &Front<Rule>, out: &mut Vec<u8>) -> Result<(), Memory> {
+    match front {
+        Front::Found { value, count, .. } => {
+            write_count(*count, out)?;
+            write_rule(value, out)
+        }
+        Front::Nothing(byte) => write_place("none at byte", *byte, out),
+        Front::BadByte(byte) => write_place("bad byte", *byte, out),
+    }
 }
 
 /// Appends `reads N: ` and `a change`; `none at byte N`; or `bad byte N`.
 pub fn answer_change(alloc: Global, case: &Case, out: &mut Vec<u8>) -> Result<(), Problem> {
-    let version = version_of(case)?;
-    let found = match tokens(alloc, &case.text) {
-        Ok(found) => found,
-        Err(TokenFault::BadByte(byte)) => return Ok(write_place("bad byte", byte, out)?),
-        Err(TokenFault::Memory) => return Err(Problem::Memory),
-    };
+    let front = front_change(alloc, &case.text, version_of(case)?)?;
+    let written = write_change_front(&front, out);
+    drop(front);
+    Ok(written?)
+}
+
+fn front_change(alloc: Global, text: &[u8], version: u32) -> Result<Front<ReadChange>, Problem> {
+    match tokens(alloc, text) {
+        Ok(found) => {
+            let front = change_of(alloc, text, &found, version);
+            drop(found);
+            front
+        }
+        Err(TokenFault::BadByte(byte)) => Ok(Front::BadByte(byte)),
+        Err(TokenFault::Memory) => Err(Problem::Memory),
+    }
+}
+
+// The change at the front of a text with these tokens.
+fn change_of(
+    alloc: Global,
+    text: &[u8],
+    found: &[Token],
+    version: u32,
+) -> Result<Front<ReadChange>, Problem>
+    requires { Lexes 0 text.now found.now }
+{
     if found.len() > MOST_TOKENS {
         return Err(Problem::Bad("the text has too many tokens"));
     }
-    match read_change(alloc, &case.text, &found, 0, version) {
-        Ok((_, count)) => Ok(write_change(count, out)?),
-        Err(fault) => write_fault(fault, out),
+    match read_change(alloc, text, found, 0, version) {
+        Ok((value, count)) => Ok(Front::Found {
+            value,
+            count,
+            is_whole: count == found.len(),
+        }),
+        Err(SyntaxFault::Syntax(byte)) => Ok(Front::Nothing(byte)),
+        Err(SyntaxFault::Memory) => Err(Problem::Memory),
     }
 }
 
-fn write_change(count: usize, out: &mut Vec<u8>) -> Result<(), Memory> {
-    write_count(count, out)?;
-    write_bytes(b"a change", out)
-}
-
-fn write_fault(fault: SyntaxFault, out: &mut Vec<u8>) -> Result<(), Problem> {
-    match fault {
-        SyntaxFault::Syntax(byte) => Ok(write_place("none at byte", byte, out)?),
-        SyntaxFault::Memory => Err(Problem::Memory),
+fn write_change_front(front: &Front<ReadChange>, out: &mut Vec<u8>) -> Result<(), Memory> {
+    match front {
+        Front::Found { count, .. } => {
+            write_count(*count, out)?;
+            write_bytes(b"a change", out)
+        }
+        Front::Nothing(byte) => write_place("none at byte", *byte, out),
+        Front::BadByte(byte) => write_place("bad byte", *byte, out),
     }
 }

@@ -8,13 +8,15 @@ use text_pieces::write_number;
 /// Appends the number of nodes.
 pub fn answer_nodes(alloc: Global, case: &Case, out: &mut Vec<u8>) -> Result<(), Problem> {
     let choreo = whole_choreo(alloc, case)?;
-    write_number(nodes(&choreo) as u64, out)?;
-    Ok(())
+    let found = nodes(&choreo) as u64;
+    drop(choreo);
+    Ok(write_number(found, out)?)
 }
 
 /// Appends the depth.
 pub fn answer_depth(alloc: Global, case: &Case, out: &mut Vec<u8>) -> Result<(), Problem> {
     let choreo = whole_choreo(alloc, case)?;
-    write_number(depth(&choreo) as u64, out)?;
-    Ok(())
+    let found = depth(&choreo) as u64;
+    drop(choreo);
+    Ok(write_number(found, out)?)
 }

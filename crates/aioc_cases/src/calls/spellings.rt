@@ -8,21 +8,27 @@ use text_pieces::write_bytes;
 /// Appends `a name` or `none`.
 pub fn answer_name(alloc: Global, case: &Case, out: &mut Vec<u8>) -> Result<(), Problem> {
     match Name::read(alloc, &case.text) {
-        Ok(name) => write_read(b"a name", name.bytes() == case.text.as_slice(), out)?,
-        Err(NameFault::NotAName) => write_bytes(b"none", out)?,
-        Err(NameFault::Memory) => return Err(Problem::Memory),
+        Ok(name) => {
+            let is_same = name.bytes() == case.text.as_slice();
+            drop(name);
+            Ok(write_read(b"a name", is_same, out)?)
+        }
+        Err(NameFault::NotAName) => Ok(write_bytes(b"none", out)?),
+        Err(NameFault::Memory) => Err(Problem::Memory),
     }
-    Ok(())
 }
 
 /// Appends `a text` or `none`.
 pub fn answer_text(alloc: Global, case: &Case, out: &mut Vec<u8>) -> Result<(), Problem> {
     match Text::read(alloc, &case.text) {
-        Ok(text) => write_read(b"a text", text.bytes() == case.text.as_slice(), out)?,
-        Err(TextFault::NotText) => write_bytes(b"none", out)?,
-        Err(TextFault::Memory) => return Err(Problem::Memory),
+        Ok(text) => {
+            let is_same = text.bytes() == case.text.as_slice();
+            drop(text);
+            Ok(write_read(b"a text", is_same, out)?)
+        }
+        Err(TextFault::NotText) => Ok(write_bytes(b"none", out)?),
+        Err(TextFault::Memory) => Err(Problem::Memory),
     }
-    Ok(())
 }
 
 // What was read, and whether it has the bytes that it was read from.

@@ -8,11 +8,18 @@ use text_pieces::{write_bytes, write_number};
 
 /// Appends `KIND START-END` for each token, with `, ` between two; `none`; or `bad byte N`.
 pub fn answer(alloc: Global, case: &Case, out: &mut Vec<u8>) -> Result<(), Problem> {
-    let found = match tokens(alloc, &case.text) {
-        Ok(found) => found,
-        Err(TokenFault::BadByte(byte)) => return Ok(write_place("bad byte", byte, out)?),
-        Err(TokenFault::Memory) => return Err(Problem::Memory),
-    };
+    match tokens(alloc, &case.text) {
+        Ok(found) => {
+            let written = write_tokens(&found, out);
+            drop(found);
+            Ok(written?)
+        }
+        Err(TokenFault::BadByte(byte)) => Ok(write_place("bad byte", byte, out)?),
+        Err(TokenFault::Memory) => Err(Problem::Memory),
+    }
+}
+
+fn write_tokens(found: &[Token], out: &mut Vec<u8>) -> Result<(), Memory> {
     if found.is_empty() {
         write_bytes(b"none", out)?;
     }

@@ -20,32 +20,41 @@ enum Lines {
 }
 
 fn front_lines(alloc: Global, text: &[u8]) -> Result<Lines, Problem> {
-    let found = match tokens(alloc, text) {
-        Ok(found) => found,
-        Err(TokenFault::BadByte(byte)) => return Ok(Lines::BadByte(byte)),
-        Err(TokenFault::Memory) => return Err(Problem::Memory),
-    };
-    match read_trace(alloc, text, &found, 0) {
-        Ok((trace, close)) => Ok(Lines::Closed(trace, close)),
-        Err(TraceFault::BadLine(number)) => Ok(Lines::Bad(number)),
-        Err(TraceFault::Memory) => Err(Problem::Memory),
+    match tokens(alloc, text) {
+        Ok(found) => {
+            let read = read_trace(alloc, text, &found, 0);
+            drop(found);
+            match read {
+                Ok((trace, close)) => Ok(Lines::Closed(trace, close)),
+                Err(TraceFault::BadLine(number)) => Ok(Lines::Bad(number)),
+                Err(TraceFault::Memory) => Err(Problem::Memory),
+            }
+        }
+        Err(TokenFault::BadByte(byte)) => Ok(Lines::BadByte(byte)),
+        Err(TokenFault::Memory) => Err(Problem::Memory),
     }
 }
 
 /// Appends the lines as they are written, and `closed by token N`; `bad line N`; or `bad byte N`.
 pub fn answer_trace(alloc: Global, case: &Case, out: &mut Vec<u8>) -> Result<(), Problem> {
-    match front_lines(alloc, &case.text)? {
+    let lines = front_lines(alloc, &case.text)?;
+    let written = write_lines(&lines, out);
+    drop(lines);
+    Ok(written?)
+}
+
+fn write_lines(lines: &Lines, out: &mut Vec<u8>) -> Result<(), Memory> {
+    match lines {
         Lines::Closed(trace, close) => {
-            write_trace(&trace, false, out)?;
-            write_place("closed by token", close, out)?;
+            write_trace(trace, false, out)?;
+            write_place("closed by token", *close, out)
         }
         Lines::Bad(number) => {
             write_bytes(b"bad line ", out)?;
-            write_number(number, out)?;
+            write_number(*number, out)
         }
-        Lines::BadByte(byte) => write_place("bad byte", byte, out)?,
+        Lines::BadByte(byte) => write_place("bad byte", *byte, out),
     }
-    Ok(())
 }
 
 /// Appends the line as it is written, or as JSON; or `none`.
@@ -55,13 +64,23 @@ pub fn answer_line(
     json: bool,
     out: &mut Vec<u8>,
 ) -> Result<(), Problem> {
-    let mut text = case.text.clone()?;
+    let text = closed(&case.text)?;
+    let front = front_lines(alloc, &text);
+    drop(text);
+    let lines = front?;
+    let written = match &lines {
+        Lines::Closed(trace, _) => write_trace(trace, json, out),
+        _ => write_bytes(b"none", out),
+    };
+    drop(lines);
+    Ok(written?)
+}
+
+// The line with a `}` behind it, which closes the trace.
+fn closed(line: &Vec<u8>) -> Result<Vec<u8>, Memory> {
+    let mut text = line.clone()?;
     text.push(b'}')?;
-    match front_lines(alloc, &text)? {
-        Lines::Closed(trace, _) => write_trace(&trace, json, out)?,
-        _ => write_bytes(b"none", out)?,
-    }
-    Ok(())
+    Ok(text)
 }
 
 fn write_trace(trace: &Trace, json: bool, out: &mut Vec<u8>) -> Result<(), Memory> {
