@@ -2,3 +2,4 @@ pub mod FrameLemmas
 pub mod GrowthLemmas
 pub mod PlayLemmas
 pub mod StateLemmas
+pub mod Crossing

@@ -1,5 +1,5 @@
 -- What a role over flat code shows, and when it is ready for an act.
-use Rattle.std.specs.Prelude.{◌≡◌, ◌<◌, true, Some}
+use Rattle.std.specs.Prelude.{◌≡◌, ◌<◌, ℕ, true, Some, length}
 use Rattle.dioc_terms.specs.declared.entries.Act.{Act}
 use Rattle.dioc_terms.specs.KeptStores.{store_of, room}
 use Rattle.dioc_terms.specs.Processes.{Process}
@@ -15,6 +15,10 @@ use Rattle.flat_role.specs.ReadyParts.{IsReadyFor}
 -- the process that the frames stand for, over the code
 abbrev pub frames_of : FlatRole → Process
 frames_of flat = frame_process (processes flat.code.ops.items) flat.frame
+
+-- how many ops there are
+abbrev pub code_len : FlatRole → ℕ
+code_len flat = length flat.code.ops.items
 
 abbrev pub local_of : FlatRole → LocalState
 local_of flat = record {

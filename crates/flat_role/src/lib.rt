@@ -11,6 +11,7 @@ mod places;
 mod plays;
 mod prepared;
 mod ready;
+mod starting;
 mod states;
 
 pub use plays::{play, plays_agree};

@@ -28,7 +28,7 @@ pub struct FlatRole {
 impl FlatRole {
     ghost use Rattle.dpoc_process.specs.RoleLaws.{local};
     ghost use Rattle.flat_code.specs.Codes.{process_of};
-    ghost use Rattle.flat_role.specs.FlatStates.{local_of};
+    ghost use Rattle.flat_role.specs.FlatStates.{code_len, local_of};
 
     /// The role with the process that the code stands for and this store. Want of memory is the
     /// error of the signature; it takes none.
@@ -44,6 +44,14 @@ impl FlatRole {
             store,
             ready: None,
         })
+    }
+
+    /// How many ops the code has: those that it was made with, and those of the parts that were
+    /// linked since. It takes no memory.
+    pub fn code_len(&self) -> usize
+        ensures { result ≡ code_len self.now }
+    {
+        self.code.ops.len()
     }
 }
 

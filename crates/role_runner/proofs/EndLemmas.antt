@@ -9,8 +9,8 @@ use Rattle.std.specs.Prelude.{if◌then◌else◌}
 use Rattle.dioc_terms.specs.declared.bundles.Bundle.{Bundle}
 use Rattle.dioc_terms.specs.declared.entries.Entry.{Entry}
 use Rattle.dioc_terms.specs.Plain.{PlainBundle, plain}
-use Rattle.dpoc_process.specs.declared.states.RoleState.{RoleState}
-use Rattle.dpoc_process.specs.KeptStates.{local_of}
+use Rattle.flat_role.specs.declared.states.FlatRole.{FlatRole}
+use Rattle.flat_role.specs.FlatStates.{local_of}
 use Rattle.marked_laws.proofs.Shapes.{none_some, some_same}
 use Rattle.marked_laws.specs.Network.{Network}
 use Rattle.process_steps.specs.Steps.{ended}
@@ -118,16 +118,16 @@ told_memory limit jobs all any = by_tests (list_all is_done jobs) (list_any (is_
     by_tests false true h k = absurd (both_ways true k refl)
     by_tests false false h k = refl
 
-done_state : (o : Option RoleState) → is_done_state o ≡ true → (st : RoleState) × (o ≡ Some st) × (ended (local_of st).process ≡ true)
+done_state : (o : Option FlatRole) → is_done_state o ≡ true → (st : FlatRole) × (o ≡ Some st) × (ended (local_of st).process ≡ true)
 done_state None h = absurd (both_ways false refl h)
 done_state (Some st) h = (st, refl, h)
 
-going_state : (o : Option RoleState) → is_going o ≡ true → (st : RoleState) × (o ≡ Some st) × (ended (local_of st).process ≡ false)
+going_state : (o : Option FlatRole) → is_going o ≡ true → (st : FlatRole) × (o ≡ Some st) × (ended (local_of st).process ≡ false)
 going_state None h = absurd (both_ways false refl h)
 going_state (Some st) h = (st, refl, not-true (ended (local_of st).process) h)
 
 -- a role's state at its end, by its job
-role_end : (stage : Stage) (bundle : Bundle) (i : ℕ) (old new : Job) → EndsJob stage bundle i old new → (s : _) → new.seat ≡ Some s → (st : RoleState) → new.state ≡ Some st
+role_end : (stage : Stage) (bundle : Bundle) (i : ℕ) (old new : Job) → EndsJob stage bundle i old new → (s : _) → new.seat ≡ Some s → (st : FlatRole) → new.state ≡ Some st
     → IsOfRole bundle i (view s) st
 role_end stage bundle i old new ends s seat st state =
     if_some_at (IsOfRole bundle i (view s)) new.state st (if_some_at (λ t. IfSome new.state (IsOfRole bundle i (view t))) new.seat s ends.tied seat) state

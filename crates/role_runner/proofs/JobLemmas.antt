@@ -7,8 +7,8 @@ use Rattle.dioc_terms.specs.declared.bundles.Bundle.{Bundle}
 use Rattle.dioc_terms.specs.declared.entries.Entry.{Entry}
 use Rattle.dioc_terms.specs.declared.names.Role.{Role}
 use Rattle.dioc_terms.specs.Terms.{distinct_roles}
-use Rattle.dpoc_process.specs.declared.states.RoleState.{RoleState}
-use Rattle.dpoc_process.specs.KeptStates.{local_of}
+use Rattle.flat_role.specs.declared.states.FlatRole.{FlatRole}
+use Rattle.flat_role.specs.FlatStates.{local_of}
 use Rattle.marked_laws.proofs.Choices.{all_at}
 use Rattle.marked_laws.proofs.Shapes.{none_some, some_same}
 use Rattle.role_runner.proofs.EndLemmas.{WereLeft, all_by_place, all_went, at_within, if_some_at}
@@ -177,7 +177,7 @@ module _ (bundle : Bundle) (place : ℕ) (v : View Entry Base) (seated : IsSeate
       past_all (r ∷ rs) (suc i) none = let more = past_all rs i none in omega (arith, more)
 
 -- a state that is tied to the seat of a role is of the role's place
-pub of_role : (bundle : Bundle) (place : ℕ) (v : View Entry Base) (q : Role) → slice_get bundle.cast place ≡ Some q → (o : Option RoleState) → IfSome o (λ st. IsTied bundle q v (local_of st))
+pub of_role : (bundle : Bundle) (place : ℕ) (v : View Entry Base) (q : Role) → slice_get bundle.cast place ≡ Some q → (o : Option FlatRole) → IfSome o (λ st. IsTied bundle q v (local_of st))
     → IfSome o (IsOfRole bundle place v)
 of_role bundle place v q at o tied =
     some_each (IsOfRole bundle place v) o (λ st is. record { role = q; at = at; tied = if_some_at (λ x. IsTied bundle q v (local_of x)) o st tied is })

@@ -5,8 +5,8 @@ use Rattle.std.specs.Option.{option_map_or}
 use Rattle.dioc_terms.specs.declared.bundles.Bundle.{Bundle}
 use Rattle.dioc_terms.specs.declared.entries.Entry.{Entry}
 use Rattle.dioc_terms.specs.declared.names.Role.{Role}
-use Rattle.dpoc_process.specs.declared.states.RoleState.{RoleState}
-use Rattle.dpoc_process.specs.KeptStates.{local_of}
+use Rattle.flat_role.specs.declared.states.FlatRole.{FlatRole}
+use Rattle.flat_role.specs.FlatStates.{local_of}
 use Rattle.process_steps.specs.Steps.{ended}
 use Rattle.role_runner.specs.declared.threads.Ending.{Ending}
 use Rattle.role_runner.specs.declared.threads.Ending.TheVariants as ending
@@ -27,7 +27,7 @@ pub record OpensJob (stage : Stage) (bundle : Bundle) (place : ℕ) (job : Job) 
   pub within : place ≤ length bundle.cast
 
 -- the state is that of the role at the place, and tied to the view
-pub record IsOfRole (bundle : Bundle) (place : ℕ) (v : View Entry Base) (state : RoleState)
+pub record IsOfRole (bundle : Bundle) (place : ℕ) (v : View Entry Base) (state : FlatRole)
     : Type 0 where
   pub role : Role
   pub at : slice_get bundle.cast place ≡ Some role
@@ -40,7 +40,7 @@ pub record EndsJob (stage : Stage) (bundle : Bundle) (place : ℕ) (old new : Jo
   pub went : IfSome old.seat (λ s. IfSome new.seat (λ t. WentOn (view s) (view t)))
   pub tied : IfSome new.seat (λ t. IfSome new.state (IsOfRole bundle place (view t)))
 
-abbrev pub is_done_state : Option RoleState → Bool
+abbrev pub is_done_state : Option FlatRole → Bool
 is_done_state None = false
 is_done_state (Some state) = ended (local_of state).process
 
@@ -51,7 +51,7 @@ is_done job = is_done_state job.state
 abbrev pub has_seen : ℕ → Job → Bool
 has_seen limit job = option_map_or (λ s. length (view s).seen == limit) job.seat false
 
-abbrev pub is_going : Option RoleState → Bool
+abbrev pub is_going : Option FlatRole → Bool
 is_going None = false
 is_going (Some state) = not (ended (local_of state).process)
 

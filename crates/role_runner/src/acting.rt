@@ -8,7 +8,7 @@ ghost use Rattle.dioc_terms.specs.declared.entries.Act.TheVariants as acts;
 ghost use Rattle.dioc_terms.specs.declared.entries.Entry.TheVariants as entries;
 ghost use Rattle.dioc_terms.specs.declared.processes.Key.{Key as OneKey};
 ghost use Rattle.dioc_terms.specs.Plain.{plain};
-ghost use Rattle.dpoc_process.specs.KeptStates.{local_of, IsReady};
+ghost use Rattle.flat_role.specs.FlatStates.{local_of, IsReady};
 ghost use Rattle.dpoc_process.specs.RoleSteps.{IsPrepared};
 ghost use Rattle.marked_laws.specs.Laws.{IsSound};
 ghost use Rattle.role_runner.specs.Acts.{is_alone};
@@ -21,7 +21,8 @@ ghost use Rattle.turn_lock.specs.Words.{view};
 use crate::gates::{Gate, Place};
 use crate::known::known;
 use dioc_terms::{Act, Bundle, Entry, Key, Name, Payload, Role};
-use dpoc_process::{Got, Prepared, RoleState, Runs};
+use dpoc_process::{Got, Prepared, Runs};
+use flat_role::FlatRole;
 use stage::{CommitFault, Home, Stage};
 use std::sync::Wait;
 use turn_lock::Seat;
@@ -46,7 +47,7 @@ pub(crate) fn put<R: Wait, G: Gate>(
     gate: &G,
     role: &Role,
     seat: Seat<Home>,
-    state: &mut RoleState,
+    state: &mut FlatRole,
     act: &Act,
     prepared: Prepared,
 ) -> (Seat<Home>, Tried)
@@ -99,7 +100,7 @@ pub(crate) fn take<R: Wait, G: Gate>(
     gate: &G,
     role: &Role,
     seat: Seat<Home>,
-    state: &mut RoleState,
+    state: &mut FlatRole,
     act: &Act,
     prepared: Prepared,
 ) -> (Seat<Home>, Tried)
@@ -156,7 +157,7 @@ pub(crate) fn alone<R: Wait, G: Gate>(
     gate: &G,
     role: &Role,
     seat: Seat<Home>,
-    state: &mut RoleState,
+    state: &mut FlatRole,
     act: &Act,
     prepared: Prepared,
 ) -> (Seat<Home>, Tried)

@@ -1,9 +1,9 @@
 //! A role that runs in its thread.
 
-ghost use Rattle.std.specs.Prelude.{◌≡◌, [], true, IfSome};
+ghost use Rattle.std.specs.Prelude.{◌≡◌, [], true, None, IfSome};
 ghost use Rattle.dioc_terms.specs.Equality.{member};
 ghost use Rattle.dioc_terms.specs.Plain.{plain};
-ghost use Rattle.dpoc_process.specs.KeptStates.{local_of};
+ghost use Rattle.flat_role.specs.FlatStates.{local_of};
 ghost use Rattle.marked_laws.specs.Laws.{IsSound};
 ghost use Rattle.role_runner.specs.Ties.{IsSeated, IsTied, Leaves, WentOn};
 ghost use Rattle.stage.specs.Owners.{cast_place};
@@ -15,7 +15,8 @@ use crate::gates::{Gate, Place};
 use crate::scopes::begin;
 use crate::starting::opening_state;
 use dioc_terms::{Act, Bundle, Role};
-use dpoc_process::{PrepareFault, RoleState, Runs};
+use dpoc_process::{PrepareFault, Runs};
+use flat_role::FlatRole;
 use stage::{CommitFault, Home, Stage, Why};
 use std::alloc::Global;
 use std::sync::Wait;
@@ -33,7 +34,7 @@ pub(crate) fn play<R: Wait, G: Gate>(
     role: &Role,
     place: u32,
     seat: Seat<Home>,
-) -> (Seat<Home>, Option<RoleState>)
+) -> (Seat<Home>, Option<FlatRole>)
     requires sound { IsSound (plain bundle.now) }
     requires of { IsSeatIn stage.now seat }
     requires in_cast { member role.now bundle.now.cast ≡ true }
@@ -61,8 +62,8 @@ fn play_on<R: Wait, G: Gate>(
     role: &Role,
     place: u32,
     seat: Seat<Home>,
-    state: RoleState,
-) -> (Seat<Home>, Option<RoleState>)
+    state: FlatRole,
+) -> (Seat<Home>, Option<FlatRole>)
     requires sound { IsSound (plain bundle.now) }
     requires of { IsSeatIn stage.now seat }
     requires tied { IsTied bundle.now role.now (view seat) (local_of state) }
@@ -90,10 +91,20 @@ fn play_on<R: Wait, G: Gate>(
                 return (stage.stop(rt, seat, Why::Memory(place)), Some(state));
             }
             Tried::Refused(_) => return (seat, Some(state)),
-            Tried::Behind => return (stage.stop(rt, seat, Why::Memory(place)), None),
+            Tried::Behind => {
+                return (stage.stop(rt, seat, Why::Memory(place)), given_up(state));
+            }
         }
     }
     unreachable!()
+}
+
+/// Lets go of the state of a role that is behind its seat.
+fn given_up(state: FlatRole) -> Option<FlatRole>
+    ensures { result ≡ None }
+{
+    drop(state);
+    None
 }
 
 /// Tries the acts of the role's process, in their order, until one is done or refused for more than
@@ -106,7 +117,7 @@ fn take_turn<R: Wait, G: Gate>(
     gate: &G,
     role: &Role,
     seat: Seat<Home>,
-    state: &mut RoleState,
+    state: &mut FlatRole,
 ) -> (Seat<Home>, Tried)
     requires sound { IsSound (plain bundle.now) }
     requires of { IsSeatIn stage.now seat }
@@ -140,7 +151,7 @@ fn try_act<R: Wait, G: Gate>(
     gate: &G,
     role: &Role,
     seat: Seat<Home>,
-    state: &mut RoleState,
+    state: &mut FlatRole,
     act: &Act,
 ) -> (Seat<Home>, Tried)
     requires sound { IsSound (plain bundle.now) }

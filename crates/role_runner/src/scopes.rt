@@ -8,7 +8,7 @@ ghost use Rattle.dioc_terms.specs.Plain.{plain};
 ghost use Rattle.dioc_terms.specs.Rules.{Book};
 ghost use Rattle.dpoc_process.specs.Acting.{Lead, acting_lead};
 ghost use Rattle.dpoc_process.specs.Handed.{IsEnabled, Kept};
-ghost use Rattle.dpoc_process.specs.KeptStates.{local_of, IsReady};
+ghost use Rattle.flat_role.specs.FlatStates.{local_of, IsReady};
 ghost use Rattle.dpoc_process.specs.RoleSteps.{IsPrepared, IsStep};
 ghost use Rattle.marked_laws.specs.Laws.{IsSound};
 ghost use Rattle.role_network.specs.Scopes.{Tells};
@@ -21,7 +21,8 @@ ghost use Rattle.turn_lock.specs.Words.{view};
 use crate::acting::Tried;
 use crate::gates::{Gate, Place};
 use dioc_terms::{Act, Bundle, Memory, Role, Rule, ScopeHead};
-use dpoc_process::{Got, Prepared, RoleState, Runs};
+use dpoc_process::{Got, Prepared, Runs};
+use flat_role::FlatRole;
 use scope_leader::plan_update;
 use stage::{Home, Stage};
 use std::alloc::Global;
@@ -37,7 +38,7 @@ pub(crate) fn begin<R: Wait, G: Gate>(
     gate: &G,
     role: &Role,
     seat: Seat<Home>,
-    state: &mut RoleState,
+    state: &mut FlatRole,
     act: &Act,
     prepared: Prepared,
 ) -> (Seat<Home>, Tried)
@@ -83,7 +84,7 @@ fn go_on<R: Wait, G: Gate>(
     bundle: &Bundle,
     gate: &G,
     role: &Role,
-    state: &mut RoleState,
+    state: &mut FlatRole,
     act: &Act,
     head: &ScopeHead,
     update: Option<(u32, u32)>,

@@ -5,22 +5,19 @@ ghost use Rattle.dioc_terms.specs.declared.names.Role.{Role as OneRole};
 ghost use Rattle.dioc_terms.specs.Equality.{member};
 ghost use Rattle.dioc_terms.specs.Plain.{plain};
 ghost use Rattle.dioc_terms.specs.Terms.{is_in, term};
-ghost use Rattle.dpoc_process.specs.KeptStates.{local_of};
+ghost use Rattle.flat_role.specs.FlatStates.{local_of};
 ghost use Rattle.global_steps.specs.Follow.{inputs_of};
 ghost use Rattle.marked_laws.specs.Network.{network_start};
 ghost use Rattle.role_network.specs.Standing.{local_in};
 
 use dioc_terms::{Bundle, Items, Memory, Role, Store, Value, Values};
-use dpoc_process::RoleState;
+use flat_role::FlatRole;
 use projection::project;
+use role_network::Begins;
 use std::alloc::Global;
 
 /// The role with its projection and its inputs.
-pub(crate) fn opening_state(
-    alloc: Global,
-    bundle: &Bundle,
-    role: &Role,
-) -> Result<RoleState, Memory>
+pub(crate) fn opening_state(alloc: Global, bundle: &Bundle, role: &Role) -> Result<FlatRole, Memory>
     requires { (q : OneRole) → is_in q (term bundle.now.choreo) ≡ true
         → member q bundle.now.cast ≡ true }
     ensures { IfOk result (λ state. local_of state
@@ -31,7 +28,7 @@ pub(crate) fn opening_state(
     let store = Store::new(alloc, Items::new(inputs));
     let proc = project(alloc, &bundle.choreo, role, bundle.cast.as_slice())?;
     let role = role.copy(alloc)?;
-    Ok(RoleState::new(role, proc, store))
+    FlatRole::begin(alloc, role, proc, store)
 }
 
 /// Adds copies of all that is given for the role, in its order.

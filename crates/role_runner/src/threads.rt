@@ -14,7 +14,8 @@ use crate::feeding::feed;
 use crate::gates::Gate;
 use crate::playing::play;
 use dioc_terms::Bundle;
-use dpoc_process::{RoleState, Runs};
+use dpoc_process::Runs;
+use flat_role::FlatRole;
 use stage::{Home, Stage};
 use std::alloc::Global;
 use std::sync::Wait;
@@ -38,7 +39,7 @@ pub enum Ending {
 #[derive(Drop)]
 pub(crate) struct Job {
     seat: Option<Seat<Home>>,
-    state: Option<RoleState>,
+    state: Option<FlatRole>,
 }
 
 /// Runs the roles of a stage, each in a thread of its own, and the changes of its script in one
@@ -152,7 +153,7 @@ fn run_place<R: Wait, G: Gate>(
     gate: &G,
     place: usize,
     seat: Seat<Home>,
-) -> (Seat<Home>, Option<RoleState>)
+) -> (Seat<Home>, Option<FlatRole>)
     requires sound { IsSound (plain bundle.now) }
     requires few { length bundle.now.cast ≤ 4294967295 }
     requires within { place ≤ length bundle.now.cast }
@@ -181,7 +182,7 @@ fn keep_seat(there: &mut Option<Seat<Home>>, seat: Seat<Home>)
 }
 
 /// The same of a role's state.
-fn keep_state(there: &mut Option<RoleState>, state: Option<RoleState>)
+fn keep_state(there: &mut Option<FlatRole>, state: Option<FlatRole>)
     ensures { there.new ≡ state }
 {
     drop(mem::replace(there, state));

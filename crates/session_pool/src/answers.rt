@@ -7,7 +7,7 @@ ghost use Rattle.rule_checks.specs.Refusals.{IsAccepted};
 ghost use Rattle.session_pool.specs.Answers.{answer_of, answer_seen};
 
 use dioc_terms::{Bundle, Memory};
-use dpoc_process::RoleState;
+use flat_role::FlatRole;
 use net_core::accepted_is_sound;
 use role_network::Net;
 use rule_checks::{Refusal, accept};
@@ -52,7 +52,7 @@ fn run(alloc: Global, bundle: &Bundle, seed: Option<u64>, limit: u64) -> Result<
         (λ answer. answer_seen answer ≡ answer_of (plain bundle.now) seed limit) }
 {
     accepted_is_sound();
-    let mut net: Net<RoleState> = Net::start(alloc, bundle, limit)?;
+    let mut net: Net<FlatRole> = Net::start(alloc, bundle, limit)?;
     run_seeded(&mut net, seed)?;
     let ended = net.is_ended();
     let history = net.into_history();

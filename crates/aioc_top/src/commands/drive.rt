@@ -14,7 +14,7 @@ use crate::replies::{End, Written, last_line, say_no};
 use aux_messages::is_aux;
 use command_words::Options;
 use dioc_terms::{Bundle, Entry, Last, Memory};
-use dpoc_process::RoleState;
+use flat_role::FlatRole;
 use net_drive::{DriveFault, drive_strays_are_exact};
 use role_network::Net;
 use std::alloc::Global;
@@ -63,7 +63,7 @@ fn say_driven(
     alloc: Global,
     last: &Option<Last>,
     entries: &[Entry],
-    net: &Net<RoleState>,
+    net: &Net<FlatRole>,
 ) -> Result<Written, Memory>
     requires run { IsSoundRun net.now }
     requires last { (bundle_of net.now).trace.last ≡ last.now }

@@ -11,7 +11,7 @@ ghost use Rattle.aioc_top.specs.Replies.{gen_line, gen_reply, line_of_text, repl
 use crate::commands::step::end_of;
 use crate::replies::Written;
 use dioc_terms::{Bundle, Memory};
-use dpoc_process::RoleState;
+use flat_role::FlatRole;
 use index_marks::nodes;
 use load_gen::make;
 use net_core::{accepted_is_sound, runs_are_sound};
@@ -45,7 +45,7 @@ fn run_made(alloc: Global, number: u64, size: u32, bundle: &Bundle) -> Result<Wr
 {
     accepted_is_sound();
     runs_are_sound();
-    let mut net: Net<RoleState> = Net::start(alloc, bundle, USUAL_STEPS)?;
+    let mut net: Net<FlatRole> = Net::start(alloc, bundle, USUAL_STEPS)?;
     let finish = run_seeded(&mut net, None)?;
     let text = make_line(alloc, number, size, bundle, &net)?;
     Ok(Written {
@@ -60,7 +60,7 @@ fn make_line(
     number: u64,
     size: u32,
     bundle: &Bundle,
-    net: &Net<RoleState>,
+    net: &Net<FlatRole>,
 ) -> Result<Vec<u8>, Memory>
     requires few { nodes (term bundle.now.choreo) ≤ 4294967295 }
     ensures { IfOk result (λ line. line.items ≡ line_of_text (gen_line number size

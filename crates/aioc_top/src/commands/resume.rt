@@ -12,7 +12,7 @@ ghost use Rattle.aioc_top.specs.Replies.{reply_of, resume_reply, run_reply};
 use crate::replies::{End, Written, last_line, say_no};
 use command_words::Options;
 use dioc_terms::{Bundle, Memory};
-use dpoc_process::RoleState;
+use flat_role::FlatRole;
 use net_drive::{ResumeFault, run_strays_are_exact};
 use role_network::Net;
 use schedule::run_seeded;
@@ -40,7 +40,7 @@ pub fn resume(alloc: Global, options: &Options, bundle: &Bundle) -> Result<Writt
 }
 
 // The text of the run that goes on from a net by the schedule.
-fn go_on(alloc: Global, options: &Options, net: Net<RoleState>) -> Result<Written, Memory>
+fn go_on(alloc: Global, options: &Options, net: Net<FlatRole>) -> Result<Written, Memory>
     requires limit { net.limit ≤ 4294967295 }
     ensures { IfOk result (λ written. reply_of written ≡ run_reply options.now (bundle_of net)
         (sched_from (bundle_of net) net.history options.now.seed net.limit)) }
@@ -51,7 +51,7 @@ fn go_on(alloc: Global, options: &Options, net: Net<RoleState>) -> Result<Writte
 }
 
 // The text of the run that a net has made, and whether it has ended.
-fn say_run(alloc: Global, options: &Options, net: &Net<RoleState>) -> Result<Written, Memory>
+fn say_run(alloc: Global, options: &Options, net: &Net<FlatRole>) -> Result<Written, Memory>
     requires run { IsSoundRun net.now }
     ensures { IfOk result (λ written. reply_of written
         ≡ run_reply options.now (bundle_of net.now) net.now.history) }

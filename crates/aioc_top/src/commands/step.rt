@@ -12,7 +12,7 @@ ghost use Rattle.aioc_top.specs.Endings.{end_of, last_for};
 use crate::replies::{End, Written};
 use command_words::Options;
 use dioc_terms::{Bundle, Last, Memory};
-use dpoc_process::RoleState;
+use flat_role::FlatRole;
 use net_core::{accepted_is_sound, runs_are_sound};
 use role_network::Net;
 use schedule::{Finish, run_seeded};
@@ -30,7 +30,7 @@ pub fn step(alloc: Global, options: &Options, bundle: &Bundle) -> Result<Written
 {
     accepted_is_sound();
     runs_are_sound();
-    let mut net: Net<RoleState> = Net::start(alloc, bundle, options.steps)?;
+    let mut net: Net<FlatRole> = Net::start(alloc, bundle, options.steps)?;
     let finish = run_seeded(&mut net, options.seed)?;
     let mut text = Vec::new(alloc);
     let last = last_of(finish, net.history().len());

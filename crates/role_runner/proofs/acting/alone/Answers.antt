@@ -1,6 +1,6 @@
 -- What a role does alone, prepared, committed and done.
 use Rattle.std.proofs.Common.{refl}
-use Rattle.dpoc_process.specs.KeptStates.{local_of}
+use Rattle.flat_role.specs.FlatStates.{local_of}
 use Rattle.role_runner.proofs.ActLemmas.{alone_can, alone_entry, alone_leaves}
 use Rattle.process_steps.specs.Steps.{Alone}
 use Rattle.role_runner.proofs.StepLemmas.{goes_on}

@@ -2,7 +2,7 @@
 use Rattle.std.proofs.Common.{◌≡◌, refl, sym, ◌∙◌, subst}
 use Rattle.dioc_terms.specs.declared.entries.Act.TheVariants as act
 use Rattle.dioc_terms.specs.Processes.{load}
-use Rattle.dpoc_process.specs.KeptStates.{local_of}
+use Rattle.flat_role.specs.FlatStates.{local_of}
 use Rattle.dpoc_process.specs.RoleSteps.{IsPrepared, IsStep}
 use Rattle.process_steps.specs.Steps.{Alone, Puts}
 use Rattle.role_runner.proofs.ActLemmas.{put_can, put_leaves, put_sends}

@@ -2,7 +2,7 @@
 use Rattle.std.proofs.Common.{◌≡◌, true, sym, ◌∙◌, subst}
 use Rattle.dioc_terms.specs.Equality.{member}
 use Rattle.dioc_terms.specs.Terms.{term}
-use Rattle.dpoc_process.specs.KeptStates.{local_of}
+use Rattle.flat_role.specs.FlatStates.{local_of}
 use Rattle.role_runner.proofs.TieLemmas.{opening_tied}
 use Rattle.turn_lock.specs.Words.{view}
 use Rattle.role_runner.proofs.playing.play.Goals as goal

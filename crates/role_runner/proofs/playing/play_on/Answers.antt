@@ -1,5 +1,5 @@
 -- A seat that was marked or stopped has looked on, and its role's state is tied to it still.
-use Rattle.dpoc_process.specs.KeptStates.{local_of}
+use Rattle.flat_role.specs.FlatStates.{local_of}
 use Rattle.role_runner.proofs.TieLemmas.{looked_tied, refused_not_behind}
 use Rattle.turn_lock.specs.Words.{view}
 use Rattle.role_runner.proofs.playing.play_on.Goals as goal

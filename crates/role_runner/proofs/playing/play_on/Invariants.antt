@@ -1,5 +1,5 @@
 -- The seat went on, and the role's state is tied to it.
-use Rattle.dpoc_process.specs.KeptStates.{local_of}
+use Rattle.flat_role.specs.FlatStates.{local_of}
 use Rattle.role_runner.specs.Ties.{IsTied, WentOn}
 use Rattle.stage.specs.Stages.{IsSeatIn}
 use Rattle.turn_lock.specs.Words.{view}

@@ -3,7 +3,7 @@ use Rattle.std.proofs.Common.{sym, ap, ◌∙◌, subst}
 use Rattle.dioc_terms.specs.KeptStores.{store_of}
 use Rattle.dioc_terms.specs.Plain.{plain}
 use Rattle.dpoc_process.specs.Acting.{acting_lead}
-use Rattle.dpoc_process.specs.KeptStates.{local_of}
+use Rattle.flat_role.specs.FlatStates.{local_of}
 use Rattle.dpoc_process.specs.RoleSteps.{IsPrepared, IsStep}
 use Rattle.role_network.specs.Scopes.{Tells}
 use Rattle.role_runner.proofs.ScopeLemmas.{begin_can, begin_leaves, chosen, head_there, heads, led, tells}

@@ -4,7 +4,7 @@ use Rattle.dioc_terms.specs.Equality.{member}
 use Rattle.dioc_terms.specs.Plain.{plain}
 use Rattle.dioc_terms.specs.Processes.{letters, process}
 use Rattle.dioc_terms.specs.Terms.{term}
-use Rattle.dpoc_process.specs.KeptStates.{local_of}
+use Rattle.flat_role.specs.FlatStates.{local_of}
 use Rattle.role_runner.proofs.ScopeLemmas.{replaces, rule_body, rule_level, rule_there}
 use Rattle.role_runner.specs.Acts.{book_given}
 use Rattle.scope_leader.specs.Plans.{begin_messages, part_of}
