@@ -5,13 +5,13 @@ use Rattle.dioc_terms.specs.Expressions.{Expression, Not, Neg, Bin}
 use Rattle.aioc_tokens.specs.declared.words.Word.TheVariants as word
 use Rattle.aioc_tokens.specs.declared.words.Punctuator.TheVariants as punctuator
 use Rattle.aioc_tokens.specs.Lexemes.{Lexeme, Reserved, Symbol, sort_of}
-use Rattle.expr_syntax.specs.Levels.{tighter, operator}
+use Rattle.expr_syntax.specs.Levels.{tighter, operator, is_inside}
 use Rattle.expr_syntax.specs.Grammar.{Reads, Follows, chain, denied, not_denied, alone, compared, single, negated, bracketed, ended, more, leaf, and_left, begins_with_number}
 use Rattle.expr_syntax.specs.declared.levels.ExprKind.{ExprKind}
 use Rattle.expr_syntax.specs.declared.levels.Level.{Level}
 use Rattle.expr_syntax.specs.declared.levels.Level.TheVariants.{Disjunction, Negation, Comparison, Sum, Unary}
 use Rattle.expr_syntax.proofs.LeafFacts.{same_pair, no_minus, no_paren, no_not}
-use Rattle.expr_syntax.proofs.Tables.{goes, goes_tighter, operator_goes, operator_stops, is_inside, inside_tighter}
+use Rattle.expr_syntax.proofs.Tables.{goes, goes_tighter, operator_goes, operator_stops, inside_tighter}
 use Rattle.expr_syntax.proofs.Shorter.{drop_shorter, reads_shorter, follows_shorter}
 
 -- how two expressions compare that end at these rests of the list

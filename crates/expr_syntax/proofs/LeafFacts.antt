@@ -149,6 +149,11 @@ pub if_ok : {A E : Type 0} {P Q : A → Type 0} (result : Result A E) → ((foun
 if_ok (Ok found) more holds = more found holds
 if_ok (Err fault) more holds = tt
 
+-- what follows from four facts of an answer
+pub if_ok_four : {A E : Type 0} {P Q R S T : A → Type 0} (result : Result A E) → ((found : A) → P found → Q found → R found → S found → T found) → IfOk result P → IfOk result Q → IfOk result R → IfOk result S → IfOk result T
+if_ok_four (Ok found) more one two three four = more found one two three four
+if_ok_four (Err fault) more one two three four = tt
+
 pub word_default : {E : Type 0} (text : List Lexeme) (at : ℕ) (first : Word) (result : Result (Option (Expr × ℕ)) E) → drop at text ≡ Reserved first ∷ drop (at + 1) text → first ≢ word.N → first ≢ word.E
     → IfOk result (λ found. ConstantLeafAt text at found) → IfOk result (λ found. LeafAt Condition text at found)
 word_default text at first result begins other other2 holds =

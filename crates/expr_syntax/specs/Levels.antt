@@ -1,5 +1,5 @@
 -- The levels of the grammar, and the operators of each.
-use Rattle.std.specs.Prelude.{Bool, true, false, Option, Some, None}
+use Rattle.std.specs.Prelude.{ℕ, Bool, true, false, Option, Some, None}
 use Rattle.dioc_terms.specs.declared.expressions.Oper.{Oper}
 use Rattle.dioc_terms.specs.declared.expressions.Oper.TheVariants.{Add, Sub, Mul, Div, Rem, Join, Eq, Ne, Lt, Le, Gt, Ge, And, Or}
 use Rattle.aioc_tokens.specs.declared.words.Word.{Word}
@@ -73,3 +73,44 @@ operator kind Comparison (Symbol punctuator) = comparison punctuator
 operator kind Sum (Symbol punctuator) = addition kind punctuator
 operator kind Product (Symbol punctuator) = multiplication punctuator
 operator kind level _ = None
+
+-- the level between whose operands a symbol is an operator
+abbrev pub joined_by : ExprKind → Punctuator → Option Level
+joined_by kind EqualEqual = Some Comparison
+joined_by kind NotEqual = Some Comparison
+joined_by kind Less = Some Comparison
+joined_by kind LessEqual = Some Comparison
+joined_by kind Greater = Some Comparison
+joined_by kind GreaterEqual = Some Comparison
+joined_by kind Plus = Some Sum
+joined_by kind Minus = Some Sum
+joined_by Step PlusPlus = Some Sum
+joined_by kind Star = Some Product
+joined_by kind Slash = Some Product
+joined_by kind Percent = Some Product
+joined_by kind _ = None
+
+-- the level between whose operands a token is an operator
+abbrev pub joined_level : ExprKind → Sort → Option Level
+joined_level kind (Reserved word.Or) = Some Disjunction
+joined_level kind (Reserved word.And) = Some Conjunction
+joined_level kind (Symbol punctuator) = joined_by kind punctuator
+joined_level kind _ = None
+
+-- how loosely a level binds: its operands bind less loosely
+abbrev pub looseness : Level → ℕ
+looseness Disjunction = 6
+looseness Conjunction = 5
+looseness Negation = 4
+looseness Comparison = 3
+looseness Sum = 2
+looseness Product = 1
+looseness Unary = 0
+
+-- the levels where no `not` may stand first
+abbrev pub is_inside : Level → Bool
+is_inside Comparison = true
+is_inside Sum = true
+is_inside Product = true
+is_inside Unary = true
+is_inside _ = false

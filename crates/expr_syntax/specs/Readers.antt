@@ -66,7 +66,7 @@ pub record FollowsShallow (kind : ExprKind) (level : Level) (room deep : ℕ) (f
   pub shallow : expression_depth whole ≤ deep
 
 -- an expression with as many operators and operands behind it as follow
-pub record Grows (kind : ExprKind) (level : Level) (room deep : ℕ) (text : List Lexeme)
+pub record FollowedBy (kind : ExprKind) (level : Level) (room deep : ℕ) (text : List Lexeme)
     (first found : Found) : Type 0 where
   pub front : Longest
       (FollowsShallow kind level room deep (expression first.expr) (drop first.at text))

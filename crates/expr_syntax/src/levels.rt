@@ -1,7 +1,7 @@
 //! The levels of the grammar, and the operators of each.
 
 ghost use Rattle.std.specs.Prelude.{◌≡◌};
-ghost use Rattle.expr_syntax.specs.Levels.{comparison, addition, multiplication, operator, tighter};
+ghost use Rattle.expr_syntax.specs.Levels.{comparison, addition, multiplication, operator, tighter, joined_by, joined_level, looseness, is_inside};
 
 use aioc_tokens::{Punctuator, Sort, Word};
 use dioc_terms::Oper;
@@ -97,4 +97,59 @@ pub fn tighter(level: Level) -> Level
         Level::Sum => Level::Product,
         Level::Product | Level::Unary => Level::Unary,
     }
+}
+
+/// The level between whose operands a symbol is an operator, if it is one.
+fn joined_by(kind: ExprKind, punctuator: Punctuator) -> Option<Level>
+    ensures { result ≡ joined_by kind punctuator }
+{
+    match punctuator {
+        Punctuator::EqualEqual | Punctuator::NotEqual => Some(Level::Comparison),
+        Punctuator::Less | Punctuator::LessEqual => Some(Level::Comparison),
+        Punctuator::Greater | Punctuator::GreaterEqual => Some(Level::Comparison),
+        Punctuator::Plus | Punctuator::Minus => Some(Level::Sum),
+        Punctuator::PlusPlus => match kind {
+            ExprKind::Step => Some(Level::Sum),
+            ExprKind::Condition => None,
+        },
+        Punctuator::Star | Punctuator::Slash | Punctuator::Percent => Some(Level::Product),
+        _ => None,
+    }
+}
+
+/// The level between whose operands a token is an operator, if it is one.
+pub fn joined_level(kind: ExprKind, sort: Sort) -> Option<Level>
+    ensures { result ≡ joined_level kind sort }
+{
+    match sort {
+        Sort::Reserved(Word::Or) => Some(Level::Disjunction),
+        Sort::Reserved(Word::And) => Some(Level::Conjunction),
+        Sort::Symbol(punctuator) => joined_by(kind, punctuator),
+        _ => None,
+    }
+}
+
+/// How loosely a level binds: its operands bind less loosely.
+pub fn looseness(level: Level) -> u8
+    ensures { result ≡ looseness level }
+{
+    match level {
+        Level::Disjunction => 6,
+        Level::Conjunction => 5,
+        Level::Negation => 4,
+        Level::Comparison => 3,
+        Level::Sum => 2,
+        Level::Product => 1,
+        Level::Unary => 0,
+    }
+}
+
+/// Whether no `not` may stand first in an expression of this level.
+pub fn is_inside(level: Level) -> bool
+    ensures { result ≡ is_inside level }
+{
+    !matches!(
+        level,
+        Level::Disjunction | Level::Conjunction | Level::Negation
+    )
 }

@@ -1,17 +1,18 @@
 //! The readers of the levels.
 
-ghost use Rattle.std.specs.Prelude.{◌≡◌, ◌≢◌, ◌≤◌, ◌<◌, ◌^◌, ◌+◌, ◌-◌, suc, max, drop, length, true, None, IfOk, IsTrue, ◌↔◌};
+ghost use Rattle.std.specs.Prelude.{◌≡◌, ◌≢◌, ◌≤◌, ◌<◌, ◌^◌, ◌+◌, ◌-◌, suc, max, drop, length, true, false, None, IfOk, IsTrue, ◌↔◌};
 ghost use Rattle.dioc_terms.specs.Expressions.{expression, Not, Neg, Bin};
 ghost use Rattle.aioc_tokens.specs.declared.words.Sort.{Sort};
 ghost use Rattle.aioc_tokens.specs.declared.words.Punctuator.{Punctuator};
+ghost use Rattle.aioc_tokens.specs.declared.words.Word.{Word};
 ghost use Rattle.aioc_tokens.specs.Lexemes.{sort_of};
 ghost use Rattle.expr_syntax.specs.Grammar.{begins_with_number};
-ghost use Rattle.expr_syntax.specs.Levels.{is_chain};
-ghost use Rattle.expr_syntax.specs.Readers.{LevelAt, IsNoted, Grows};
+ghost use Rattle.expr_syntax.specs.Levels.{is_chain, is_inside, looseness, tighter};
+ghost use Rattle.expr_syntax.specs.Readers.{LevelAt, IsNoted, Finds, FollowedBy};
 ghost use Rattle.expr_syntax.specs.declared.levels.Level.{Level};
 
 use crate::leaves::{is_number, leaf_at};
-use crate::levels::{Level, operator, tighter};
+use crate::levels::{Level, is_inside, joined_level, looseness, operator, tighter};
 use crate::places::{Place, Reader};
 use aioc_tokens::{Lexed, Punctuator, Sort, Word};
 use dioc_terms::{Expr, Memory, Oper, give_up, new_box};
@@ -93,6 +94,26 @@ fn stands(text: &Lexed<'_>, at: usize, sort: Sort) -> bool
     here == sort
 }
 
+/// Whether one operator at most may stand between operands of this level.
+fn is_comparison(level: Level) -> bool
+    ensures { IsTrue result ↔ (level ≡ Level.Comparison) }
+{
+    level == Level::Comparison
+}
+
+/// Whether a `not` stands at a place of the text where an expression of this level may begin so.
+fn is_denied(text: &Lexed<'_>, level: Level, at: usize) -> bool
+    ensures level { IsTrue result → is_inside level ≡ false }
+    ensures sort { IsTrue result → sort_of (drop at text.now) ≡ Sort.Reserved Word.Not }
+    ensures plain { result ≡ false → is_inside level ≡ false
+        → sort_of (drop at text.now) ≢ Sort.Reserved Word.Not }
+    ensures within { IsTrue result → at < length text.now }
+    ensures small { length text.now < 2 ^ 63 }
+{
+    let denied = stands(text, at, Sort::Reserved(Word::Not));
+    !is_inside(level) && denied
+}
+
 /// Whether a token of this sort closes a bracket.
 fn is_right_paren(sort: Sort) -> bool
     ensures { IsTrue result ↔ (sort ≡ Sort.Symbol Punctuator.RightParen) }
@@ -130,30 +151,93 @@ fn shallow_leaf_at(reader: &Reader<'_>, place: Place) -> Result<Option<Found>, M
 }
 
 /// The longest expression of a level at a place of the text that goes no further than it may.
+///
+/// It begins with a `not` or with a unary. Each operator behind it says at which level it goes on,
+/// so a level whose operator doesn't stand there takes no time.
 #[cycle(reading)]
 pub fn level_at(reader: &Reader<'_>, level: Level, place: Place) -> Result<Option<Found>, Memory>
     ensures { IfOk result (λ found. LevelAt reader.now level place found) }
 {
-    match level {
-        Level::Negation => negation_at(reader, place),
-        Level::Comparison => comparison_at(reader, place),
-        Level::Unary => unary_at(reader, place),
-        _ => chain_at(reader, level, place),
+    if is_denied(reader.text, level, place.at) {
+        return denied_at(reader, level, place);
     }
-}
-
-/// A level where any number of operators may follow one another.
-#[cycle(reading)]
-fn chain_at(reader: &Reader<'_>, level: Level, place: Place) -> Result<Option<Found>, Memory>
-    requires { is_chain level ≡ true }
-    ensures { IfOk result (λ found. LevelAt reader.now level place found) }
-{
-    match level_at(reader, tighter(level), place)? {
+    match unary_at(reader, place)? {
         Some(first) => {
-            let whole = follow(reader, level, place, first)?;
+            let whole = climb(reader, level, Level::Unary, place, first)?;
             Ok(Some(whole))
         }
         None => Ok(None),
+    }
+}
+
+/// An expression that begins with a `not`.
+#[cycle(reading)]
+fn denied_at(reader: &Reader<'_>, level: Level, place: Place) -> Result<Option<Found>, Memory>
+    requires sort { sort_of (drop place.at reader.now.text.now) ≡ Sort.Reserved Word.Not }
+    requires within { place.at < length reader.now.text.now }
+    requires small { length reader.now.text.now < 2 ^ 63 }
+    requires level { is_inside level ≡ false }
+    ensures { IfOk result (λ found. LevelAt reader.now level place found) }
+{
+    if place.deep == 0 {
+        return Ok(None);
+    }
+    match level_at(reader, Level::Negation, place.operand(place.at + 1))? {
+        Some(inner) => {
+            let denied = negation(reader.alloc, inner)?;
+            let whole = climb(reader, level, Level::Negation, place, denied)?;
+            Ok(Some(whole))
+        }
+        None => Ok(None),
+    }
+}
+
+/// An expression of a level that begins at a place with one of another level, which binds no looser
+/// and was read: operators and operands are added as long as they follow.
+#[cycle(reading)]
+fn climb(
+    reader: &Reader<'_>,
+    level: Level,
+    from: Level,
+    place: Place,
+    first: Found,
+) -> Result<Found, Memory>
+    requires found { Finds reader.now.kind from place.room place.deep reader.now.text.now place.at
+        first }
+    requires below { looseness from ≤ looseness level }
+    requires plain { is_inside from ≡ true → is_inside level ≡ false
+        → sort_of (drop place.at reader.now.text.now) ≢ Sort.Reserved Word.Not }
+    ensures { IfOk result (λ found. Finds reader.now.kind level place.room place.deep
+        reader.now.text.now place.at found) }
+{
+    let next = match joined_level(reader.kind, first.behind) {
+        Some(next) => next,
+        None => return Ok(first),
+    };
+    if looseness(next) <= looseness(from) {
+        return Ok(first);
+    }
+    if looseness(level) < looseness(next) {
+        return Ok(first);
+    }
+    let whole = joined(reader, next, place, first)?;
+    climb(reader, level, next, place, whole)
+}
+
+/// An operand of a level, with the operators and operands of that level that follow it.
+#[cycle(reading)]
+fn joined(reader: &Reader<'_>, level: Level, place: Place, first: Found) -> Result<Found, Memory>
+    requires found { Finds reader.now.kind (tighter level) place.room place.deep
+        reader.now.text.now place.at first }
+    requires joins { level ≢ Level.Comparison → is_chain level ≡ true }
+    ensures found { IfOk result (λ found. Finds reader.now.kind level place.room place.deep
+        reader.now.text.now place.at found) }
+    ensures after { IfOk result (λ found. first.at ≤ found.at) }
+{
+    if is_comparison(level) {
+        compared(reader, place, first)
+    } else {
+        follow(reader, level, place, first)
     }
 }
 
@@ -161,7 +245,7 @@ fn chain_at(reader: &Reader<'_>, level: Level, place: Place) -> Result<Option<Fo
 #[cycle(reading)]
 fn follow(reader: &Reader<'_>, level: Level, place: Place, first: Found) -> Result<Found, Memory>
     requires { IsNoted place.deep reader.now.text.now first }
-    ensures { IfOk result (λ found. Grows reader.now.kind level place.room place.deep
+    ensures { IfOk result (λ found. FollowedBy reader.now.kind level place.room place.deep
         reader.now.text.now first found) }
 {
     let oper = match operator(reader.kind, level, first.behind) {
@@ -181,49 +265,26 @@ fn follow(reader: &Reader<'_>, level: Level, place: Place, first: Found) -> Resu
     }
 }
 
-/// A comparison, or one of its sides alone.
+/// The left side of a comparison, with the operator and the right side that follow it, if they do.
 #[cycle(reading)]
-fn comparison_at(reader: &Reader<'_>, place: Place) -> Result<Option<Found>, Memory>
-    ensures { IfOk result (λ found. LevelAt reader.now Level.Comparison place found) }
+fn compared(reader: &Reader<'_>, place: Place, left: Found) -> Result<Found, Memory>
+    requires { Finds reader.now.kind Level.Sum place.room place.deep reader.now.text.now place.at
+        left }
+    ensures found { IfOk result (λ found. Finds reader.now.kind Level.Comparison place.room
+        place.deep reader.now.text.now place.at found) }
+    ensures after { IfOk result (λ found. left.at ≤ found.at) }
 {
-    let left = match level_at(reader, Level::Sum, place)? {
-        Some(left) => left,
-        None => return Ok(None),
-    };
     let oper = match operator(reader.kind, Level::Comparison, left.behind) {
         Some(oper) => oper,
-        None => return Ok(Some(left)),
+        None => return Ok(left),
     };
     if left.depth == place.deep {
-        return Ok(Some(left));
+        return Ok(left);
     }
     match level_at(reader, Level::Sum, place.operand(left.at + 1)) {
-        Ok(Some(right)) => {
-            let both = two_sided(reader.alloc, oper, left, right)?;
-            Ok(Some(both))
-        }
-        Ok(None) => Ok(Some(left)),
+        Ok(Some(right)) => two_sided(reader.alloc, oper, left, right),
+        Ok(None) => Ok(left),
         Err(fault) => give_up(left, fault),
-    }
-}
-
-/// A comparison with any number of `not` before it.
-#[cycle(reading)]
-fn negation_at(reader: &Reader<'_>, place: Place) -> Result<Option<Found>, Memory>
-    ensures { IfOk result (λ found. LevelAt reader.now Level.Negation place found) }
-{
-    if !stands(reader.text, place.at, Sort::Reserved(Word::Not)) {
-        return comparison_at(reader, place);
-    }
-    if place.deep == 0 {
-        return Ok(None);
-    }
-    match negation_at(reader, place.operand(place.at + 1))? {
-        Some(inner) => {
-            let whole = negation(reader.alloc, inner)?;
-            Ok(Some(whole))
-        }
-        None => Ok(None),
     }
 }
 
