@@ -11,10 +11,10 @@ use Rattle.dpoc_process.specs.Acting.{acting}
 use Rattle.dpoc_process.specs.Changes.{Change, changed, replaced, rest_of}
 use Rattle.flat_code.proofs.PlaceLemmas.{keeps_at, extends_longer, extends_itself, extends_through}
 use Rattle.flat_code.specs.declared.ops.Op.{Op}
-use Rattle.flat_code.specs.Places.{Extends, IsAt, at, processes}
+use Rattle.flat_code.specs.Places.{Extends, IsProcessAt, at, processes}
 use Rattle.flat_role.specs.declared.frames.Frame.{Frame}
 use Rattle.flat_role.specs.declared.frames.Frame as frame
-use Rattle.flat_role.specs.Frames.{marked, frame_process, is_open, is_placed, is_plain}
+use Rattle.flat_role.specs.Frames.{marked_over, frame_process, is_open, is_placed, leaves_nothing}
 use Rattle.process_steps.specs.Steps.{ended, after, offers, is_offered}
 
 pub at_placed : (n p : ℕ) → p < n → is_placed n (frame.At p) ≡ true
@@ -23,17 +23,17 @@ at_placed n p h = lt-ltb p n h
 pub placed_at : (n p : ℕ) → is_placed n (frame.At p) ≡ true → p < n
 placed_at n p h = ltb-true p n h
 
-pub ended_marked : (b : Bool) (P : Process) → ended (marked b P) ≡ (b || ended P)
+pub ended_marked : (b : Bool) (P : Process) → ended (marked_over b P) ≡ (b || ended P)
 ended_marked false P = refl
 ended_marked true P = ⊎_elim
     (λ yes. ap ended (cond-true (ended P) P Skip yes) ∙ yes)
     (λ no. ap ended (cond-false (ended P) P Skip no))
     (cases_Bool (ended P))
 
-pub marked_ended : (P : Process) → marked (ended P) P ≡ P
+pub marked_ended : (P : Process) → marked_over (ended P) P ≡ P
 marked_ended P = ⊎_elim
-    (λ yes. ap (λ b. marked b P) yes ∙ cond-true (ended P) P Skip yes)
-    (λ no. ap (λ b. marked b P) no)
+    (λ yes. ap (λ b. marked_over b P) yes ∙ cond-true (ended P) P Skip yes)
+    (λ no. ap (λ b. marked_over b P) no)
     (cases_Bool (ended P))
 
 over_offers : (me : Role) (P : Process) → ended P ≡ true → offers me P ≡ []
@@ -51,22 +51,22 @@ over_offers me (Gather (k ∷ ks)) h = cc
 over_offers me P h = cc
 
 -- what is marked as over offers nothing and does nothing
-pub offers_marked : (me : Role) (P : Process) → offers me (marked true P) ≡ []
-offers_marked me P = over_offers me (marked true P) (ended_marked true P)
+pub offers_marked : (me : Role) (P : Process) → offers me (marked_over true P) ≡ []
+offers_marked me P = over_offers me (marked_over true P) (ended_marked true P)
 
 -- what two parts offer, of which one or both are over
 pub none_offered : (me : Role) (b d : Bool) (P Q : Process) (acts : List Act) → b ≡ true → d ≡ true
-    → acts ≡ acts ++ (offers me (marked b P) ++ offers me (marked d Q))
+    → acts ≡ acts ++ (offers me (marked_over b P) ++ offers me (marked_over d Q))
 none_offered me b d P Q acts left right =
-    sym (ap₂ (λ x y. acts ++ (offers me (marked x P) ++ offers me (marked y Q))) left right
+    sym (ap₂ (λ x y. acts ++ (offers me (marked_over x P) ++ offers me (marked_over y Q))) left right
     ∙ ap₂ (λ x y. acts ++ (x ++ y)) (offers_marked me P) (offers_marked me Q)
     ∙ append-nil acts)
 
 pub left_offered : (me : Role) (b d : Bool) (P Q : Process) (acts : List Act) → b ≡ false
     → d ≡ true
-    → acts ++ offers me P ≡ acts ++ (offers me (marked b P) ++ offers me (marked d Q))
+    → acts ++ offers me P ≡ acts ++ (offers me (marked_over b P) ++ offers me (marked_over d Q))
 left_offered me b d P Q acts left right =
-    sym (ap₂ (λ x y. acts ++ (offers me (marked x P) ++ offers me (marked y Q))) left right
+    sym (ap₂ (λ x y. acts ++ (offers me (marked_over x P) ++ offers me (marked_over y Q))) left right
     ∙ ap (λ x. acts ++ (offers me P ++ x)) (offers_marked me Q)
     ∙ ap (λ x. acts ++ x) (append-nil (offers me P)))
 
@@ -74,14 +74,14 @@ nothing : {A : Type 0} (o : Option A) → is_some o ≡ false → o ≡ None
 nothing None h = refl
 nothing (Some x) h = cc
 
-pub acting_marked : (me : Role) (a : Act) (P : Process) → acting me a (marked true P) ≡ None
-acting_marked me a P = nothing (acting me a (marked true P))
-    (acting-offered me a (marked true P) ∙ ap (is_offered a) (offers_marked me P))
+pub acting_marked : (me : Role) (a : Act) (P : Process) → acting me a (marked_over true P) ≡ None
+acting_marked me a P = nothing (acting me a (marked_over true P))
+    (acting-offered me a (marked_over true P) ∙ ap (is_offered a) (offers_marked me P))
 
 -- the part that does an act isn't over, so it is open
 module _ (done : List Process) (me : Role) (a : Act) where
   pub acts_left : (over : Bool) (F : Frame) → (over || is_open done F) ≡ true
-      → is_some (acting me a (marked over (frame_process done F))) ≡ true
+      → is_some (acting me a (marked_over over (frame_process done F))) ≡ true
       → (is_open done F ≡ true) × (is_some (acting me a (frame_process done F)) ≡ true)
   acts_left true F opened acts =
       let none = ap is_some (acting_marked me a (frame_process done F)) in cc
@@ -89,10 +89,10 @@ module _ (done : List Process) (me : Role) (a : Act) where
 
   pub acts_right : (P : Process) (over : Bool) (G : Frame) → (over || is_open done G) ≡ true
       → is_some (acting me a P) ≡ false
-      → is_some (acting me a (Par P (marked over (frame_process done G)))) ≡ true
+      → is_some (acting me a (Par P (marked_over over (frame_process done G)))) ≡ true
       → (is_open done G ≡ true) × (is_some (acting me a (frame_process done G)) ≡ true)
   acts_right P over G opened none acts = acts_left over G opened
-      (second (acting me a P) (acting me a (marked over (frame_process done G))) none acts)
+      (second (acting me a P) (acting me a (marked_over over (frame_process done G))) none acts)
     where
       second : (o p : Option Process) → is_some o ≡ false → is_some (option_or o p) ≡ true
           → is_some p ≡ true
@@ -106,7 +106,7 @@ pub longer_through : (a b c : List Op) → Extends a b → Extends b c → Exten
 longer_through = extends_through
 
 -- the linked op stands
-pub linked_at : (ops : List Op) (p : ℕ) (P : Process) → IsAt ops p P
+pub linked_at : (ops : List Op) (p : ℕ) (P : Process) → IsProcessAt ops p P
     → (frame_process (processes ops) (frame.At p) ≡ P)
     × (is_placed (length ops) (frame.At p) ≡ true)
 linked_at ops p P stood = (stood.stands, lt-ltb p (length ops) stood.inside)
@@ -135,11 +135,11 @@ pub keeps_frame : (old new : List Op) (F : Frame) → Extends old new
 keeps_frame old new (frame.At p) more h = keeps_at old new more p (ltb-true p (length old) h)
 keeps_frame old new (frame.Seq' first_over _ F _ G) more h =
     let both = and_parts (is_placed (length old) F) (is_placed (length old) G) h in
-    ap₂ (λ P Q. Seq (marked first_over P) Q)
+    ap₂ (λ P Q. Seq (marked_over first_over P) Q)
     (keeps_frame old new F more both.0) (keeps_frame old new G more both.1)
 keeps_frame old new (frame.Par' left_over _ F right_over _ G) more h =
     let both = and_parts (is_placed (length old) F) (is_placed (length old) G) h in
-    ap₂ (λ P Q. Par (marked left_over P) (marked right_over Q))
+    ap₂ (λ P Q. Par (marked_over left_over P) (marked_over right_over Q))
     (keeps_frame old new F more both.0) (keeps_frame old new G more both.1)
 keeps_frame old new F more h = refl
 
@@ -154,13 +154,13 @@ under_test true h = cc
 under_test false h = cc
 
 -- a plain op is changed itself, and nothing is left of it
-pub replaced_plain : (me : Role) (a : Act) (P : Process) (c : Change) → is_plain P ≡ true
+pub replaced_plain : (me : Role) (a : Act) (P : Process) (c : Change) → leaves_nothing P ≡ true
     → replaced me a P c ≡ changed c P
 replaced_plain me a (Seq P Q) c h = cc
 replaced_plain me a (Par P Q) c h = cc
 replaced_plain me a P c h = refl
 
-pub rest_of_plain : (P : Process) → is_plain P ≡ true → rest_of P ≡ Skip
+pub rest_of_plain : (P : Process) → leaves_nothing P ≡ true → rest_of P ≡ Skip
 rest_of_plain (Tell ms) h = cc
 rest_of_plain (Gather ks) h = cc
 rest_of_plain P h = refl

@@ -8,7 +8,7 @@ use Rattle.dpoc_process.specs.declared.runs.Got.{Got}
 use Rattle.dpoc_process.specs.Handed.{Brings, IsEnabled, given_like, handed}
 use Rattle.dpoc_process.specs.LocalStates.{LocalState, local_done, offered}
 use Rattle.dpoc_process.specs.RoleSteps.{IsStep}
-use Rattle.flat_role.specs.Plays.{AddsEntry, CanPlay, Played, Plays, PlaysAgree, PlaysFront, acts_of, played, then_plays, with_entry}
+use Rattle.flat_role.specs.Plays.{AddsEntry, CanPlay, PlayedSoFar, Plays, PlaysAgree, PlaysFront, acts_of, played, then_plays, with_entry}
 use Rattle.process_steps.proofs.Lemmas.{offers-are_steps}
 use Rattle.process_steps.specs.Steps.{Given, is_offered}
 
@@ -84,7 +84,7 @@ pub plays-agree : PlaysAgree
 plays-agree s xs ys givens same can other_can old new other last end plays other_plays =
     let one = plays givens can in
     let two = other_plays givens other_can in
-    let both : ◌≡◌ {A = Played} (Does one.0 last) (Does two.0 end) =
+    let both : ◌≡◌ {A = PlayedSoFar} (Does one.0 last) (Does two.0 end) =
     sym one.1 ∙ ap (λ acts. played s acts givens) same ∙ two.1 in
     let entries : one.0 ≡ two.0 = cc in
     (one.2 ∙ ap (λ es. old ++ es) entries ∙ sym two.2, cc)

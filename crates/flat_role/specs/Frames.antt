@@ -8,9 +8,9 @@ use Rattle.flat_role.specs.declared.frames.Frame as frame
 use Rattle.process_steps.specs.Steps.{ended}
 
 -- a part that is known to be over is one that has ended, else it is what it is
-abbrev pub marked : Bool → Process → Process
-marked true P = if ended P then P else Skip
-marked false P = P
+abbrev pub marked_over : Bool → Process → Process
+marked_over true P = if ended P then P else Skip
+marked_over false P = P
 
 -- the process of a frame over code whose processes are these
 abbrev pub frame_process : List Process → Frame → Process
@@ -20,9 +20,10 @@ frame_process done (frame.Telling ms) = Tell (letters ms)
 frame_process done (frame.Gathering ks) = Gather ks.items
 frame_process done (frame.Arrived P) = process P
 frame_process done (frame.Seq' first_over _ F _ G) =
-    Seq (marked first_over (frame_process done F)) (frame_process done G)
+    Seq (marked_over first_over (frame_process done F)) (frame_process done G)
 frame_process done (frame.Par' left_over _ F right_over _ G) =
-    Par (marked left_over (frame_process done F)) (marked right_over (frame_process done G))
+    Par (marked_over left_over (frame_process done F))
+    (marked_over right_over (frame_process done G))
 
 -- each place in the frame is one of the first n of the code
 abbrev pub is_placed : ℕ → Frame → Bool
@@ -41,14 +42,14 @@ is_linked F = true
 
 -- an op of which nothing is left once it has acted: neither a sequence nor a parallel, nor a tell
 -- or a gather
-abbrev pub is_plain : Process → Bool
-is_plain (Tell ms) = false
-is_plain (Gather ks) = false
-is_plain P = is_single P
+abbrev pub leaves_nothing : Process → Bool
+leaves_nothing (Tell ms) = false
+leaves_nothing (Gather ks) = false
+leaves_nothing P = is_single P
 
 -- each leaf that may act is linked, and a place of the code among them is that of a plain op
 abbrev pub is_open : List Process → Frame → Bool
-is_open done (frame.At p) = is_plain (at done p)
+is_open done (frame.At p) = leaves_nothing (at done p)
 is_open done (frame.Arrived P) = false
 is_open done (frame.Seq' first_over _ F _ G) =
     if first_over || ended (frame_process done F) then is_open done G else is_open done F

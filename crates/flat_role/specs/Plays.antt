@@ -11,20 +11,20 @@ use Rattle.dpoc_process.specs.RoleSteps.{entry_before}
 use Rattle.process_steps.specs.Steps.{Deed, Given}
 
 -- the entries so far, and then the role
-abbrev pub Played : Type 0
-Played = Attempt (List (Option Entry)) LocalState
+abbrev pub PlayedSoFar : Type 0
+PlayedSoFar = Attempt (List (Option Entry)) LocalState
 
-abbrev pub with_entry : Option Entry → Played → Played
+abbrev pub with_entry : Option Entry → PlayedSoFar → PlayedSoFar
 with_entry e Stuck = Stuck
 with_entry e (Does es s) = Does (e ∷ es) s
 
-abbrev pub then_plays : Attempt Deed Process → (Deed → Process → Played) → Played
+abbrev pub then_plays : Attempt Deed Process → (Deed → Process → PlayedSoFar) → PlayedSoFar
 then_plays Stuck rest = Stuck
 then_plays (Does d P) rest = with_entry (entry_before d) (rest d P)
 
 -- what a role does by acts, each with what comes to it from outside: the entries, each as far as it
 -- is known before its act, and the role after them
-abbrev pub played : LocalState → List Act → List Given → Played
+abbrev pub played : LocalState → List Act → List Given → PlayedSoFar
 played s [] givens = Does [] s
 played s (a ∷ acts) [] = Stuck
 played s (a ∷ acts) (given ∷ givens) =

@@ -1,5 +1,5 @@
 -- Which auxiliary move comes first, that a network without one is quiet, and that a played entry that may come can be done.
-use Rattle.std.proofs.Common.{◌≡◌, ◌⊎◌, ℕ, List, [], ◌∷◌, ◌++◌, Bool, true, false, ◌&&◌, ◌||◌, not, map, filter, flat_map, if◌then◌else◌, cond, Option, Some, None, IsSome, is_some, refl, sym, ap, ap₂, ◌∙◌, subst, inl, inr, ⊎_elim}
+use Rattle.std.proofs.Common.{◌≡◌, List, [], ◌∷◌, ◌++◌, Bool, true, false, ◌&&◌, not, map, filter, flat_map, if◌then◌else◌, Option, Some, None, IsSome, is_some, refl, sym, ap, ap₂, ◌∙◌, subst, ⊎_elim}
 use Rattle.std.specs.Prelude.{option_and_then}
 use Rattle.std.specs.List.{find, list_any}
 use Rattle.std.proofs.lemmas.Bool.{and_parts, and_from, or_left, or_right, or_cases, cases_Bool, cond-true, cond-false, both_ways}
@@ -11,7 +11,7 @@ use Rattle.dioc_terms.specs.declared.entries.Act.{Act}
 use Rattle.dioc_terms.specs.declared.entries.Act.TheVariants as act
 use Rattle.dioc_terms.specs.declared.entries.Entry.{Entry}
 use Rattle.dioc_terms.specs.declared.entries.Entry.TheVariants as entry
-use Rattle.dioc_terms.specs.Equality.{role_eq, act_eq, entry_eq, member}
+use Rattle.dioc_terms.specs.Equality.{role_eq, act_eq, member}
 use Rattle.dioc_terms.specs.Attempts.{Attempt, Stuck, Does}
 use Rattle.dioc_terms.specs.Messages.{is_aux, doer, act_of, visible}
 use Rattle.dioc_terms.specs.Plain.{PlainBundle, Setting, setting}
@@ -20,7 +20,7 @@ use Rattle.process_steps.specs.Laws.{given_fits, is_done, load_fits, OffersAreSt
 use Rattle.process_steps.specs.Steps.{Deed, Puts, Takes, Sets, Inputs, Picks, Chooses, Given, Alone, Got, entry_of, offers, is_offered, step}
 use Rattle.global_steps.specs.Follow.{State, follow, play}
 use Rattle.drive_laws.specs.Laws.{is_aux_act, IsQuiet}
-use Rattle.drive_laws.proofs.Lost.{Placed, placed_run, follow_plays, step_by, after_that, change_ready}
+use Rattle.drive_laws.proofs.Lost.{placed_run, follow_plays, step_by, after_that, change_ready}
 use Rattle.drive_laws.proofs.PlayedParts.{played_visible, played_one}
 use Rattle.marked_laws.specs.Laws.{IsSound}
 use Rattle.marked_laws.specs.Network.{Network, NextNetwork, given_at, pending_at, act_step, network_start, network_run, network_step, network_ended}

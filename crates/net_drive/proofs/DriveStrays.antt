@@ -5,11 +5,10 @@ use Rattle.std.specs.List.{list_all}
 use Rattle.std.specs.Option.{option_map_or}
 use Rattle.std.proofs.lemmas.Bool.{and_parts}
 use Rattle.std.proofs.lemmas.List.Folds.{list_all-append}
-use Rattle.dioc_terms.specs.declared.bundles.Bundle.{Bundle}
 use Rattle.dioc_terms.specs.declared.entries.Entry.{Entry}
 use Rattle.dioc_terms.specs.Messages.{is_aux, visible}
-use Rattle.dioc_terms.specs.Plain.{PlainBundle, Setting, plain, setting}
-use Rattle.global_steps.specs.Follow.{State, follow, play, play_from, play_start}
+use Rattle.dioc_terms.specs.Plain.{PlainBundle, Setting, setting}
+use Rattle.global_steps.specs.Follow.{State, follow, play_from, play_start}
 use Rattle.global_steps.specs.Settled.{SettledFrom}
 use Rattle.global_steps.proofs.Lemmas.{plays-go_on}
 use Rattle.marked_laws.specs.Laws.{IsSound}
@@ -21,7 +20,7 @@ use Rattle.net_drive.specs.Driving.{IsStuckAt}
 use Rattle.net_drive.specs.Laws.{DrivenExactly, SameTraces, StraysAreExact}
 use Rattle.net_drive.specs.Strays.{DriveStraysAreExact, IsDrivable, IsDriveStray, drive_stray, drive_stray_from}
 use Rattle.net_drive.proofs.Driving.{and_then_got}
-use Rattle.role_network.specs.Nets.{NetState, bundle_of}
+use Rattle.role_network.specs.Nets.{NetState}
 
 -- ---- parts of traces
 
@@ -161,18 +160,18 @@ drive_strays_are_exact exact = record {
 -- ---- a net that is stuck
 
 -- where a net has been driven through a part of the trace and is stuck at the next entry, that is the first stray
-pub stuck_stray : SameTraces → StraysAreExact → (start net : NetState) (before later : List Entry) (e : Entry) (trace : List Entry) → IsSound (bundle_of start)
+pub stuck_stray : SameTraces → StraysAreExact → (start net : NetState) (before later : List Entry) (e : Entry) (trace : List Entry) → IsSound start.bundle
     → net.bundle ≡ start.bundle → visible net.history ≡ before → IsStuckAt net e → before ++ e ∷ later ≡ trace
-    → IsDriveStray (bundle_of start) trace (suc (length before))
+    → IsDriveStray start.bundle trace (suc (length before))
 stuck_stray same exact start net before later e trace sound bundle shows stuck splits =
-    let b : PlainBundle = bundle_of start in
+    let b : PlainBundle = start.bundle in
     let seen : visible stuck.history ≡ before = stuck.shows ∙ shows in
     let runs : network_run b stuck.history ≡ Some stuck.network =
-    subst (λ (B : Bundle). network_run (plain B) stuck.history ≡ Some stuck.network) bundle stuck.runs in
+    subst (λ (B : PlainBundle). network_run B stuck.history ≡ Some stuck.network) bundle stuck.runs in
     let strays : network_step (setting b) stuck.network e ≡ None =
-    subst (λ (B : Bundle). network_step (setting (plain B)) stuck.network e ≡ None) bundle stuck.strays in
+    subst (λ (B : PlainBundle). network_step (setting B) stuck.network e ≡ None) bundle stuck.strays in
     let why : (may_come stuck.network e ≡ true) ⊎ (first_auxiliary (setting b) stuck.network ≡ None) =
-    subst (λ (B : Bundle). (may_come stuck.network e ≡ true) ⊎ (first_auxiliary (setting (plain B)) stuck.network ≡ None)) bundle stuck.why in
+    subst (λ (B : PlainBundle). (may_come stuck.network e ≡ true) ⊎ (first_auxiliary (setting B) stuck.network ≡ None)) bundle stuck.why in
     record {
       before = before;
       entry = e;

@@ -1,9 +1,9 @@
 -- Driving a trace: each settled trace that the choreography plays is driven, and what is driven is a run that shows the trace.
-use Rattle.std.proofs.Common.{◌≡◌, ◌⊎◌, ◌≤◌, ◌<◌, ℕ, zero, suc, ◌+◌, ◌*◌, List, [], ◌∷◌, ◌++◌, length, Bool, true, false, ◌&&◌, not, if◌then◌else◌, Option, Some, None, IsSome, IfSome, refl, sym, ap, ap₂, ◌∙◌, subst, inl, inr, ⊎_elim, arith, length-append, append-nil}
-use Rattle.std.specs.Prelude.{option_map, option_and_then}
+use Rattle.std.proofs.Common.{◌≡◌, ◌≤◌, ℕ, zero, suc, ◌+◌, ◌*◌, List, [], ◌∷◌, ◌++◌, length, Bool, true, false, not, Option, Some, None, IsSome, IfSome, refl, sym, ap, ◌∙◌, subst, arith, length-append, append-nil}
+use Rattle.std.specs.Prelude.{option_and_then}
 use Rattle.std.specs.List.{list_all}
 use Rattle.std.specs.Option.{option_map_or}
-use Rattle.std.proofs.lemmas.Bool.{and_parts, cases_Bool, cond-true, cond-false, both_ways, not-true, not_from_true, not_from_false}
+use Rattle.std.proofs.lemmas.Bool.{and_parts, cond-true, cond-false, both_ways, not-true, not_from_true, not_from_false}
 use Rattle.std.proofs.lemmas.List.Elements.{filter-append}
 use Rattle.dioc_terms.specs.declared.names.Role.{Role}
 use Rattle.dioc_terms.specs.declared.entries.Entry.{Entry}
@@ -12,14 +12,13 @@ use Rattle.dioc_terms.specs.Messages.{is_aux, doer, visible}
 use Rattle.dioc_terms.specs.Plain.{PlainBundle, Setting, setting}
 use Rattle.process_steps.specs.Laws.{OffersAreSteps}
 use Rattle.global_steps.specs.Follow.{State, book_choice, follow, play, play_from, play_start}
-use Rattle.global_steps.specs.Laws.{PlaysGoOn}
-use Rattle.global_steps.specs.Settled.{Settled, SettledFrom}
+use Rattle.global_steps.specs.Settled.{SettledFrom}
 use Rattle.global_steps.proofs.Lemmas.{plays-go_on}
 use Rattle.drive_laws.specs.Laws.{IsQuiet, Readiness, AuxiliaryEnds}
 use Rattle.drive_laws.proofs.Lost.{follow_plays}
 use Rattle.drive_laws.proofs.PlayedParts.{played_visible}
 use Rattle.marked_laws.specs.Laws.{IsSound}
-use Rattle.marked_laws.specs.Network.{Network, NextNetwork, network_start, network_run, network_step, run_from}
+use Rattle.marked_laws.specs.Network.{Network, NextNetwork, network_run, network_step, run_from}
 use Rattle.marked_laws.proofs.Premise.{Known}
 use Rattle.marked_laws.proofs.Shapes.{none_some, some_same}
 use Rattle.net_core.proofs.MoveLemmas.{some_got}

@@ -1,6 +1,5 @@
 -- What is driven is exactly what the choreography plays and what is settled.
-use Rattle.std.proofs.Common.{◌≡◌, ◌⊎◌, ◌≤◌, ◌<◌, ◌↔◌, ℕ, suc, ◌+◌, ◌*◌, List, [], ◌∷◌, ◌++◌, length, Bool, true, false, not, Option, Some, None, IsSome, IfSome, IsSomeAnd, refl, sym, ap, ◌∙◌, subst, inl, inr, ⊎_elim, arith}
-use Rattle.std.specs.Prelude.{option_and_then}
+use Rattle.std.proofs.Common.{◌≡◌, ◌≤◌, ℕ, suc, ◌+◌, ◌*◌, List, [], ◌∷◌, ◌++◌, length, true, not, Option, Some, IsSome, IfSome, IsSomeAnd, refl, sym, ◌∙◌, subst, ⊎_elim, arith}
 use Rattle.std.specs.List.{list_all}
 use Rattle.std.proofs.lemmas.Bool.{and_from, not_from_false}
 use Rattle.dioc_terms.specs.declared.entries.Entry.{Entry}
@@ -16,8 +15,8 @@ use Rattle.marked_laws.specs.Network.{Network, network_start, network_run, netwo
 use Rattle.marked_laws.proofs.Premise.{Known}
 use Rattle.marked_laws.proofs.Shapes.{none_some, some_same}
 use Rattle.net_core.proofs.MoveLemmas.{some_got}
-use Rattle.net_drive.specs.Driven.{driven_from, turns_for, driven, first_auxiliary, may_come}
-use Rattle.net_drive.specs.Laws.{Drives, DrivenRuns, IsVisibleOfRun, SameTraces, DrivenExactly, StraysAreExact}
+use Rattle.net_drive.specs.Driven.{turns_for, driven}
+use Rattle.net_drive.specs.Laws.{Drives, DrivenRuns, SameTraces, DrivenExactly, StraysAreExact}
 use Rattle.net_drive.proofs.Coming.{none_quiet, comes}
 use Rattle.net_drive.proofs.Driving.{follow_shown, and_then_got, Drove, drove, drives}
 

@@ -1,21 +1,19 @@
 -- A net that is driven on: how far it has come, step by step, and what that is of the whole.
-use Rattle.std.proofs.Common.{◌≡◌, ◌⊎◌, ◌≤◌, ◌<◌, ◌+◌, ◌-◌, ◌*◌, ℕ, zero, suc, List, [], ◌∷◌, ◌++◌, length, take, drop, get_or, Bool, true, false, not, Option, Some, None, IsSome, refl, sym, ap, ap₂, ◌∙◌, subst, inl, inr, arith, append_assoc, length-append, append-nil}
+use Rattle.std.proofs.Common.{◌≡◌, ◌⊎◌, ◌≤◌, ◌<◌, ◌+◌, ◌-◌, ◌*◌, ℕ, zero, suc, List, [], ◌∷◌, ◌++◌, length, take, drop, get_or, Bool, true, false, not, Option, Some, None, refl, sym, ap, ap₂, ◌∙◌, subst, arith, append_assoc, length-append, append-nil}
 use Rattle.std.specs.Prelude.{if◌then◌else◌, nat_lt, option_and_then}
-use Rattle.std.proofs.lemmas.Bool.{cases_Bool, both_ways, cond-true, cond-false, ltb-false, not_from_true, not_from_false}
+use Rattle.std.proofs.lemmas.Bool.{both_ways, cond-true, cond-false, ltb-false, not_from_true, not_from_false}
 use Rattle.std.proofs.lemmas.List.Elements.{filter-append}
 use Rattle.std.proofs.lemmas.List.{drop_more, take_more}
 use Rattle.std.proofs.lemmas.List.Folds.{list_all_at}
 use Rattle.std.specs.List.{list_all}
 use Rattle.std.proofs.lemmas.Nat.{mul-le}
-use Rattle.dioc_terms.specs.declared.bundles.Bundle.{Bundle}
 use Rattle.dioc_terms.specs.declared.entries.Entry.{Entry}
 use Rattle.dioc_terms.specs.Messages.{is_aux, visible}
-use Rattle.dioc_terms.specs.Plain.{PlainBundle, Setting, plain, setting}
+use Rattle.dioc_terms.specs.Plain.{PlainBundle, Setting, setting}
 use Rattle.drive_laws.specs.Laws.{AuxiliaryEnds}
-use Rattle.marked_laws.specs.Laws.{IsSound}
 use Rattle.marked_laws.specs.Network.{Network, NextNetwork, network_run, network_start, network_step}
-use Rattle.marked_laws.proofs.Shapes.{none_some, some_same}
-use Rattle.net_drive.specs.Driven.{driven, driven_from, first_auxiliary, may_come, put_before, turns_for}
+use Rattle.marked_laws.proofs.Shapes.{none_some}
+use Rattle.net_drive.specs.Driven.{driven, driven_from, first_auxiliary, may_come, put_before}
 use Rattle.net_drive.specs.Driving.{DrivesOn, HasCome, HasRoom, IsStuckAt, put_all}
 use Rattle.net_drive.proofs.Driving.{comes_now, ends_goes, ends_rest, waits_on}
 use Rattle.rule_checks.specs.declared.refusals.Refusal.{Refusal}
@@ -24,7 +22,7 @@ use Rattle.rule_checks.specs.declared.refusals.Which.{Which}
 use Rattle.rule_checks.specs.declared.refusals.Which.TheVariants.{Nodes, Roles}
 use Rattle.rule_checks.specs.Refusals.{IsAccepted, first_refusal, too_many}
 use Rattle.dioc_terms.specs.Terms.{nodes}
-use Rattle.role_network.specs.Nets.{IsSoundRun, NetState, bundle_of, network_at, network_of}
+use Rattle.role_network.specs.Nets.{IsSoundRun, NetState, network_at, network_of}
 use Rattle.role_network.specs.Steps.{GoesOn}
 use Rattle.schedule.proofs.UpdateLemmas.{few_updates}
 
@@ -50,7 +48,7 @@ stay net rest = record {
   made = [];
   history = sym (append-nil net.history);
   shows = refl;
-  leads = λ count. ap (λ n. driven_from (setting (bundle_of net)) n (network_of net) rest) (none_more count);
+  leads = λ count. ap (λ n. driven_from (setting net.bundle) n (network_of net) rest) (none_more count);
   bundle = refl;
   limit = refl;
 }
@@ -65,15 +63,15 @@ join a b c shown later rest f g = record {
   history = g.history ∙ ap (λ h. h ++ g.made) f.history ∙ append_assoc a.history f.made g.made;
   shows = filter-append (λ e. not (is_aux e)) f.made g.made ∙ ap₂ (λ xs ys. xs ++ ys) f.shows g.shows;
   leads = λ count.
-      let more : driven_from (setting (bundle_of a)) (length g.made + count) (network_of b) (later ++ rest)
-      ≡ put_all g.made (driven_from (setting (bundle_of a)) count (network_of c) rest) =
-      subst (λ (B : Bundle). driven_from (setting (plain B)) (length g.made + count) (network_of b) (later ++ rest)
-      ≡ put_all g.made (driven_from (setting (plain B)) count (network_of c) rest)) f.bundle (g.leads count) in
-      ap₂ (λ n t. driven_from (setting (bundle_of a)) n (network_of a) t)
+      let more : driven_from (setting a.bundle) (length g.made + count) (network_of b) (later ++ rest)
+      ≡ put_all g.made (driven_from (setting a.bundle) count (network_of c) rest) =
+      subst (λ (B : PlainBundle). driven_from (setting B) (length g.made + count) (network_of b) (later ++ rest)
+      ≡ put_all g.made (driven_from (setting B) count (network_of c) rest)) f.bundle (g.leads count) in
+      ap₂ (λ n t. driven_from (setting a.bundle) n (network_of a) t)
       (both_counts (length f.made) (length g.made) (length (f.made ++ g.made)) count (length-append f.made g.made)) (append_assoc shown later rest)
       ∙ f.leads (length g.made + count)
       ∙ ap (put_all f.made) more
-      ∙ sym (put_both f.made g.made (driven_from (setting (bundle_of a)) count (network_of c) rest));
+      ∙ sym (put_both f.made g.made (driven_from (setting a.bundle) count (network_of c) rest));
   bundle = g.bundle ∙ f.bundle;
   limit = g.limit ∙ f.limit;
 }
@@ -91,16 +89,16 @@ turn_goes b count N (e ∷ es) outcome some waits =
     waits_on b count N e es waits
     ∙ ap (option_and_then (λ (o : NextNetwork). put_before o.entry (driven_from b count o.network (e ∷ es)))) some
 
-pub aux_on : (old new : NetState) (rest : List Entry) (outcome : NextNetwork) → first_auxiliary (setting (bundle_of old)) (network_of old) ≡ Some outcome
+pub aux_on : (old new : NetState) (rest : List Entry) (outcome : NextNetwork) → first_auxiliary (setting old.bundle) (network_of old) ≡ Some outcome
     → is_aux outcome.entry ≡ true → GoesOn old outcome new → Waits (network_of old) rest → DrivesOn old new [] rest
 aux_on old new rest outcome some aux goes waits = record {
   made = outcome.entry ∷ [];
   history = goes.history;
   shows = cond-false (not (is_aux outcome.entry)) (outcome.entry ∷ []) [] (not_from_true (is_aux outcome.entry) aux);
   leads = λ count.
-      ap (λ n. driven_from (setting (bundle_of old)) n (network_of old) rest) (one_more count)
-      ∙ turn_goes (setting (bundle_of old)) count (network_of old) rest outcome some waits
-      ∙ ap (λ (N : Network). put_before outcome.entry (driven_from (setting (bundle_of old)) count N rest)) (sym goes.network);
+      ap (λ n. driven_from (setting old.bundle) n (network_of old) rest) (one_more count)
+      ∙ turn_goes (setting old.bundle) count (network_of old) rest outcome some waits
+      ∙ ap (λ (N : Network). put_before outcome.entry (driven_from (setting old.bundle) count N rest)) (sym goes.network);
   bundle = goes.bundle;
   limit = goes.limit;
 }
@@ -112,9 +110,9 @@ come_on old new e rest come shown = record {
   history = come.history;
   shows = cond-true (not (is_aux e)) (e ∷ []) [] (not_from_false (is_aux e) shown);
   leads = λ count.
-      ap (λ n. driven_from (setting (bundle_of old)) n (network_of old) (e ∷ rest)) (one_more count)
-      ∙ comes_now (setting (bundle_of old)) count (network_of old) e rest come.may
-      ∙ ap (option_and_then (λ next. put_before e (driven_from (setting (bundle_of old)) count next rest))) come.steps;
+      ap (λ n. driven_from (setting old.bundle) n (network_of old) (e ∷ rest)) (one_more count)
+      ∙ comes_now (setting old.bundle) count (network_of old) e rest come.may
+      ∙ ap (option_and_then (λ next. put_before e (driven_from (setting old.bundle) count next rest))) come.steps;
   bundle = come.made.goes.bundle;
   limit = come.made.goes.limit;
 }
@@ -127,7 +125,7 @@ shows_more old new shown rest on =
 
 pub room_stays : (old new : NetState) (rest : List Entry) → DrivesOn old new [] rest → HasRoom old → HasRoom new
 room_stays old new rest on room = record {
-  roles = subst (λ (B : Bundle). length (plain B).cast ≤ 32) (sym on.bundle) room.roles;
+  roles = subst (λ (B : PlainBundle). length B.cast ≤ 32) (sym on.bundle) room.roles;
   entries = subst (λ t. length t ≤ 1000000) (sym (shows_more old new [] rest on ∙ append-nil (visible old.history))) room.entries;
   limit = on.limit ∙ room.limit;
 }
@@ -136,10 +134,10 @@ pub stuck_before : (old new : NetState) (rest : List Entry) (e : Entry) → Driv
 stuck_before old new rest e on stuck = record {
   history = stuck.history;
   network = stuck.network;
-  runs = subst (λ (B : Bundle). network_run (plain B) stuck.history ≡ Some stuck.network) on.bundle stuck.runs;
+  runs = subst (λ (B : PlainBundle). network_run B stuck.history ≡ Some stuck.network) on.bundle stuck.runs;
   shows = stuck.shows ∙ shows_more old new [] rest on ∙ append-nil (visible old.history);
-  strays = subst (λ (B : Bundle). network_step (setting (plain B)) stuck.network e ≡ None) on.bundle stuck.strays;
-  why = subst (λ (B : Bundle). (may_come stuck.network e ≡ true) ⊎ (first_auxiliary (setting (plain B)) stuck.network ≡ None)) on.bundle stuck.why;
+  strays = subst (λ (B : PlainBundle). network_step (setting B) stuck.network e ≡ None) on.bundle stuck.strays;
+  why = subst (λ (B : PlainBundle). (may_come stuck.network e ≡ true) ⊎ (first_auxiliary (setting B) stuck.network ≡ None)) on.bundle stuck.why;
 }
 
 -- ---- through the entries, one by one
@@ -151,7 +149,7 @@ shown_so_far start net shown rest on fresh = shows_more start net shown rest on 
 -- the room stays
 pub room_on : (start net : NetState) (shown rest : List Entry) → DrivesOn start net shown rest → start.history ≡ [] → length shown ≤ 1000000 → HasRoom start → HasRoom net
 room_on start net shown rest on fresh few room = record {
-  roles = subst (λ (B : Bundle). length (plain B).cast ≤ 32) (sym on.bundle) room.roles;
+  roles = subst (λ (B : PlainBundle). length B.cast ≤ 32) (sym on.bundle) room.roles;
   entries = subst (λ t. length t ≤ 1000000) (sym (shown_so_far start net shown rest on fresh)) few;
   limit = on.limit ∙ room.limit;
 }
@@ -174,8 +172,8 @@ few_entries h v r w within is few roles = omega (arith, within, mul-le v w 10000
 
 pub short_history : AuxiliaryEnds → (net : NetState) → IsSoundRun net → HasRoom net → length net.history ≤ 193000000
 short_history ends net run room =
-    few_entries (length net.history) (length (visible net.history)) (length (bundle_of net).cast) (suc (6 * length (bundle_of net).cast))
-    (ends (bundle_of net) net.history (network_of net) run.sound run.runs) refl room.entries room.roles
+    few_entries (length net.history) (length (visible net.history)) (length net.bundle.cast) (suc (6 * length net.bundle.cast))
+    (ends net.bundle net.history (network_of net) run.sound run.runs) refl room.entries room.roles
 
 pub has_room : AuxiliaryEnds → (net : NetState) → IsSoundRun net → HasRoom net → length net.history < net.limit
 has_room ends net run room = omega (arith, short_history ends net run room, room.limit)
@@ -199,17 +197,17 @@ fits m p h = omega (arith, h)
 
 -- a net that has been driven through a trace, and rests, has the driven history
 pub whole_driven : AuxiliaryEnds → (start net : NetState) (trace : List Entry) → start.history ≡ [] → IsSoundRun net → DrivesOn start net trace []
-    → first_auxiliary (setting (bundle_of net)) (network_of net) ≡ None → driven (bundle_of start) trace ≡ Some net.history
+    → first_auxiliary (setting net.bundle) (network_of net) ≡ None → driven start.bundle trace ≡ Some net.history
 whole_driven ends start net trace fresh run on rests =
-    let b : PlainBundle = bundle_of start in
+    let b : PlainBundle = start.bundle in
     let same : net.history ≡ on.made = on.history ∙ ap (λ h. h ++ on.made) fresh in
     let most : ℕ = length trace * suc (6 * length b.cast) in
     let within : length on.made ≤ most =
-    subst (λ (B : Bundle). length on.made ≤ length trace * suc (6 * length (plain B).cast)) on.bundle
-    (subst (λ t. length on.made ≤ length t * suc (6 * length (bundle_of net).cast)) on.shows
-    (subst (λ h. length h ≤ length (visible h) * suc (6 * length (bundle_of net).cast)) same
-    (ends (bundle_of net) net.history (network_of net) run.sound run.runs))) in
-    let none : first_auxiliary (setting b) (network_of net) ≡ None = subst (λ (B : Bundle). first_auxiliary (setting (plain B)) (network_of net) ≡ None) on.bundle rests in
+    subst (λ (B : PlainBundle). length on.made ≤ length trace * suc (6 * length B.cast)) on.bundle
+    (subst (λ t. length on.made ≤ length t * suc (6 * length net.bundle.cast)) on.shows
+    (subst (λ h. length h ≤ length (visible h) * suc (6 * length net.bundle.cast)) same
+    (ends net.bundle net.history (network_of net) run.sound run.runs))) in
+    let none : first_auxiliary (setting b) (network_of net) ≡ None = subst (λ (B : PlainBundle). first_auxiliary (setting B) (network_of net) ≡ None) on.bundle rests in
     let first : network_of start ≡ network_start b = ap (network_at b) fresh in
     ap₂ (λ n t. driven_from (setting b) n (network_start b) t) (sym (fits (length on.made) most within)) (sym (append-nil trace))
     ∙ ap (λ (N : Network). driven_from (setting b) (length on.made + suc (most - length on.made)) N (trace ++ [])) (sym first)

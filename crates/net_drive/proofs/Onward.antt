@@ -1,18 +1,15 @@
 -- The history of a resumed run is a run, of which the headline holds.
-use Rattle.std.proofs.Common.{◌≡◌, ◌≤◌, ◌<◌, ◌⊎◌, ℕ, List, length, take, Bool, true, false, Option, IsSome, refl, sym, ap, ◌∙◌, subst, inr, arith, if◌then◌else◌}
+use Rattle.std.proofs.Common.{◌≡◌, ◌≤◌, ◌<◌, length, take, Bool, true, false, IsSome, refl, sym, subst, inr, arith}
 use Rattle.std.specs.Prelude.{nat_le}
 use Rattle.std.proofs.lemmas.Bool.{cond-false, cond-true, leb-false, leb-true}
 use Rattle.std.proofs.lemmas.List.{length-take-le, take_all}
-use Rattle.dioc_terms.specs.declared.entries.Entry.{Entry}
-use Rattle.dioc_terms.specs.Plain.{PlainBundle}
-use Rattle.marked_laws.specs.Network.{Network, network_ended, network_run}
-use Rattle.net_core.specs.Headline.{EveryRun, Headline}
+use Rattle.marked_laws.specs.Network.{network_run}
+use Rattle.net_core.specs.Headline.{EveryRun}
 use Rattle.net_core.specs.Laws.{RunsAreSound}
 use Rattle.net_core.specs.Schedule.{sched_from}
 use Rattle.net_core.proofs.MoveLemmas.{some_got}
 use Rattle.net_drive.specs.ResumedLaws.{IsRunTo, ResumedRuns}
 use Rattle.net_drive.specs.Resumed.{resumed_history}
-use Rattle.rule_checks.specs.Refusals.{IsAccepted}
 
 pub resumed_runs : RunsAreSound → EveryRun → ResumedRuns
 resumed_runs sound every b entries seed limit accepted runs = by_test (nat_le (length entries) limit) refl

@@ -1,18 +1,15 @@
 -- What is noted after the step that an entry shows, and how far a net has done the entries again.
-use Rattle.std.proofs.Common.{◌≡◌, ◌≤◌, ◌<◌, ◌+◌, ◌-◌, ℕ, suc, List, [], ◌∷◌, ◌++◌, length, take, drop, Bool, true, false, true≢false, Option, Some, None, slice_get, refl, sym, ap, ◌∙◌, subst, arith}
-use Rattle.std.specs.Prelude.{if◌then◌else◌}
+use Rattle.std.proofs.Common.{◌≡◌, ◌≤◌, ℕ, suc, List, [], ◌∷◌, ◌++◌, length, take, Bool, true, false, Some, None, slice_get, refl, sym, ap, ◌∙◌, subst}
 use Rattle.std.specs.Option.{option_map_or}
 use Rattle.std.proofs.lemmas.Bool.{cond-false}
-use Rattle.std.proofs.Math.Seq.{take-append_seam}
-use Rattle.dioc_terms.specs.declared.bundles.Bundle.{Bundle}
 use Rattle.dioc_terms.specs.declared.entries.Entry.{Entry}
 use Rattle.dioc_terms.specs.declared.entries.Entry.TheVariants as entry
 use Rattle.dioc_terms.specs.Equality.{entry_eq}
-use Rattle.dioc_terms.specs.Plain.{Setting, plain, setting}
+use Rattle.dioc_terms.specs.Plain.{PlainBundle, Setting, setting}
 use Rattle.marked_laws.specs.Network.{Network, NextNetwork, network_after, network_step}
 use Rattle.marked_laws.proofs.Equality.{entry_same}
 use Rattle.net_core.specs.Schedule.{move_step}
-use Rattle.role_network.specs.Nets.{IsSoundRun, NetState, bundle_of, network_of}
+use Rattle.role_network.specs.Nets.{IsSoundRun, NetState, network_of}
 use Rattle.role_network.specs.Steps.{GoesOn}
 use Rattle.net_drive.specs.declared.resuming.Redone.TheVariants as redone
 use Rattle.net_drive.specs.Making.{Makes, shown_move}
@@ -43,7 +40,7 @@ noted_is old new e noted outcome goes is =
     is ∙ ap (λ o. option_map_or (entry_eq e) o false) (ap (λ h. slice_get h (length old.history)) goes.history ∙ at_end old.history outcome.entry)
 
 -- the entry was done again exactly where it stands there
-pub redoes_noted : (old new : NetState) (e : Entry) (noted : Bool) → Makes (move_step (setting (bundle_of old)) (network_of old) (shown_move e)) old new true
+pub redoes_noted : (old new : NetState) (e : Entry) (noted : Bool) → Makes (move_step (setting old.bundle) (network_of old) (shown_move e)) old new true
     → noted ≡ option_map_or (entry_eq e) (slice_get new.history (length old.history)) false → Redoes old e new noted
 redoes_noted old new e noted made is = by_test noted refl
   where
@@ -53,28 +50,27 @@ redoes_noted old new e noted made is = by_test noted refl
     by_test : (t : Bool) → noted ≡ t → Redoes old e new t
     by_test true h = (made.2).history ∙ ap (λ x. old.history ++ x ∷ []) (sym (entry_same e (made.0).entry (sym same ∙ h)))
     by_test false h =
-        step_shown (setting (bundle_of old)) (network_of old) e ∙ ap (network_after e) made.1
+        step_shown (setting old.bundle) (network_of old) e ∙ ap (network_after e) made.1
         ∙ cond-false (entry_eq e (made.0).entry) (Some (made.0).network) None (sym same ∙ h)
 
 -- nothing was made, so the entry can't be done
-pub redoes_none : (old new : NetState) (e : Entry) → move_step (setting (bundle_of old)) (network_of old) (shown_move e) ≡ None → Redoes old e new false
-redoes_none old new e h = step_shown (setting (bundle_of old)) (network_of old) e ∙ ap (network_after e) h
+pub redoes_none : (old new : NetState) (e : Entry) → move_step (setting old.bundle) (network_of old) (shown_move e) ≡ None → Redoes old e new false
+redoes_none old new e h = step_shown (setting old.bundle) (network_of old) e ∙ ap (network_after e) h
 
 -- an entry that wasn't done again is the first stray of all of them, and of those within the limit
 pub redone_stray : (start old new : NetState) (e : Entry) (later entries : List Entry) (n : ℕ) → IsSoundRun old → old.bundle ≡ start.bundle
     → old.history ++ e ∷ later ≡ entries → n ≡ suc (length old.history) → n ≤ start.limit → Redoes old e new false → IsRedone start entries new (redone.Stray n)
 redone_stray start old new e later entries n run bundle splits number within strays =
-    let same : bundle_of old ≡ bundle_of start = ap plain bundle in
-    let here : IsFirstStray (bundle_of old) entries (suc (length old.history)) =
-    first_stray (bundle_of old) old.history (network_of old) e later entries run.runs strays splits in
-    let first : IsFirstStray (bundle_of start) entries n =
-    subst (λ b. IsFirstStray b entries n) same (subst (IsFirstStray (bundle_of old) entries) (sym number) here) in
-    (within, first, first_counted (bundle_of start) (take start.limit entries) n (first_within (bundle_of start) entries n start.limit within first))
+    let here : IsFirstStray old.bundle entries (suc (length old.history)) =
+    first_stray old.bundle old.history (network_of old) e later entries run.runs strays splits in
+    let first : IsFirstStray start.bundle entries n =
+    subst (λ b. IsFirstStray b entries n) bundle (subst (IsFirstStray old.bundle entries) (sym number) here) in
+    (within, first, first_counted start.bundle (take start.limit entries) n (first_within start.bundle entries n start.limit within first))
 
 -- the count is that of the bundle and of the limit that the net was made of
-pub counted_for : (start : NetState) (b : Bundle) (entries : List Entry) (limit : ℕ) (new : NetState) (n : ℕ) → start.bundle ≡ b → start.limit ≡ limit
-    → IsRedone start entries new (redone.Stray n) → run_stray (plain b) (take limit entries) ≡ Some n
+pub counted_for : (start : NetState) (b : PlainBundle) (entries : List Entry) (limit : ℕ) (new : NetState) (n : ℕ) → start.bundle ≡ b → start.limit ≡ limit
+    → IsRedone start entries new (redone.Stray n) → run_stray b (take limit entries) ≡ Some n
 counted_for start b entries limit new n bundle most far =
-    let same : run_stray (plain b) (take limit entries) ≡ run_stray (plain start.bundle) (take start.limit entries) =
-    λ j. run_stray (plain (sym bundle j)) (take (sym most j) entries) in
+    let same : run_stray b (take limit entries) ≡ run_stray start.bundle (take start.limit entries) =
+    λ j. run_stray (sym bundle j) (take (sym most j) entries) in
     same ∙ far.2

@@ -1,14 +1,14 @@
 -- Where a step of a role has a fault, the network has no such step.
 use Rattle.std.proofs.Common.{◌≡◌, ◌≢◌, ◌<◌, Result, Ok, Err, IfOk, List, [], ◌∷◌, length, Bool, true, false, ◌&&◌, not, true≢false, Option, Some, None, refl, sym, ap, ◌∙◌, subst, ⊎_elim, if◌then◌else◌}
 use Rattle.std.specs.Prelude.{is_some, nat_le, option_and_then}
-use Rattle.std.proofs.lemmas.Bool.{and_parts, both_ways, cond-true, cond-false, false_from_ne_true, lt-leb}
+use Rattle.std.proofs.lemmas.Bool.{and_parts, both_ways, cond-false, false_from_ne_true, lt-leb}
 use Rattle.dioc_terms.specs.declared.names.Role.{Role}
 use Rattle.dioc_terms.specs.declared.processes.Key.{Key}
 use Rattle.dioc_terms.specs.declared.entries.Act.{Act}
 use Rattle.dioc_terms.specs.declared.entries.Act.TheVariants as act
 use Rattle.dioc_terms.specs.declared.entries.Entry.{Entry}
 use Rattle.dioc_terms.specs.Attempts.{Attempt, Stuck, Does, under, when}
-use Rattle.dioc_terms.specs.Equality.{act_eq, member, role_eq}
+use Rattle.dioc_terms.specs.Equality.{member, role_eq}
 use Rattle.dioc_terms.specs.Plain.{PlainBundle, Setting, setting}
 use Rattle.dioc_terms.specs.Processes.{Process, Skip, Send, Recv, Assign, Read, Seq, Par, IfLead, IfFollow, WhileLead, WhileFollow, ScopeLead, ScopeFollow, Tell, Gather, Nothing, More, Load}
 use Rattle.dioc_terms.specs.Stores.{Store}
@@ -18,7 +18,7 @@ use Rattle.process_steps.specs.Steps.{Deed, Given, Alone, Got, after, ended, is_
 use Rattle.projection.specs.Laws.{OutsidersHaveEnded}
 use Rattle.global_steps.specs.Follow.{updated}
 use Rattle.marked_laws.specs.Laws.{IsSound}
-use Rattle.marked_laws.specs.Network.{Network, NextNetwork, act_step, given_at, network_ended, network_run, network_start, network_step, no_message, pending_at, run_from}
+use Rattle.marked_laws.specs.Network.{Network, NextNetwork, act_step, given_at, network_ended, network_start, network_step, no_message, pending_at, run_from}
 use Rattle.marked_laws.proofs.Equality.{role_same}
 use Rattle.marked_laws.proofs.Networks.{ChangeStep, RoleStep, deed_outcome, network_cases}
 use Rattle.marked_laws.proofs.Premise.{all_member}
@@ -29,7 +29,7 @@ use Rattle.dioc_terms.specs.declared.faults.Memory.{Memory}
 use Rattle.net_drive.specs.Making.{Makes}
 use Rattle.net_core.specs.Net.{first_fault, is_offered_by}
 use Rattle.net_core.specs.Schedule.{is_ready}
-use Rattle.role_network.specs.Nets.{IsSoundRun, NetState, bundle_of, network_of}
+use Rattle.role_network.specs.Nets.{IsSoundRun, NetState, network_of}
 use Rattle.role_network.specs.Steps.{fault_of}
 
 -- ---- a take whose message isn't there
@@ -146,42 +146,42 @@ module _ (casts : CastsAreRoles) (offered_steps : OffersAreSteps) (outsiders : O
       by_step (Some L) is k rest = rest L (outside_step b N L e q ends is) k
 
   module _ (net : NetState) (run : IsSoundRun net) (q : Role) where
-    outside : member q (bundle_of net).cast ≡ false → ended ((network_of net).processes q) ≡ true
+    outside : member q net.bundle.cast ≡ false → ended ((network_of net).processes q) ≡ true
     outside h =
-        outside_run (setting (bundle_of net)) (network_start (bundle_of net)) (network_of net) net.history q
-        (outside_start (bundle_of net) run.sound q h) run.runs
+        outside_run (setting net.bundle) (network_start net.bundle) (network_of net) net.history q
+        (outside_start net.bundle run.sound q h) run.runs
 
-    over : network_ended (bundle_of net).cast (network_of net) ≡ true → ended ((network_of net).processes q) ≡ true
-    over h = by_test (member q (bundle_of net).cast) refl
+    over : network_ended net.bundle.cast (network_of net) ≡ true → ended ((network_of net).processes q) ≡ true
+    over h = by_test (member q net.bundle.cast) refl
       where
-        by_test : (t : Bool) → member q (bundle_of net).cast ≡ t → ended ((network_of net).processes q) ≡ true
-        by_test true is = all_member (λ r. ended ((network_of net).processes r)) (bundle_of net).cast q (and_parts _ (no_message (network_of net).pending) h).0 is
+        by_test : (t : Bool) → member q net.bundle.cast ≡ t → ended ((network_of net).processes q) ≡ true
+        by_test true is = all_member (λ r. ended ((network_of net).processes r)) net.bundle.cast q (and_parts _ (no_message (network_of net).pending) h).0 is
         by_test false is = outside is
 
-    not_offered : (a : Act) → is_offered_by (bundle_of net) (network_of net) q a ≡ false → act_step (setting (bundle_of net)) (network_of net) q a ≡ None
-    not_offered a h = by_test (member q (bundle_of net).cast) refl
+    not_offered : (a : Act) → is_offered_by net.bundle (network_of net) q a ≡ false → act_step (setting net.bundle) (network_of net) q a ≡ None
+    not_offered a h = by_test (member q net.bundle.cast) refl
       where
-        by_test : (t : Bool) → member q (bundle_of net).cast ≡ t → act_step (setting (bundle_of net)) (network_of net) q a ≡ None
+        by_test : (t : Bool) → member q net.bundle.cast ≡ t → act_step (setting net.bundle) (network_of net) q a ≡ None
         by_test true is =
-            not_offered_step offered_steps (setting (bundle_of net)) (network_of net) q a
+            not_offered_step offered_steps (setting net.bundle) (network_of net) q a
             (ap (λ t. t && is_offered a (offers q ((network_of net).processes q))) (sym is) ∙ h)
-        by_test false is = ended_step offered_steps (setting (bundle_of net)) (network_of net) q a (outside is)
+        by_test false is = ended_step offered_steps (setting net.bundle) (network_of net) q a (outside is)
 
     -- a step that has a fault, but for want of room, is none of the network
     pub refused_step : (a : Act) (fault : StepFault) → length net.history < net.limit → fault_of net q a ≡ Some fault
-        → act_step (setting (bundle_of net)) (network_of net) q a ≡ None
+        → act_step (setting net.bundle) (network_of net) q a ≡ None
     refused_step a fault room h =
-        by_tests (network_ended (bundle_of net).cast (network_of net)) (nat_le net.limit (length net.history))
-        (is_offered_by (bundle_of net) (network_of net) q a) (is_ready (network_of net) a) refl refl refl refl h
+        by_tests (network_ended net.bundle.cast (network_of net)) (nat_le net.limit (length net.history))
+        (is_offered_by net.bundle (network_of net) q a) (is_ready (network_of net) a) refl refl refl refl h
       where
-        by_tests : (ends full offered ready : Bool) → network_ended (bundle_of net).cast (network_of net) ≡ ends
-            → nat_le net.limit (length net.history) ≡ full → is_offered_by (bundle_of net) (network_of net) q a ≡ offered
+        by_tests : (ends full offered ready : Bool) → network_ended net.bundle.cast (network_of net) ≡ ends
+            → nat_le net.limit (length net.history) ≡ full → is_offered_by net.bundle (network_of net) q a ≡ offered
             → is_ready (network_of net) a ≡ ready → first_fault ends full offered ready ≡ Some fault
-            → act_step (setting (bundle_of net)) (network_of net) q a ≡ None
-        by_tests true full offered ready is is_full is_there is_ready_now k = ended_step offered_steps (setting (bundle_of net)) (network_of net) q a (over is)
+            → act_step (setting net.bundle) (network_of net) q a ≡ None
+        by_tests true full offered ready is is_full is_there is_ready_now k = ended_step offered_steps (setting net.bundle) (network_of net) q a (over is)
         by_tests false true offered ready is is_full is_there is_ready_now k = absurd (both_ways _ (lt-leb net.limit (length net.history) room) is_full)
         by_tests false false false ready is is_full is_there is_ready_now k = not_offered a is_there
-        by_tests false false true false is is_full is_there is_ready_now k = waits_step (setting (bundle_of net)) (network_of net) q a is_ready_now
+        by_tests false false true false is is_full is_there is_ready_now k = waits_step (setting net.bundle) (network_of net) q a is_ready_now
         by_tests false false true true is is_full is_there is_ready_now k = absurd (none_some k)
 
 -- what was refused, but for want of memory, makes no step

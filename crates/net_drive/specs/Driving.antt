@@ -11,12 +11,12 @@ use Rattle.net_drive.specs.declared.entries.Tried.TheVariants as tried
 use Rattle.net_drive.specs.Driven.{driven, driven_from, first_auxiliary, may_come, put_before}
 use Rattle.net_drive.specs.Making.{shown_move}
 use Rattle.net_drive.specs.Strays.{IsDriveStray}
-use Rattle.role_network.specs.Nets.{NetState, bundle_of, network_of}
+use Rattle.role_network.specs.Nets.{NetState, network_of}
 use Rattle.schedule.specs.Turns.{IsMoveOf}
 
 -- there is room for all that it takes to drive a trace of at most so many entries
 pub record HasRoom (net : NetState) : Type 0 where
-  pub roles : length (bundle_of net).cast ≤ 32
+  pub roles : length net.bundle.cast ≤ 32
   pub entries : length (visible net.history) ≤ 1000000
   pub limit : net.limit ≡ 18446744073709551615
 
@@ -32,7 +32,7 @@ judged (move.Act r a) false noted = tried.Waits
 -- the entry may come, and the net has done it
 pub record HasCome (old : NetState) (e : Entry) (new : NetState) : Type 0 where
   pub may : may_come (network_of old) e ≡ true
-  pub steps : network_step (setting (bundle_of old)) (network_of old) e ≡ Some (network_of new)
+  pub steps : network_step (setting old.bundle) (network_of old) e ≡ Some (network_of new)
   pub history : new.history ≡ old.history ++ e ∷ []
   pub made : IsMoveOf old (shown_move e) new
 
@@ -42,7 +42,7 @@ IsTried old e new tried.Came = HasCome old e new
 IsTried old e new tried.Waits = (may_come (network_of old) e ≡ false) × (new ≡ old)
 IsTried old e new tried.Strays =
     (may_come (network_of old) e ≡ true)
-    × (network_step (setting (bundle_of old)) (network_of old) e ≡ None)
+    × (network_step (setting old.bundle) (network_of old) e ≡ None)
 
 -- ---- a net that is driven on
 
@@ -57,9 +57,9 @@ pub record DrivesOn (old new : NetState) (shown rest : List Entry) : Type 0 wher
   pub made : List Entry
   pub history : new.history ≡ old.history ++ made
   pub shows : visible made ≡ shown
-  pub leads : (count : ℕ) → driven_from (setting (bundle_of old)) (length made + count)
+  pub leads : (count : ℕ) → driven_from (setting old.bundle) (length made + count)
       (network_of old) (shown ++ rest)
-      ≡ put_all made (driven_from (setting (bundle_of old)) count (network_of new) rest)
+      ≡ put_all made (driven_from (setting old.bundle) count (network_of new) rest)
   pub bundle : new.bundle ≡ old.bundle
   pub limit : new.limit ≡ old.limit
 
@@ -68,10 +68,10 @@ pub record DrivesOn (old new : NetState) (shown rest : List Entry) : Type 0 wher
 pub record IsStuckAt (net : NetState) (e : Entry) : Type 0 where
   pub history : List Entry
   pub network : Network
-  pub runs : network_run (bundle_of net) history ≡ Some network
+  pub runs : network_run net.bundle history ≡ Some network
   pub shows : visible history ≡ visible net.history
-  pub strays : network_step (setting (bundle_of net)) network e ≡ None
-  pub why : (may_come network e ≡ true) ⊎ (first_auxiliary (setting (bundle_of net)) network ≡ None)
+  pub strays : network_step (setting net.bundle) network e ≡ None
+  pub why : (may_come network e ≡ true) ⊎ (first_auxiliary (setting net.bundle) network ≡ None)
 
 -- a turn towards an entry: it has come, or the net has made an auxiliary move, or it is stuck
 abbrev pub IsTurn : NetState → Entry → NetState → Tried → Type 0
@@ -89,10 +89,10 @@ Reaches old e new false = IsStuckAt old e
 -- the net has made auxiliary moves until none was left
 pub record Settles (old new : NetState) : Type 0 where
   pub drives : DrivesOn old new [] []
-  pub rests : first_auxiliary (setting (bundle_of new)) (network_of new) ≡ None
+  pub rests : first_auxiliary (setting new.bundle) (network_of new) ≡ None
 
 -- a net without entries was driven through the trace, or that entry of it strays
 abbrev pub IsDriven : NetState → List Entry → NetState → Option ℕ → Type 0
 IsDriven old trace new None =
-    (driven (bundle_of old) trace ≡ Some new.history) × (visible new.history ≡ trace)
-IsDriven old trace new (Some n) = IsDriveStray (bundle_of old) trace n
+    (driven old.bundle trace ≡ Some new.history) × (visible new.history ≡ trace)
+IsDriven old trace new (Some n) = IsDriveStray old.bundle trace n

@@ -1,6 +1,5 @@
 -- Why a run isn't resumed to its last entry, and why a trace isn't driven.
 use Rattle.std.specs.Prelude.{◌≡◌, ◌≤◌, ◌<◌, ℕ, List, length, take, Some}
-use Rattle.dioc_terms.specs.declared.bundles.Bundle.{Bundle}
 use Rattle.dioc_terms.specs.declared.entries.Entry.{Entry}
 use Rattle.dioc_terms.specs.Plain.{PlainBundle}
 use Rattle.net_drive.specs.declared.resuming.ResumeFault.{ResumeFault}
@@ -12,7 +11,7 @@ use Rattle.net_drive.specs.Resumed.{IsFirstStray, IsNetAfter, run_stray}
 
 module _ {R : Type 0} where
   -- there are more entries than the limit, and the net is the one after as many as that
-  abbrev pub FullAt : Bundle → List Entry → ℕ → ResumeFault R → Type 0
+  abbrev pub FullAt : PlainBundle → List Entry → ℕ → ResumeFault R → Type 0
   FullAt b entries limit (fault.Full net) =
       (limit < length entries) × IsNetAfter b (take limit entries) limit net
   FullAt b entries limit _ = Unit {0}

@@ -1,5 +1,5 @@
 -- What holds of driven traces: they are exactly the settled traces that the choreography plays.
-use Rattle.std.specs.Prelude.{◌≡◌, ◌⊎◌, ◌↔◌, List, [], ◌∷◌, ◌++◌, true, not, Option, Some, None, IsSome, IsSomeAnd}
+use Rattle.std.specs.Prelude.{◌≡◌, ◌⊎◌, ◌↔◌, List, [], ◌∷◌, ◌++◌, true, not, Some, None, IsSome, IsSomeAnd}
 use Rattle.std.specs.List.{list_all}
 use Rattle.dioc_terms.specs.declared.entries.Entry.{Entry}
 use Rattle.dioc_terms.specs.Messages.{is_aux, visible}

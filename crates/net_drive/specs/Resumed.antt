@@ -1,8 +1,7 @@
 -- What it is to resume a run: the net after the entries that stand already, the first of them that
 -- can't be done, and the history of a run that goes on after them.
-use Rattle.std.specs.Prelude.{◌≡◌, ◌≤◌, ◌<◌, ℕ, suc, List, [], ◌∷◌, ◌++◌, length, take, nat_le, Option, Some, None, IsSome, if◌then◌else◌}
+use Rattle.std.specs.Prelude.{◌≡◌, ℕ, suc, List, [], ◌∷◌, ◌++◌, length, take, nat_le, Option, Some, None, IsSome, if◌then◌else◌}
 use Rattle.std.specs.Option.{option_map_or}
-use Rattle.dioc_terms.specs.declared.bundles.Bundle.{Bundle}
 use Rattle.dioc_terms.specs.declared.entries.Entry.{Entry}
 use Rattle.dioc_terms.specs.Plain.{PlainBundle, Setting, setting}
 use Rattle.marked_laws.specs.Network.{Network, network_run, network_start, network_step}
@@ -31,11 +30,12 @@ pub record IsFirstStray (b : PlainBundle) (entries : List Entry) (n : ℕ) : Typ
   pub strays : network_run b (before ++ entry ∷ []) ≡ None
 
 -- the net of the bundle, with this limit, after exactly these entries, which are a run of it
-pub record IsNetAfter (b : Bundle) (entries : List Entry) (most : ℕ) (net : NetState) : Type 0 where
-  pub bundle : net.bundle ≡ b
-  pub history : net.history ≡ entries
-  pub limit : net.limit ≡ most
-  pub run : IsSoundRun net
+pub record IsNetAfter (b : PlainBundle) (entries : List Entry) (most : ℕ) (net : NetState) : Type 0
+  where
+    pub bundle : net.bundle ≡ b
+    pub history : net.history ≡ entries
+    pub limit : net.limit ≡ most
+    pub run : IsSoundRun net
 
 -- the history of a resumed run: the entries, continued by the schedule to the limit; where they are
 -- more than the limit, the first of them, as many as that

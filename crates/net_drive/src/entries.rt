@@ -11,7 +11,7 @@ ghost use Rattle.net_core.specs.Schedule.{move_step};
 ghost use Rattle.net_drive.specs.Driven.{first_auxiliary, is_aux_move};
 ghost use Rattle.net_drive.specs.Driving.{HasRoom, IsTried, IsTurn, judged};
 ghost use Rattle.net_drive.specs.Making.{Makes, shown_move};
-ghost use Rattle.role_network.specs.Nets.{IsSoundRun, bundle_of, network_of};
+ghost use Rattle.role_network.specs.Nets.{IsSoundRun, network_of};
 ghost use Rattle.schedule.specs.Agendas.{agenda_of, moves_of, ready_seen};
 
 use crate::laws::known;
@@ -104,7 +104,7 @@ pub(crate) fn take_auxiliary<R: Runs>(
     requires room { length net.old.history < net.old.limit }
     requires few { (network_of net.old).updates < 4294967295 }
     requires agenda { map ready_seen agenda.old ≡ agenda_of net.old }
-    ensures makes { IfOk result (Makes (first_auxiliary (setting (bundle_of net.old))
+    ensures makes { IfOk result (Makes (first_auxiliary (setting net.old.bundle)
         (network_of net.old)) net.old net.new) }
     ensures agenda { OnOk result (map ready_seen agenda.new ≡ agenda_of net.new) }
 {
@@ -121,7 +121,7 @@ fn make_on<R: Runs>(net: &mut Net<R>, agenda: &mut [ReadyRole], next: &Move) -> 
     requires room { length net.old.history < net.old.limit }
     requires few { (network_of net.old).updates < 4294967295 }
     requires agenda { map ready_seen agenda.old ≡ agenda_of net.old }
-    ensures makes { IfOk result (Makes (move_step (setting (bundle_of net.old)) (network_of net.old)
+    ensures makes { IfOk result (Makes (move_step (setting net.old.bundle) (network_of net.old)
         next.now) net.old net.new) }
     ensures agenda { OnOk result (map ready_seen agenda.new ≡ agenda_of net.new) }
 {

@@ -47,9 +47,9 @@ pub fn resume<R: Begins>(
 ) -> Result<Net<R>, ResumeFault<R>>
     requires accepted { IsAccepted (plain bundle.now) }
     requires numbers { limit ≤ 4294967295 }
-    ensures resumed { IfOk result (IsNetAfter bundle.now entries.now limit) }
+    ensures resumed { IfOk result (IsNetAfter (plain bundle.now) entries.now limit) }
     ensures within { IfOk result (λ _. length entries.now ≤ limit) }
-    ensures full { IfErr result (FullAt bundle.now entries.now limit) }
+    ensures full { IfErr result (FullAt (plain bundle.now) entries.now limit) }
     ensures stray { IfErr result (StraysAt (plain bundle.now) entries.now limit) }
     ensures counted { IfErr result (StrayCounted (plain bundle.now) entries.now limit) }
 {

@@ -7,7 +7,7 @@ ghost use Rattle.dioc_terms.specs.Plain.{setting};
 ghost use Rattle.marked_laws.specs.Network.{act_step, change_step};
 ghost use Rattle.net_core.specs.Schedule.{move_step};
 ghost use Rattle.net_drive.specs.Making.{Makes, shown_move};
-ghost use Rattle.role_network.specs.Nets.{IsSoundRun, bundle_of, network_of};
+ghost use Rattle.role_network.specs.Nets.{IsSoundRun, network_of};
 
 use crate::resumed_laws::known;
 use dioc_terms::{Act, Entry, Memory, Role};
@@ -48,7 +48,7 @@ pub(crate) fn make<R: Runs>(net: &mut Net<R>, next: &Move) -> Result<bool, Memor
     requires run { IsSoundRun net.old }
     requires room { length net.old.history < net.old.limit }
     requires few { (network_of net.old).updates < 4294967295 }
-    ensures makes { IfOk result (Makes (move_step (setting (bundle_of net.old)) (network_of net.old)
+    ensures makes { IfOk result (Makes (move_step (setting net.old.bundle) (network_of net.old)
         next.now) net.old net.new) }
     ensures bundle { net.new.bundle ≡ net.old.bundle }
     ensures same_limit { net.new.limit ≡ net.old.limit }
@@ -64,7 +64,7 @@ fn step<R: Runs>(net: &mut Net<R>, role: &Role, act: &Act) -> Result<bool, Memor
     requires run { IsSoundRun net.old }
     requires room { length net.old.history < net.old.limit }
     requires few { (network_of net.old).updates < 4294967295 }
-    ensures makes { IfOk result (Makes (act_step (setting (bundle_of net.old)) (network_of net.old)
+    ensures makes { IfOk result (Makes (act_step (setting net.old.bundle) (network_of net.old)
         role.now act.now) net.old net.new) }
     ensures bundle { net.new.bundle ≡ net.old.bundle }
     ensures same_limit { net.new.limit ≡ net.old.limit }
@@ -89,7 +89,7 @@ fn no_step(fault: StepFault) -> Result<bool, Memory>
 // Makes the script's next change, where it may come.
 fn change<R: Runs>(net: &mut Net<R>) -> Result<bool, Memory>
     requires room { length net.old.history < net.old.limit }
-    ensures makes { IfOk result (Makes (change_step (setting (bundle_of net.old))
+    ensures makes { IfOk result (Makes (change_step (setting net.old.bundle)
         (network_of net.old)) net.old net.new) }
     ensures bundle { net.new.bundle ≡ net.old.bundle }
     ensures same_limit { net.new.limit ≡ net.old.limit }

@@ -8,7 +8,7 @@ ghost use Rattle.net_drive.specs.Driven.{driven};
 ghost use Rattle.net_drive.specs.Driving.{HasRoom, IsDriven, Reaches, Settles};
 ghost use Rattle.net_drive.specs.Making.{shown_move};
 ghost use Rattle.net_drive.specs.Faults.{LostAt, LostCounted};
-ghost use Rattle.role_network.specs.Nets.{IsSoundRun, bundle_of};
+ghost use Rattle.role_network.specs.Nets.{IsSoundRun};
 ghost use Rattle.rule_checks.specs.Refusals.{IsAccepted};
 ghost use Rattle.schedule.specs.Agendas.{agenda_of, ready_seen};
 
@@ -51,7 +51,7 @@ pub fn drive<R: Begins>(
     ensures driven { IfOk result (λ net. driven (plain bundle.now) trace.now ≡ Some net.history) }
     ensures shows { IfOk result (λ net. visible net.history ≡ trace.now) }
     ensures run { IfOk result IsSoundRun }
-    ensures bundle { IfOk result (λ net. net.bundle ≡ bundle.now) }
+    ensures bundle { IfOk result (λ net. net.bundle ≡ plain bundle.now) }
     ensures limit { IfOk result (λ net. net.limit ≡ 18446744073709551615) }
     ensures stray { IfErr result (LostAt (plain bundle.now) trace.now) }
     ensures counted { IfErr result (LostCounted (plain bundle.now) trace.now) }

@@ -4,7 +4,6 @@ use Rattle.std.specs.Prelude.{option_map, nat_le, nat_lt}
 use Rattle.std.proofs.lemmas.Bool.{le-leb, lt-leb, cond-true, cond-false, false_from_ne_true}
 use Rattle.std.proofs.lemmas.Option.{slice_get-map}
 use Rattle.std.proofs.lemmas.Bool.Decides.{Decides-ltb}
-use Rattle.dioc_terms.specs.declared.bundles.Bundle.{Bundle}
 use Rattle.dioc_terms.specs.declared.bundles.Change.{Change}
 use Rattle.dioc_terms.specs.declared.bundles.Change.TheVariants as change
 use Rattle.dioc_terms.specs.declared.bundles.Timed.{Timed}
@@ -12,7 +11,7 @@ use Rattle.dioc_terms.specs.declared.entries.Entry.{Entry}
 use Rattle.dioc_terms.specs.declared.entries.Entry.TheVariants as entry
 use Rattle.dioc_terms.specs.declared.names.Role.{Role}
 use Rattle.dioc_terms.specs.Messages.{is_aux, visible}
-use Rattle.dioc_terms.specs.Plain.{PlainRule, PlainBundle, plain, setting}
+use Rattle.dioc_terms.specs.Plain.{PlainRule, PlainBundle, setting}
 use Rattle.dioc_terms.specs.Rules.{apply}
 use Rattle.dpoc_process.specs.LocalStates.{LocalState}
 use Rattle.global_steps.specs.Follow.{change_entry}
@@ -141,35 +140,35 @@ module _ (b : PlainBundle) (limit : ℕ) (cast : List Role) (locals : List Local
         one_longer : (H : List Entry) (e : Entry) → length H < limit → length (H ++ e ∷ []) ≤ limit
         one_longer H e room = omega (arith, length-append H (e ∷ []))
 
-module _ (of : Bundle) (limit : ℕ) (cast : List Role) (locals : List LocalState) (mail : Mail) (book : KeptBook) (bodies : List Body) (script : List ScriptedChange) (count : ℕ) (H : List Entry)
-    (is : HoldsRun (plain of) limit (with_change (plain of) limit cast locals mail book bodies script count H book script H)) (room : length H < limit) where
+module _ (of : PlainBundle) (limit : ℕ) (cast : List Role) (locals : List LocalState) (mail : Mail) (book : KeptBook) (bodies : List Body) (script : List ScriptedChange) (count : ℕ) (H : List Entry)
+    (is : HoldsRun of limit (with_change of limit cast locals mail book bodies script count H book script H)) (room : length H < limit) where
   abbrev state : List Entry → NetState
   state history = record { bundle = of; history = history; limit = limit }
 
-  at : network_at (plain of) H ≡ is.network
-  at = network_is (plain of) H is.network is.runs
+  at : network_at of H ≡ is.network
+  at = network_is of H is.network is.runs
 
-  fault_is : {f : Option ChangeFault} → script_fault (slice_get (plain of).script is.network.changes) is.network.visible ≡ f → change_fault (state H) ≡ f
+  fault_is : {f : Option ChangeFault} → script_fault (slice_get of.script is.network.changes) is.network.visible ≡ f → change_fault (state H) ≡ f
   fault_is same =
-      cond-false (nat_le limit (length H)) (Some fault.Full) (script_fault (slice_get (plain of).script (network_at (plain of) H).changes) (network_at (plain of) H).visible) (lt-leb limit (length H) room)
-      ∙ ap (λ (N : Network). script_fault (slice_get (plain of).script N.changes) N.visible) at ∙ same
+      cond-false (nat_le limit (length H)) (Some fault.Full) (script_fault (slice_get of.script (network_at of H).changes) (network_at of H).visible) (lt-leb limit (length H) room)
+      ∙ ap (λ (N : Network). script_fault (slice_get of.script N.changes) N.visible) at ∙ same
 
   pub change_made : StepsRun → (script' : List ScriptedChange) (book' : KeptBook) (H' : List Entry)
-      → ChangeMade (plain of).rules script (length (visible H)) book H script' book' H' → IsChangeOf (state H) (state H')
+      → ChangeMade of.rules script (length (visible H)) book H script' book' H' → IsChangeOf (state H) (state H')
   change_made laws script' book' H' made =
-      let due = next (plain of) limit cast locals mail book bodies script count H is laws script' book' H' made in
-      let out : NextNetwork = record { entry = made.entry; network = after_change (setting (plain of)) is.network due.timed } in
+      let due = next of limit cast locals mail book bodies script count H is laws script' book' H' made in
+      let out : NextNetwork = record { entry = made.entry; network = after_change (setting of) is.network due.timed } in
       record {
         outcome = out;
         no_fault = fault_is (ap (λ o. script_fault o is.network.visible) due.stands
             ∙ cond-false (nat_lt is.network.visible due.timed.after) (Some fault.NotYet) None
             (lt_false is.network.visible due.timed.after (omega (arith, ap (λ (d : ScriptedChange). d.after) due.same, made.stands, is.visible))));
-        steps = subst (λ N. change_step (setting (plain of)) N ≡ Some out) (sym at)
-            (changes (plain of) limit cast locals mail book bodies script count H is laws script' book' H' made);
+        steps = subst (λ N. change_step (setting of) N ≡ Some out) (sym at)
+            (changes of limit cast locals mail book bodies script count H is laws script' book' H' made);
         goes = record {
           history = made.entries;
-          network = ap (network_at (plain of)) made.entries
-              ∙ network_is (plain of) (H ++ made.entry ∷ []) out.network (runs (plain of) limit cast locals mail book bodies script count H is laws script' book' H' made);
+          network = ap (network_at of) made.entries
+              ∙ network_is of (H ++ made.entry ∷ []) out.network (runs of limit cast locals mail book bodies script count H is laws script' book' H' made);
           bundle = refl;
           limit = refl;
         };
@@ -180,9 +179,9 @@ module _ (of : Bundle) (limit : ℕ) (cast : List Role) (locals : List LocalStat
 
   pub change_refused : (f : ChangeFault) → ChangeRefused script (length (visible H)) f → f ≢ fault.Memory → change_fault (state H) ≡ Some f
   change_refused fault.NoMore refused h = fault_is (ap (λ o. script_fault o is.network.visible)
-      (none_next (plain of) limit (with_change (plain of) limit cast locals mail book bodies script count H book script H) is refused))
+      (none_next of limit (with_change of limit cast locals mail book bodies script count H book script H) is refused))
   change_refused fault.NotYet refused h =
-      let next = is_next (plain of) limit (with_change (plain of) limit cast locals mail book bodies script count H book script H) is refused.due refused.rest refused.script in
+      let next = is_next of limit (with_change of limit cast locals mail book bodies script count H book script H) is refused.due refused.rest refused.script in
       fault_is (ap (λ o. script_fault o is.network.visible) next.stands
       ∙ cond-true (nat_lt is.network.visible next.timed.after) (Some fault.NotYet) None
       ((Decides-ltb is.network.visible next.timed.after).1 (omega (arith, ap (λ (due : ScriptedChange). due.after) next.same, refused.later, is.visible))))

@@ -12,8 +12,7 @@ use Rattle.dioc_terms.specs.declared.entries.Entry.{Entry}
 use Rattle.dioc_terms.specs.Attempts.{Attempt, Stuck, Does}
 use Rattle.dioc_terms.specs.Equality.{key_eq, member}
 use Rattle.dioc_terms.specs.Messages.{act_of, visible, is_aux}
-use Rattle.dioc_terms.specs.declared.bundles.Bundle.{Bundle}
-use Rattle.dioc_terms.specs.Plain.{PlainBundle, plain, setting}
+use Rattle.dioc_terms.specs.Plain.{PlainBundle, setting}
 use Rattle.dioc_terms.specs.Processes.{Process, Load}
 use Rattle.dioc_terms.specs.TermLaws.{CastsAreRoles}
 use Rattle.dioc_terms.specs.Terms.{distinct_roles}
@@ -242,46 +241,46 @@ no_act r e1 f1 o1 j = first_fault (e1 j) (f1 j) (o1 j) r
 not_yet : {e f o r : Bool} → e ≡ false → f ≡ false → o ≡ true → r ≡ false → first_fault e f o r ≡ Some fault.NotYet
 not_yet e1 f1 o1 r1 j = first_fault (e1 j) (f1 j) (o1 j) (r1 j)
 
-module _ (of : Bundle) (limit : ℕ) (cast : List Role) (locals : List LocalState) (mail : Mail) (book : KeptBook) (bodies : List Body) (coming : List ScriptedChange) (count : ℕ) (H : List Entry)
-    (is : HoldsRun (plain of) limit (record { cast = cast; locals = locals; mail = mail; book = book; bodies = bodies; coming = coming; updates = count; history = H }))
-    (goes : network_ended (plain of).cast (network_at (plain of) H) ≡ false) (room : length H < limit) (q : Role) (a : Act) where
+module _ (of : PlainBundle) (limit : ℕ) (cast : List Role) (locals : List LocalState) (mail : Mail) (book : KeptBook) (bodies : List Body) (coming : List ScriptedChange) (count : ℕ) (H : List Entry)
+    (is : HoldsRun of limit (record { cast = cast; locals = locals; mail = mail; book = book; bodies = bodies; coming = coming; updates = count; history = H }))
+    (goes : network_ended of.cast (network_at of H) ≡ false) (room : length H < limit) (q : Role) (a : Act) where
   abbrev state : List Entry → NetState
   state history = record { bundle = of; history = history; limit = limit }
 
   not_full : nat_le limit (length H) ≡ false
   not_full = lt-leb limit (length H) room
 
-  at : network_at (plain of) H ≡ is.network
-  at = network_is (plain of) H is.network is.runs
+  at : network_at of H ≡ is.network
+  at = network_is of H is.network is.runs
 
   offered_is : (t : Bool) (place : ℕ) (s : LocalState) → slice_get cast place ≡ Some q → slice_get locals place ≡ Some s → is_offered a (offered s) ≡ t
-      → is_offered_by (plain of) (network_at (plain of) H) q a ≡ t
+      → is_offered_by of (network_at of H) q a ≡ t
   offered_is t place s there here offering =
-      let member_is : member q (plain of).cast ≡ true = at_member (plain of).cast place q (sym (ap (λ l. slice_get l place) is.cast) ∙ there) in
+      let member_is : member q of.cast ≡ true = at_member of.cast place q (sym (ap (λ l. slice_get l place) is.cast) ∙ there) in
       let offers_is : is_offered a (offers q (is.network.processes q)) ≡ t =
-      subst (λ (x : LocalState). is_offered a (offered x) ≡ t) (local_is (plain of) limit (these (plain of) limit cast locals mail book bodies coming count H locals mail count H) is place q s there here) offering in
-      ap (λ N. is_offered_by (plain of) N q a) at ∙ (λ j. member_is j && offers_is j)
+      subst (λ (x : LocalState). is_offered a (offered x) ≡ t) (local_is of limit (these of limit cast locals mail book bodies coming count H locals mail count H) is place q s there here) offering in
+      ap (λ N. is_offered_by of N q a) at ∙ (λ j. member_is j && offers_is j)
 
-  ready_at : (t : Bool) → is_there a mail ≡ t → is_ready (network_at (plain of) H) a ≡ t
+  ready_at : (t : Bool) → is_there a mail ≡ t → is_ready (network_at of H) a ≡ t
   ready_at t there =
       ap (λ N. is_ready N a) at
-      ∙ sym (ready_is (plain of) limit (these (plain of) limit cast locals mail book bodies coming count H locals mail count H) is a) ∙ there
+      ∙ sym (ready_is of limit (these of limit cast locals mail book bodies coming count H locals mail count H) is a) ∙ there
 
   -- what the role did is the step of the net
   pub step_made : Laws → (locals' : List LocalState) (mail' : Mail) (count' : ℕ) (H' : List Entry)
-      → RoleDid cast q a (λ s. given_to (plain of).cast (plain of).rules mail (book_of book) count s a) locals mail count H locals' mail' count' H'
+      → RoleDid cast q a (λ s. given_to of.cast of.rules mail (book_of book) count s a) locals mail count H locals' mail' count' H'
       → IsStepOf (state H) q a (state H')
   step_made laws locals' mail' count' H' did =
       let outcome : NextNetwork = record { entry = entry_of did.did.done.deed; network = after_deed is.network q did.did.done.deed did.did.done.left } in
       record {
         outcome = outcome;
         no_fault = no_fault goes not_full (offered_is true did.place did.local did.at did.here did.did.offers) (ready_at true did.did.there);
-        steps = subst (λ N. act_step (setting (plain of)) N q a ≡ Some outcome) (sym at)
-            (steps (plain of) limit cast locals mail book bodies coming count H is laws q a locals' mail' count' H' did);
+        steps = subst (λ N. act_step (setting of) N q a ≡ Some outcome) (sym at)
+            (steps of limit cast locals mail book bodies coming count H is laws q a locals' mail' count' H' did);
         goes = record {
           history = did.did.done.entries;
-          network = ap (network_at (plain of)) did.did.done.entries
-              ∙ network_is (plain of) (H ++ entry_of did.did.done.deed ∷ []) outcome.network (runs (plain of) limit cast locals mail book bodies coming count H is laws q a locals' mail' count' H' did);
+          network = ap (network_at of) did.did.done.entries
+              ∙ network_is of (H ++ entry_of did.did.done.deed ∷ []) outcome.network (runs of limit cast locals mail book bodies coming count H is laws q a locals' mail' count' H' did);
           bundle = refl;
           limit = refl;
         };
@@ -290,9 +289,9 @@ module _ (of : Bundle) (limit : ℕ) (cast : List Role) (locals : List LocalStat
   -- what is refused of the role is the first fault of the step
   pub step_refused : (f : StepFault) → RefusedFor cast locals mail q a f → f ≢ fault.Memory → fault_of (state H) q a ≡ Some f
   step_refused fault.NoAct refused h = ⊎_elim
-      (λ out. no_act (is_ready (network_at (plain of) H) a) goes not_full
-      (ap (λ N. is_offered_by (plain of) N q a) at ∙ ap (λ t. t && is_offered a (offers q (is.network.processes q))) (ap (member q) (sym is.cast) ∙ out)))
-      (λ lacks. no_act (is_ready (network_at (plain of) H) a) goes not_full (offered_is false lacks.is_at.place lacks.local lacks.is_at.at lacks.is_at.here lacks.lacks))
+      (λ out. no_act (is_ready (network_at of H) a) goes not_full
+      (ap (λ N. is_offered_by of N q a) at ∙ ap (λ t. t && is_offered a (offers q (is.network.processes q))) (ap (member q) (sym is.cast) ∙ out)))
+      (λ lacks. no_act (is_ready (network_at of H) a) goes not_full (offered_is false lacks.is_at.place lacks.local lacks.is_at.at lacks.is_at.here lacks.lacks))
       refused
   step_refused fault.NotYet refused h =
       not_yet goes not_full (offered_is true refused.is_at.place refused.local refused.is_at.at refused.is_at.here refused.offers) (ready_at false refused.waits)

@@ -5,7 +5,7 @@ use Rattle.dioc_terms.specs.Plain.{setting}
 use Rattle.marked_laws.specs.Network.{NextNetwork, change_step}
 use Rattle.role_network.specs.declared.faults.ChangeFault.{ChangeFault}
 use Rattle.role_network.specs.declared.faults.ChangeFault.TheVariants.{Full, NoMore, NotYet}
-use Rattle.role_network.specs.Nets.{NetState, bundle_of, network_of}
+use Rattle.role_network.specs.Nets.{NetState, network_of}
 use Rattle.role_network.specs.Steps.{GoesOn}
 
 -- the first fault of the script's next change, with so many visible entries: there is none, or it
@@ -18,11 +18,11 @@ script_fault (Some timed) visible = if nat_lt visible timed.after then Some NotY
 abbrev pub change_fault : NetState → Option ChangeFault
 change_fault net =
     if nat_le net.limit (length net.history) then Some Full else script_fault
-    (slice_get (bundle_of net).script (network_of net).changes) (network_of net).visible
+    (slice_get net.bundle.script (network_of net).changes) (network_of net).visible
 
 -- the net has made the script's next change
 pub record IsChangeOf (old new : NetState) : Type 0 where
   pub outcome : NextNetwork
   pub no_fault : change_fault old ≡ None
-  pub steps : change_step (setting (bundle_of old)) (network_of old) ≡ Some outcome
+  pub steps : change_step (setting old.bundle) (network_of old) ≡ Some outcome
   pub goes : GoesOn old outcome new

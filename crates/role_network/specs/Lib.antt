@@ -1,5 +1,6 @@
 pub mod Acts
 pub mod Changes
+pub mod Codes
 pub mod Deeds
 pub mod Faults
 pub mod KeptParts

@@ -7,14 +7,14 @@ use Rattle.marked_laws.specs.Network.{NextNetwork, act_step, network_ended}
 use Rattle.net_core.specs.declared.moves.StepFault.{StepFault}
 use Rattle.net_core.specs.Net.{first_fault, is_offered_by}
 use Rattle.net_core.specs.Schedule.{is_ready}
-use Rattle.role_network.specs.Nets.{NetState, bundle_of, network_of}
+use Rattle.role_network.specs.Nets.{NetState, network_of}
 
 -- the first fault of a step, none where it can be done
 abbrev pub fault_of : NetState → Role → Act → Option StepFault
 fault_of net q a =
-    first_fault (network_ended (bundle_of net).cast (network_of net))
+    first_fault (network_ended net.bundle.cast (network_of net))
     (nat_le net.limit (length net.history))
-    (is_offered_by (bundle_of net) (network_of net) q a) (is_ready (network_of net) a)
+    (is_offered_by net.bundle (network_of net) q a) (is_ready (network_of net) a)
 
 -- the net went on by this outcome
 pub record GoesOn (old : NetState) (outcome : NextNetwork) (new : NetState) : Type 0 where
@@ -27,5 +27,5 @@ pub record GoesOn (old : NetState) (outcome : NextNetwork) (new : NetState) : Ty
 pub record IsStepOf (old : NetState) (q : Role) (a : Act) (new : NetState) : Type 0 where
   pub outcome : NextNetwork
   pub no_fault : fault_of old q a ≡ None
-  pub steps : act_step (setting (bundle_of old)) (network_of old) q a ≡ Some outcome
+  pub steps : act_step (setting old.bundle) (network_of old) q a ≡ Some outcome
   pub goes : GoesOn old outcome new

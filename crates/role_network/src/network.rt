@@ -8,7 +8,7 @@ ghost use Rattle.net_core.specs.Schedule.{change_due, moves};
 ghost use Rattle.process_steps.specs.Steps.{ended};
 ghost use Rattle.role_network.specs.Changes.{IsChangeOf, change_fault};
 ghost use Rattle.role_network.specs.MovesIn.{ready_of};
-ghost use Rattle.role_network.specs.Nets.{IsSoundRun, bundle_of, network_of};
+ghost use Rattle.role_network.specs.Nets.{IsSoundRun, network_of};
 ghost use Rattle.role_network.specs.Steps.{IsStepOf, fault_of};
 
 use crate::bodies::{Coming, RuleBody};
@@ -48,21 +48,20 @@ pub struct Net<R: Runs> {
 impl<R: Runs> Model for Net<R> {
     ghost use Rattle.std.specs.Prelude.{map};
     ghost use Rattle.std.specs.Coded.{codes};
-    ghost use Rattle.dioc_terms.specs.contracts.choreographies.Choreo as choreo;
-    ghost use Rattle.dioc_terms.specs.contracts.expressions.Expr as expr;
     ghost use Rattle.dioc_terms.specs.Plain.{plain};
     ghost use Rattle.role_network.specs.KeptParts.{body_seen, due_seen};
     ghost use Rattle.net_core.specs.Schedule.{change_due, moves};
     ghost use Rattle.role_network.specs.Changes.{IsChangeOf, change_fault};
+    ghost use Rattle.role_network.specs.Codes.{expression_code, term_code};
     ghost use Rattle.role_network.specs.Nets.{NetState};
     ghost use Rattle.role_network.specs.Standing.{HoldsRun};
 
     ghost Value = { NetState };
 
-    ghost coded = { Prim.hlevel (codes, choreo.the_row.coded, expr.the_row.coded) };
+    ghost coded = { Prim.hlevel (codes, expression_code, term_code) };
 
     ghost view = { λ net. record {
-      bundle = net.of.value;
+      bundle = plain net.of.value;
       history = net.history.entries;
       limit = net.limit;
     } };
@@ -109,7 +108,7 @@ impl<R: Runs> Net<R> {
 
     /// The roles, in the cast's order.
     pub fn cast(&self) -> &[Role]
-        ensures { result.now ≡ (bundle_of self.now).cast }
+        ensures { result.now ≡ self.now.bundle.cast }
     {
         self.cast.as_slice()
     }
@@ -117,7 +116,7 @@ impl<R: Runs> Net<R> {
     /// The acts that a role of the cast can do now: those that its process offers, from left to
     /// right in it, without takes whose message isn't pending.
     pub fn ready_acts(&self, role: &Role) -> Result<Vec<Act>, Memory>
-        requires { member role.now (bundle_of self.now).cast ≡ true }
+        requires { member role.now self.now.bundle.cast ≡ true }
         ensures { IfOk result (λ acts. acts.items ≡ ready_of (network_of self.now) role.now) }
     {
         let cast = self.cast.as_slice();
@@ -136,7 +135,7 @@ impl<R: Runs> Net<R> {
 
     /// Whether each process has ended and no message is pending.
     pub fn is_ended(&self) -> bool
-        ensures { result ≡ network_ended (bundle_of self.now).cast (network_of self.now) }
+        ensures { result ≡ network_ended self.now.bundle.cast (network_of self.now) }
     {
         let done = all_done(self.roles.as_slice());
         self.mail.len() == 0 && done
@@ -145,7 +144,7 @@ impl<R: Runs> Net<R> {
     /// Whether the process of a role of the cast has ended. Its messages may still be pending. It
     /// takes no memory.
     pub fn is_done(&self, role: &Role) -> bool
-        requires { member role.now (bundle_of self.now).cast ≡ true }
+        requires { member role.now self.now.bundle.cast ≡ true }
         ensures { result ≡ ended ((network_of self.now).processes role.now) }
     {
         is_done_at(self.cast.as_slice(), self.roles.as_slice(), role)
@@ -163,7 +162,7 @@ impl<R: Runs> Net<R> {
     /// offer, role by role in the cast's order, without takes whose message isn't pending.
     pub fn moves(&self) -> Result<Vec<Move>, Memory>
         ensures { IfOk result
-            (λ found. found.items ≡ moves (setting (bundle_of self.now)) (network_of self.now)) }
+            (λ found. found.items ≡ moves (setting self.now.bundle) (network_of self.now)) }
     {
         let due = self.is_change_due();
         match list_moves(self.alloc, &self.cast, &self.roles, &self.mail, due) {
@@ -174,9 +173,9 @@ impl<R: Runs> Net<R> {
 
     /// Whether the script's next change is due and the network has not ended.
     pub fn is_change_due(&self) -> bool
-        ensures { result ≡ (change_due (bundle_of self.now).script (network_of self.now).changes
+        ensures { result ≡ (change_due self.now.bundle.script (network_of self.now).changes
             (network_of self.now).visible
-            && not (network_ended (bundle_of self.now).cast (network_of self.now))) }
+            && not (network_ended self.now.bundle.cast (network_of self.now))) }
     {
         let due = is_first_due(&self.coming, self.history.visible_len());
         let ended = self.is_ended();
@@ -233,7 +232,7 @@ impl<R: Runs> Net<R> {
     /// The step of a role, where the network has not ended and the history has room.
     fn act(&mut self, role: &Role, act: &Act) -> Result<(), StepFault>
         requires updates { (network_of self.old).updates < 4294967295 }
-        requires goes { network_ended (bundle_of self.old).cast (network_of self.old) ≡ false }
+        requires goes { network_ended self.old.bundle.cast (network_of self.old) ≡ false }
         requires room { length self.old.history < self.old.limit }
         ensures stepped { OnOk result (IsStepOf self.old role.now act.now self.new) }
         ensures refused { IfErr result (λ fault. fault ≢ StepFault.Memory
@@ -272,7 +271,7 @@ impl<R: Begins> Net<R> {
     /// The network of a bundle before its first step.
     pub fn start(alloc: Global, bundle: &Bundle, limit: u64) -> Result<Net<R>, Memory>
         requires { IsSound (plain bundle.now) }
-        ensures bundle { IfOk result (λ net. net.bundle ≡ bundle.now) }
+        ensures bundle { IfOk result (λ net. net.bundle ≡ plain bundle.now) }
         ensures history { IfOk result (λ net. net.history ≡ []) }
         ensures limit { IfOk result (λ net. net.limit ≡ limit) }
     {

@@ -91,6 +91,7 @@ pub(crate) fn make_ready<R: Runs>(
             if is_there(mail, act) {
                 return Ok(prepared);
             }
+            drop(prepared);
             Err(StepFault::NotYet)
         }
         Err(PrepareFault::NoAct) => Err(StepFault::NoAct),

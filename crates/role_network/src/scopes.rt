@@ -1,6 +1,6 @@
 //! The begin of a scope: what the book says of it, and what its leader then does.
 
-ghost use Rattle.std.specs.Prelude.{◌≡◌, ◌<◌, ◌++◌, [], ◌∷◌, ℕ, suc, List, true, IsSome, Some, OnErr, OnOk, map, slice_get};
+ghost use Rattle.std.specs.Prelude.{◌≡◌, ◌<◌, ◌++◌, [], ◌∷◌, ℕ, suc, List, true, Some, OnErr, OnOk, map, slice_get};
 ghost use Rattle.std.specs.Option.{option_copied, option_map};
 ghost use Rattle.dioc_terms.specs.declared.entries.Chosen.TheVariants as chosen;
 ghost use Rattle.dioc_terms.specs.declared.entries.Entry.TheVariants as entry;
@@ -64,7 +64,7 @@ pub(crate) fn begin_scope<R: Runs>(
     process_steps::offers_are_steps();
     dioc_terms::choices_go_on();
     dioc_terms::mentions_are_roles();
-    let head = head_of(prepared);
+    let head = prepared.into_head();
     match choice(book, bodies, &head, state.store()) {
         None => {
             keep_scope(state, history, act, head);
@@ -75,14 +75,6 @@ pub(crate) fn begin_scope<R: Runs>(
             Err(fault) => Err(fault),
         },
     }
-}
-
-/// What the book sees of the scope.
-fn head_of(prepared: Prepared) -> ScopeHead
-    requires { IsSome prepared.head }
-    ensures { prepared.head ≡ Some result }
-{
-    prepared.head.unwrap()
 }
 
 /// The rule's body that the book chooses for the scope.

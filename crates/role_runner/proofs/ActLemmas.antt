@@ -1,7 +1,6 @@
 -- What a role that is tied to its seat may commit.
 use Rattle.std.proofs.Common.{◌≡◌, ℕ, List, true, Option, Some, None, IsSome, refl, sym, ap, ◌∙◌, subst}
 use Rattle.std.specs.Prelude.{option_map}
-use Rattle.dioc_terms.specs.declared.bundles.Bundle.{Bundle}
 use Rattle.dioc_terms.specs.declared.entries.Act.{Act}
 use Rattle.dioc_terms.specs.declared.entries.Act.TheVariants as act
 use Rattle.dioc_terms.specs.declared.entries.Entry.{Entry}
@@ -11,7 +10,7 @@ use Rattle.dioc_terms.specs.declared.processes.Key.{Key}
 use Rattle.dioc_terms.specs.declared.processes.Payload.{Payload}
 use Rattle.dioc_terms.specs.Attempts.{Does}
 use Rattle.dioc_terms.specs.Messages.{act_of, doer}
-use Rattle.dioc_terms.specs.Plain.{plain, setting}
+use Rattle.dioc_terms.specs.Plain.{PlainBundle, setting}
 use Rattle.dioc_terms.specs.Processes.{Process, Load, load}
 use Rattle.dpoc_process.specs.declared.runs.Prepared.{Prepared}
 use Rattle.dpoc_process.specs.Handed.{Empty, IsEnabled, Message}
@@ -39,7 +38,7 @@ use Rattle.stage.specs.Seats.{Base, CanCommit, CanCommitOwn, CanReceive, Committ
 use Rattle.turn_lock.specs.declared.views.View.{View}
 use Rattle.turn_lock.specs.Views.{number}
 
-module _ (known : Known) (steps : OffersAreSteps) (shows : StepsShowTheirActs) (bundle : Bundle) (sound : IsSound (plain bundle)) (q : Role) (v : View Entry Base) (s : LocalState)
+module _ (known : Known) (steps : OffersAreSteps) (shows : StepsShowTheirActs) (bundle : PlainBundle) (sound : IsSound bundle) (q : Role) (v : View Entry Base) (s : LocalState)
     (tied : IsTied bundle q v s) where
   -- the bundle of the seat is that of the tie
   here : (base : Base) → v.base ≡ Some base → (bundle, tied.limit) ≡ base
@@ -48,21 +47,21 @@ module _ (known : Known) (steps : OffersAreSteps) (shows : StepsShowTheirActs) (
   -- a deed that the role can do where its seat looked
   pub can_commit : (r : Role) (a : Act) (given : Given) (d : Deed) (P : Process) → r ≡ q → step_at s a given ≡ Does d P → CanCommit v r a given d
   can_commit r a given d P same does base is =
-      subst (λ (b : Base). (number v ≡ cast_place b.0.cast r) × CanDo (plain b.0) v.seen r a given d) (here base is) (
+      subst (λ (b : Base). (number v ≡ cast_place b.0.cast r) × CanDo b.0 v.seen r a given d) (here base is) (
         tied.number_is ∙ ap (cast_place bundle.cast) (sym same),
         record {
           process = s.process;
           store = s.store;
-          stands = subst (λ p. RoleStandsAt (plain bundle) v.seen p s.process s.store) (sym same) tied.stands;
+          stands = subst (λ p. RoleStandsAt bundle v.seen p s.process s.store) (sym same) tied.stands;
           next = P;
           does = ap (λ p. step p s.store s.process a given) (same ∙ sym tied.role) ∙ does;
         },
       )
 
   -- each deed of the role is its own
-  pub deed_own : (a : Act) (given : Given) (d : Deed) (P : Process) → given ≡ given_at (setting (plain bundle)) tied.stands.network q a → step_at s a given ≡ Does d P
+  pub deed_own : (a : Act) (given : Given) (d : Deed) (P : Process) → given ≡ given_at (setting bundle) tied.stands.network q a → step_at s a given ≡ Does d P
       → doer (entry_of d) ≡ Some q
-  deed_own a given d P fits does = own_deeds known (plain bundle) sound v.seen q s.process s.store tied.stands a given d P fits
+  deed_own a given d P fits does = own_deeds known bundle sound v.seen q s.process s.store tied.stands a given d P fits
       (ap (λ p. step p s.store s.process a given) (sym tied.role) ∙ does)
 
   module _ (k : Key) (p : Prepared) (prepared : IsPrepared s (act.Put k) p) where
@@ -99,18 +98,18 @@ module _ (known : Known) (steps : OffersAreSteps) (shows : StepsShowTheirActs) (
     pub take_mine : k.to ≡ q
     take_mine =
         let N = tied.stands.network in
-        own_takes known (plain bundle) v.seen N sound tied.stands.runs q k
+        own_takes known bundle v.seen N sound tied.stands.runs q k
         ((λ i. is_offered (act.Take k) (offers (sym tied.role i) (tied.stands.process i))) ∙ prepared.can_act)
 
     pub take_can : (x : Option (List ℕ)) → p.entry ≡ Some (entry.Take k x) → CanReceive v k.to k x
     take_can x is base at =
         let role : k.to ≡ s.role = take_mine ∙ sym tied.role in
-        subst (λ (b : Base). (number v ≡ cast_place b.0.cast k.to) × CanTake (plain b.0) v.seen k.to k x) (here base at) (
+        subst (λ (b : Base). (number v ≡ cast_place b.0.cast k.to) × CanTake b.0 v.seen k.to k x) (here base at) (
           tied.number_is ∙ ap (cast_place bundle.cast) (sym take_mine),
           record {
             process = s.process;
             store = s.store;
-            stands = subst (λ r. RoleStandsAt (plain bundle) v.seen r s.process s.store) (sym take_mine) tied.stands;
+            stands = subst (λ r. RoleStandsAt bundle v.seen r s.process s.store) (sym take_mine) tied.stands;
             offers = ap (λ r. is_offered (act.Take k) (offers r s.process)) role ∙ prepared.can_act;
             shows = λ given d P does. take_entry shows s k p prepared x is given d P (ap (λ r. step r s.store s.process (act.Take k) given) (sym role) ∙ does);
           },
@@ -121,7 +120,7 @@ module _ (known : Known) (steps : OffersAreSteps) (shows : StepsShowTheirActs) (
       pub take_enabled : IsEnabled s (act.Take k) (Message l)
       take_enabled =
           let moved = done.moved (bundle, tied.limit) s.process s.store (tied.base, tied.number_is ∙ ap (cast_place bundle.cast) (sym take_mine))
-          (subst (λ r. RoleStandsAt (plain bundle) v.seen r s.process s.store) (sym take_mine) tied.stands) in
+          (subst (λ r. RoleStandsAt bundle v.seen r s.process s.store) (sym take_mine) tied.stands) in
           ap is_done (ap (λ r. step r s.store s.process (act.Take k) (Got l)) (tied.role ∙ sym take_mine) ∙ moved.1)
 
       pub take_leaves : (local' : LocalState) → IsStep s (act.Take k) (Got l) local' → Leaves bundle q v w tried.Done local'
@@ -133,7 +132,7 @@ module _ (known : Known) (steps : OffersAreSteps) (shows : StepsShowTheirActs) (
     alone_can e is =
         let shown = alone_shown steps shows s a p prepared alone in
         let same : entry_of shown.deed ≡ e = some_same (sym shown.shown ∙ is) in
-        let mine = deed_own a Alone shown.deed shown.left (alone_given (plain bundle) tied.stands.network q a alone) shown.does in (
+        let mine = deed_own a Alone shown.deed shown.left (alone_given bundle tied.stands.network q a alone) shown.does in (
           ap act_of (sym same) ∙ shown.acts,
           subst (CanCommitOwn v) same (record {
             role = q;
@@ -157,11 +156,11 @@ module _ (known : Known) (steps : OffersAreSteps) (shows : StepsShowTheirActs) (
     alone_leaves e is w done local' stepped =
         let shown = alone_shown steps shows s a p prepared alone in
         let same : entry_of shown.deed ≡ e = some_same (sym shown.shown ∙ is) in
-        let mine : doer e ≡ Some q = ap doer (sym same) ∙ deed_own a Alone shown.deed shown.left (alone_given (plain bundle) tied.stands.network q a alone) shown.does in
+        let mine : doer e ≡ Some q = ap doer (sym same) ∙ deed_own a Alone shown.deed shown.left (alone_given bundle tied.stands.network q a alone) shown.does in
         let role : done.role ≡ q = some_same (sym done.who ∙ mine) in
         let entry_is : entry_of done.deed ≡ e = (is_own e done.deed done.is_own).shows in
         let moved = done.done.moved (bundle, tied.limit) s.process s.store (tied.base, tied.number_is ∙ ap (cast_place bundle.cast) (sym role))
-        (subst (λ r. RoleStandsAt (plain bundle) v.seen r s.process s.store) (sym role) tied.stands) in
+        (subst (λ r. RoleStandsAt bundle v.seen r s.process s.store) (sym role) tied.stands) in
         let acts = shows done.role s.store s.process done.act Alone done.deed moved.0 moved.1 in
         let act_is : done.act ≡ a = some_same (sym acts ∙ ap act_of (entry_is ∙ sym same) ∙ shown.acts) in
         moved_leaves bundle q v s tied role_fault w done.role done.act Alone done.deed role done.done local'

@@ -3,9 +3,8 @@ use Rattle.std.proofs.Common.{◌≡◌, ◌≢◌, ◌<◌, ◌≤◌, ℕ, zer
 use Rattle.std.proofs.lemmas.List.{length-map}
 use Rattle.std.proofs.lemmas.Option.{slice_get-map}
 use Rattle.std.specs.Prelude.{option_map}
-use Rattle.dioc_terms.specs.declared.bundles.Bundle.{Bundle}
 use Rattle.dioc_terms.specs.declared.entries.Entry.{Entry}
-use Rattle.dioc_terms.specs.Plain.{PlainBundle, plain}
+use Rattle.dioc_terms.specs.Plain.{PlainBundle}
 use Rattle.dioc_terms.specs.TermLaws.{CastsAreRoles}
 use Rattle.dioc_terms.specs.Terms.{distinct_roles}
 use Rattle.marked_laws.proofs.Choices.{all_at}
@@ -32,7 +31,7 @@ each_at P f [] i x each at = absurd (none_some at)
 each_at P f (y ∷ ys) zero x each at = subst (λ z. P (f z)) (some_same at) each.0
 each_at P f (y ∷ ys) (suc i) x each at = each_at P f ys i x each.1 at
 
-module _ (bundle : Bundle) (limit : ℕ) (seats : List HomeSeat) (went : AllWent (opening_views (bundle, limit) (length bundle.cast)) (map view seats)) where
+module _ (bundle : PlainBundle) (limit : ℕ) (seats : List HomeSeat) (went : AllWent (opening_views (bundle, limit) (length bundle.cast)) (map view seats)) where
   -- the seats are as many as the first knows of
   pub seats_many : length seats ≡ suc (length bundle.cast)
   seats_many = sym (length-map seats view) ∙ went_lengths (opening_views (bundle, limit) (length bundle.cast)) (map view seats) went ∙ opening_length (bundle, limit) (length bundle.cast)
@@ -52,7 +51,7 @@ module _ (bundle : Bundle) (limit : ℕ) (seats : List HomeSeat) (went : AllWent
   pub none_missing : IfSome (slice_get seats 0) (λ s. (view s).made ≢ length seats) → ⊥
   none_missing missing = if_some_at (λ s. (view s).made ≢ length seats) (slice_get seats 0) first.0 missing first.1 (first_made first.0 first.1 ∙ sym seats_many)
 
-  module _ (sound : IsSound (plain bundle)) (H : List Entry) (closes : IfSome (slice_get seats 0) (λ s. ((view s).made ≡ length seats) × IsClosed (view s) H (map claim_of seats)))
+  module _ (sound : IsSound bundle) (H : List Entry) (closes : IfSome (slice_get seats 0) (λ s. ((view s).made ≡ length seats) × IsClosed (view s) H (map claim_of seats)))
       (begins : All (λ s. BeginsWith H (view s).seen) seats) where
     abbrev closing : IsClosed (view first.0) H (map claim_of seats)
     closing = (if_some_at (λ s. ((view s).made ≡ length seats) × IsClosed (view s) H (map claim_of seats)) (slice_get seats 0) first.0 closes first.1).1
@@ -67,8 +66,8 @@ module _ (bundle : Bundle) (limit : ℕ) (seats : List HomeSeat) (went : AllWent
     closed_is = record {
       sound = sound;
       network = closing.found.sound.network;
-      runs = subst (λ (b : Base). network_run (plain b.0) H ≡ Some closing.found.sound.network) based
-          (subst (λ h. network_run (plain closing.home.bundle) h ≡ Some closing.found.sound.network) closing.found.history closing.found.sound.runs);
+      runs = subst (λ (b : Base). network_run b.0 H ≡ Some closing.found.sound.network) based
+          (subst (λ h. network_run closing.home.bundle h ≡ Some closing.found.sound.network) closing.found.history closing.found.sound.runs);
       within = subst (λ (b : Base). length H ≤ b.1) based (subst (λ h. length h ≤ closing.home.limit) closing.found.history closing.found.sound.within);
       went = went;
       own = λ i v at.
@@ -81,8 +80,8 @@ module _ (bundle : Bundle) (limit : ℕ) (seats : List HomeSeat) (went : AllWent
           subst (λ (u : View Entry Base). BeginsWith H u.seen) s.2 (all_at (λ x. BeginsWith H (view x).seen) seats i s.0 begins s.1);
     }
 
-    pub closed_prompt : IsPrompt (plain bundle) H
-    closed_prompt = subst (λ (b : Base). IsPrompt (plain b.0) H) based (subst (IsPrompt (plain closing.home.bundle)) closing.found.history closing.found.sound.prompt)
+    pub closed_prompt : IsPrompt bundle H
+    closed_prompt = subst (λ (b : Base). IsPrompt b.0 H) based (subst (IsPrompt closing.home.bundle) closing.found.history closing.found.sound.prompt)
 
-    pub closed_run : IsRun (plain bundle) H
+    pub closed_run : IsRun bundle H
     closed_run = record { network = closed_is.network; runs = closed_is.runs }

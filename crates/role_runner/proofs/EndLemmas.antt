@@ -6,9 +6,8 @@ use Rattle.std.proofs.lemmas.Option.{slice_get_within}
 use Rattle.std.specs.List.{list_all, list_any}
 use Rattle.std.specs.Option.{option_map_or}
 use Rattle.std.specs.Prelude.{if◌then◌else◌}
-use Rattle.dioc_terms.specs.declared.bundles.Bundle.{Bundle}
 use Rattle.dioc_terms.specs.declared.entries.Entry.{Entry}
-use Rattle.dioc_terms.specs.Plain.{PlainBundle, plain}
+use Rattle.dioc_terms.specs.Plain.{PlainBundle}
 use Rattle.flat_role.specs.declared.states.FlatRole.{FlatRole}
 use Rattle.flat_role.specs.FlatStates.{local_of}
 use Rattle.marked_laws.proofs.Shapes.{none_some, some_same}
@@ -18,7 +17,7 @@ use Rattle.role_runner.specs.declared.threads.Ending.{Ending}
 use Rattle.role_runner.specs.declared.threads.Ending.TheVariants as ending
 use Rattle.role_runner.specs.declared.threads.Job.{Job}
 use Rattle.role_runner.specs.Endings.{AllEnded, AllWent, SomeCut}
-use Rattle.role_runner.specs.Jobs.{EndsJob, IsOfRole, ending_in, has_seen, is_cut, is_done, is_done_state, is_going}
+use Rattle.role_runner.specs.Jobs.{EndsJob, IsOfRole, ending_in, has_seen, is_cut, has_done_state, is_done_state, is_going}
 use Rattle.role_runner.specs.Ties.{WentOn}
 use Rattle.stage.specs.declared.stage.Stage.{Stage}
 use Rattle.stage.specs.Homes.{HasEnded}
@@ -86,8 +85,8 @@ pub if_some_at : {A : Type 0} (P : A → Type 0) (o : Option A) (x : A) → IfSo
 if_some_at {A = A} P o x holds is = subst (λ (p : Option A). IfSome p P) is holds
 
 -- the ending tells how all jobs were left
-ended_all : (limit : ℕ) (jobs : List Job) → ending_in limit jobs ≡ ending.Ended → list_all is_done jobs ≡ true
-ended_all limit jobs h = by_tests (list_all is_done jobs) (list_any (is_cut limit) jobs) h
+ended_all : (limit : ℕ) (jobs : List Job) → ending_in limit jobs ≡ ending.Ended → list_all has_done_state jobs ≡ true
+ended_all limit jobs h = by_tests (list_all has_done_state jobs) (list_any (is_cut limit) jobs) h
   where
     by_tests : (t u : Bool) → (if t then ending.Ended else if u then ending.Limit else ending.Memory) ≡ ending.Ended → t ≡ true
     by_tests true u h = refl
@@ -95,7 +94,7 @@ ended_all limit jobs h = by_tests (list_all is_done jobs) (list_any (is_cut limi
     by_tests false false h = cc
 
 limit_some : (limit : ℕ) (jobs : List Job) → ending_in limit jobs ≡ ending.Limit → list_any (is_cut limit) jobs ≡ true
-limit_some limit jobs h = by_tests (list_all is_done jobs) (list_any (is_cut limit) jobs) h
+limit_some limit jobs h = by_tests (list_all has_done_state jobs) (list_any (is_cut limit) jobs) h
   where
     by_tests : (t u : Bool) → (if t then ending.Ended else if u then ending.Limit else ending.Memory) ≡ ending.Limit → u ≡ true
     by_tests true u h = cc
@@ -103,15 +102,15 @@ limit_some limit jobs h = by_tests (list_all is_done jobs) (list_any (is_cut lim
     by_tests false false h = cc
 
 -- and two tests over the jobs tell the ending
-pub told_ended : (limit : ℕ) (jobs : List Job) → list_all is_done jobs ≡ true → ending.Ended ≡ ending_in limit jobs
-told_ended limit jobs all = by_tests (list_all is_done jobs) (list_any (is_cut limit) jobs) all
+pub told_ended : (limit : ℕ) (jobs : List Job) → list_all has_done_state jobs ≡ true → ending.Ended ≡ ending_in limit jobs
+told_ended limit jobs all = by_tests (list_all has_done_state jobs) (list_any (is_cut limit) jobs) all
   where
     by_tests : (t u : Bool) → t ≡ true → ending.Ended ≡ (if t then ending.Ended else if u then ending.Limit else ending.Memory)
     by_tests true u h = refl
     by_tests false u h = absurd (both_ways false refl h)
 
-pub told_memory : (limit : ℕ) (jobs : List Job) → list_all is_done jobs ≡ false → list_any (is_cut limit) jobs ≡ false → ending.Memory ≡ ending_in limit jobs
-told_memory limit jobs all any = by_tests (list_all is_done jobs) (list_any (is_cut limit) jobs) all any
+pub told_memory : (limit : ℕ) (jobs : List Job) → list_all has_done_state jobs ≡ false → list_any (is_cut limit) jobs ≡ false → ending.Memory ≡ ending_in limit jobs
+told_memory limit jobs all any = by_tests (list_all has_done_state jobs) (list_any (is_cut limit) jobs) all any
   where
     by_tests : (t u : Bool) → t ≡ false → u ≡ false → ending.Memory ≡ (if t then ending.Ended else if u then ending.Limit else ending.Memory)
     by_tests true u h k = absurd (both_ways true h refl)
@@ -127,7 +126,7 @@ going_state None h = absurd (both_ways false refl h)
 going_state (Some st) h = (st, refl, not-true (ended (local_of st).process) h)
 
 -- a role's state at its end, by its job
-role_end : (stage : Stage) (bundle : Bundle) (i : ℕ) (old new : Job) → EndsJob stage bundle i old new → (s : _) → new.seat ≡ Some s → (st : FlatRole) → new.state ≡ Some st
+role_end : (stage : Stage) (bundle : PlainBundle) (i : ℕ) (old new : Job) → EndsJob stage bundle i old new → (s : _) → new.seat ≡ Some s → (st : FlatRole) → new.state ≡ Some st
     → IsOfRole bundle i (view s) st
 role_end stage bundle i old new ends s seat st state =
     if_some_at (IsOfRole bundle i (view s)) new.state st (if_some_at (λ t. IfSome new.state (IsOfRole bundle i (view t))) new.seat s ends.tied seat) state
@@ -151,32 +150,32 @@ limit_rest ending.Limit all memory = refl
 limit_rest ending.Memory all memory = absurd (memory refl)
 
 -- The jobs as they were left: each seat is there, and is the one that comes back.
-pub record WereLeft (stage : Stage) (bundle : Bundle) (jobs : List Job) (views : List (View Entry Base)) : Type 0 where
+pub record WereLeft (stage : Stage) (bundle : PlainBundle) (jobs : List Job) (views : List (View Entry Base)) : Type 0 where
   pub ends : (i : ℕ) (job : Job) → slice_get jobs i ≡ Some job → (old : Job) × EndsJob stage bundle i old job
   pub seats : (i : ℕ) (job : Job) (v : View Entry Base) → slice_get jobs i ≡ Some job → slice_get views i ≡ Some v → (s : _) × (job.seat ≡ Some s) × (view s ≡ v)
   pub all : length views ≡ length jobs
   pub roles : length bundle.cast ≤ length jobs
 
-module _ (stage : Stage) (bundle : Bundle) (limit : ℕ) (jobs : List Job) (views : List (View Entry Base)) (left : WereLeft stage bundle jobs views) where
+module _ (stage : Stage) (bundle : PlainBundle) (limit : ℕ) (jobs : List Job) (views : List (View Entry Base)) (left : WereLeft stage bundle jobs views) where
   abbrev roles : List Job
   roles = take (length bundle.cast) jobs
 
-  pub all_ended : ending_in limit roles ≡ ending.Ended → AllEnded (plain bundle) views
+  pub all_ended : ending_in limit roles ≡ ending.Ended → AllEnded bundle views
   all_ended h i q v at here =
       let below = slice_get_within bundle.cast i q at in
       let job = at_within jobs i (let enough = left.roles in omega (arith, below, enough)) in
-      let done = done_state (job.0).state (test_at is_done roles i job.0 (ended_all limit roles h) (taken_at (length bundle.cast) jobs i job.0 below job.1)) in
+      let done = done_state (job.0).state (test_at has_done_state roles i job.0 (ended_all limit roles h) (taken_at (length bundle.cast) jobs i job.0 below job.1)) in
       let seat = left.seats i job.0 v job.1 here in
       let end = role_end stage bundle i (left.ends i job.0 job.1).0 job.0 (left.ends i job.0 job.1).1 seat.0 seat.1 done.0 done.1 in
       let same : end.role ≡ q = some_same (sym end.at ∙ at) in
-      subst (λ (u : View Entry Base). HasEnded (plain bundle) u.seen q) seat.2 (record {
+      subst (λ (u : View Entry Base). HasEnded bundle u.seen q) seat.2 (record {
         process = (local_of done.0).process;
         store = (local_of done.0).store;
-        stands = subst (λ r. RoleStandsAt (plain bundle) (view seat.0).seen r (local_of done.0).process (local_of done.0).store) same end.tied.stands;
+        stands = subst (λ r. RoleStandsAt bundle (view seat.0).seen r (local_of done.0).process (local_of done.0).store) same end.tied.stands;
         done = done.2;
       })
 
-  pub some_cut : ending_in limit roles ≡ ending.Limit → SomeCut (plain bundle) limit views
+  pub some_cut : ending_in limit roles ≡ ending.Limit → SomeCut bundle limit views
   some_cut h =
       let found = found_at (is_cut limit) roles (limit_some limit roles h) in
       let from = taken_from (length bundle.cast) jobs found.0 found.1 found.2 in
@@ -195,16 +194,16 @@ module _ (stage : Stage) (bundle : Bundle) (limit : ℕ) (jobs : List Job) (view
             (subst (λ o. option_map_or (λ s. length (view s).seen == limit) o false ≡ true) seat.1 parts.1));
         process = (local_of going.0).process;
         store = (local_of going.0).store;
-        stands = subst (λ (u : View Entry Base). RoleStandsAt (plain bundle) u.seen end.role (local_of going.0).process (local_of going.0).store) seat.2 end.tied.stands;
+        stands = subst (λ (u : View Entry Base). RoleStandsAt bundle u.seen end.role (local_of going.0).process (local_of going.0).store) seat.2 end.tied.stands;
         goes = going.2;
       }
 
   -- but where memory ran out each of the two comes exactly so
   module _ (e : Ending) (is : e ≡ ending_in limit roles) (enough : e ≢ ending.Memory) where
-    pub ended_exactly : (e ≡ ending.Ended) ↔ AllEnded (plain bundle) views
+    pub ended_exactly : (e ≡ ending.Ended) ↔ AllEnded bundle views
     ended_exactly =
-        (λ h. all_ended (sym is ∙ h), λ all. ended_rest e (λ h. never_both (plain bundle) limit views all (some_cut (sym is ∙ h))) enough)
+        (λ h. all_ended (sym is ∙ h), λ all. ended_rest e (λ h. never_both bundle limit views all (some_cut (sym is ∙ h))) enough)
 
-    pub limit_exactly : (e ≡ ending.Limit) ↔ SomeCut (plain bundle) limit views
+    pub limit_exactly : (e ≡ ending.Limit) ↔ SomeCut bundle limit views
     limit_exactly =
-        (λ h. some_cut (sym is ∙ h), λ cut. limit_rest e (λ h. never_both (plain bundle) limit views (all_ended (sym is ∙ h)) cut) enough)
+        (λ h. some_cut (sym is ∙ h), λ cut. limit_rest e (λ h. never_both bundle limit views (all_ended (sym is ∙ h)) cut) enough)

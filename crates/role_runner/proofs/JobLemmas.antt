@@ -3,7 +3,7 @@ use Rattle.std.proofs.Common.{◌≡◌, ◌<◌, ◌≤◌, ℕ, zero, suc, Lis
 use Rattle.std.proofs.lemmas.List.{length-map}
 use Rattle.std.proofs.lemmas.Option.{slice_get-get_or, slice_get-map, slice_get_read, slice_get_within}
 use Rattle.std.specs.Prelude.{option_map}
-use Rattle.dioc_terms.specs.declared.bundles.Bundle.{Bundle}
+use Rattle.dioc_terms.specs.Plain.{PlainBundle}
 use Rattle.dioc_terms.specs.declared.entries.Entry.{Entry}
 use Rattle.dioc_terms.specs.declared.names.Role.{Role}
 use Rattle.dioc_terms.specs.Terms.{distinct_roles}
@@ -63,7 +63,7 @@ pub nothing_there : (o : Option HomeSeat) → IsSome o → o ≡ None → ⊥
 nothing_there None there none = cc
 nothing_there (Some s) there none = cc
 
-module _ (stage : Stage) (bundle : Bundle) (limit : ℕ) (seats : List HomeSeat) (jobs : List Job) (opened : map seat_in jobs ≡ map (λ s. Some s) seats)
+module _ (stage : Stage) (bundle : PlainBundle) (limit : ℕ) (seats : List HomeSeat) (jobs : List Job) (opened : map seat_in jobs ≡ map (λ s. Some s) seats)
     (of : All (λ s. IsSeatIn stage s) seats) (fresh : map view seats ≡ opening_views (bundle, limit) (length bundle.cast)) where
   -- there is one for each role and one more
   pub jobs_many : length jobs ≡ suc (length bundle.cast)
@@ -142,7 +142,7 @@ module _ (stage : Stage) (bundle : Bundle) (limit : ℕ) (seats : List HomeSeat)
         roles = let many = jobs_many in omega (arith, many, all);
       }
 
-module _ (stage : Stage) (bundle : Bundle) (place : ℕ) (job : Job) (opens : OpensJob stage bundle place job) (s : HomeSeat) (seat : job.seat ≡ Some s) where
+module _ (stage : Stage) (bundle : PlainBundle) (place : ℕ) (job : Job) (opens : OpensJob stage bundle place job) (s : HomeSeat) (seat : job.seat ≡ Some s) where
   seated_at : IsSeatIn stage s × IsSeated bundle place (view s) × ((view s).seen ≡ [])
   seated_at = if_some_at (λ u. IsSeatIn stage u × IsSeated bundle place (view u) × ((view u).seen ≡ [])) job.seat s opens.seated seat
 
@@ -155,7 +155,7 @@ module _ (stage : Stage) (bundle : Bundle) (place : ℕ) (job : Job) (opens : Op
   pub seat_fresh : (view s).seen ≡ []
   seat_fresh = seated_at.2
 
-module _ (bundle : Bundle) (place : ℕ) (v : View Entry Base) (seated : IsSeated bundle place v) where
+module _ (bundle : PlainBundle) (place : ℕ) (v : View Entry Base) (seated : IsSeated bundle place v) where
   -- the seat of a role's thread is the role's
   pub role_seated : distinct_roles bundle.cast ≡ true → (q : Role) → slice_get bundle.cast place ≡ Some q → IsSeated bundle (cast_place bundle.cast q) v
   role_seated distinct q at = record {
@@ -177,13 +177,13 @@ module _ (bundle : Bundle) (place : ℕ) (v : View Entry Base) (seated : IsSeate
       past_all (r ∷ rs) (suc i) none = let more = past_all rs i none in omega (arith, more)
 
 -- a state that is tied to the seat of a role is of the role's place
-pub of_role : (bundle : Bundle) (place : ℕ) (v : View Entry Base) (q : Role) → slice_get bundle.cast place ≡ Some q → (o : Option FlatRole) → IfSome o (λ st. IsTied bundle q v (local_of st))
+pub of_role : (bundle : PlainBundle) (place : ℕ) (v : View Entry Base) (q : Role) → slice_get bundle.cast place ≡ Some q → (o : Option FlatRole) → IfSome o (λ st. IsTied bundle q v (local_of st))
     → IfSome o (IsOfRole bundle place v)
 of_role bundle place v q at o tied =
     some_each (IsOfRole bundle place v) o (λ st is. record { role = q; at = at; tied = if_some_at (λ x. IsTied bundle q v (local_of x)) o st tied is })
 
 -- what a job is left with
-pub place_ends : (stage : Stage) (bundle : Bundle) (place : ℕ) (old new : Job) (s t : HomeSeat) → old.seat ≡ Some s → new.seat ≡ Some t → IsSeatIn stage t → WentOn (view s) (view t)
+pub place_ends : (stage : Stage) (bundle : PlainBundle) (place : ℕ) (old new : Job) (s t : HomeSeat) → old.seat ≡ Some s → new.seat ≡ Some t → IsSeatIn stage t → WentOn (view s) (view t)
     → IfSome new.state (IsOfRole bundle place (view t)) → EndsJob stage bundle place old new
 place_ends stage bundle place old new s t seat there of went tied = record {
   here = subst IsSome (sym there) refl;
@@ -202,11 +202,11 @@ pub fresh_went : (base : Base) (count : ℕ) (seats : List HomeSeat) → map vie
 fresh_went base count seats fresh = subst (λ vs. AllWent vs vs) (sym fresh) (opening_went base count)
 
 -- what a job's thread may be given, and what it leaves, place by place
-pub opens_at : (stage : Stage) (bundle : Bundle) (jobs : List Job) → ((i : ℕ) → IfSome (slice_get jobs i) (λ job. OpensJob stage bundle i job)) → (i : ℕ) (job : Job) → i < length jobs
+pub opens_at : (stage : Stage) (bundle : PlainBundle) (jobs : List Job) → ((i : ℕ) → IfSome (slice_get jobs i) (λ job. OpensJob stage bundle i job)) → (i : ℕ) (job : Job) → i < length jobs
     → job ≡ get_or jobs i job → OpensJob stage bundle i job
 opens_at stage bundle jobs opens i job below is = if_some_at (OpensJob stage bundle i) (slice_get jobs i) job (opens i) (slice_get_read jobs (length jobs) i job refl below is)
 
-pub ends_each : (stage : Stage) (bundle : Bundle) (jobs ended : List Job) → length ended ≡ length jobs
+pub ends_each : (stage : Stage) (bundle : PlainBundle) (jobs ended : List Job) → length ended ≡ length jobs
     → ((i : ℕ) (d : Job) → i < length jobs → EndsJob stage bundle i (get_or jobs i d) (get_or ended i d))
     → (i : ℕ) → IfSome (slice_get jobs i) (λ old. IfSome (slice_get ended i) (λ new. EndsJob stage bundle i old new))
 ends_each stage bundle jobs ended same each i =

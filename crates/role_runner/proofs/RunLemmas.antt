@@ -3,11 +3,10 @@ use Rattle.std.proofs.Common.{◌≡◌, ◌+◌, ◌≤◌, ℕ, zero, suc, Lis
 use Rattle.std.proofs.lemmas.Bool.{and_parts, cond-true, cond-false, not-true, or_left, or_right, both_ways}
 use Rattle.std.proofs.lemmas.Option.{slice_get_within}
 use Rattle.std.specs.List.{list_all}
-use Rattle.dioc_terms.specs.declared.bundles.Bundle.{Bundle}
 use Rattle.dioc_terms.specs.declared.entries.Entry.{Entry}
 use Rattle.dioc_terms.specs.declared.names.Role.{Role}
 use Rattle.dioc_terms.specs.Equality.{member, role_eq}
-use Rattle.dioc_terms.specs.Plain.{PlainBundle, plain}
+use Rattle.dioc_terms.specs.Plain.{PlainBundle}
 use Rattle.dioc_terms.specs.Terms.{distinct_roles}
 use Rattle.marked_laws.proofs.Equality.{role_itself, role_same}
 use Rattle.marked_laws.proofs.Premise.{all_member}
@@ -85,39 +84,36 @@ all_roles p (q ∷ qs) each = ap₂ (λ s t. s && t) (each 0 q refl) (all_roles 
 
 -- The seats of a stage that was closed: they went on from the opening ones, and the history begins
 -- with what each has seen and has no more entries of its number than it has of its own.
-pub record Closed (bundle : Bundle) (limit : ℕ) (views : List (View Entry Base)) (H : List Entry) : Type 0 where
-  pub sound : IsSound (plain bundle)
+pub record Closed (bundle : PlainBundle) (limit : ℕ) (views : List (View Entry Base)) (H : List Entry) : Type 0 where
+  pub sound : IsSound bundle
   pub network : Network
-  pub runs : network_run (plain bundle) H ≡ Some network
+  pub runs : network_run bundle H ≡ Some network
   pub within : length H ≤ limit
   pub went : AllWent (opening_views (bundle, limit) (length bundle.cast)) views
   pub own : (i : ℕ) (v : View Entry Base) → slice_get views i ≡ Some v → items_of (owner_in bundle.cast) (number v) H ≡ mine v
   pub begins : (i : ℕ) (v : View Entry Base) → slice_get views i ≡ Some v → BeginsWith H v.seen
 
-module _ (law : OthersLeaveAlone) (distinct : (b : PlainBundle) → IsSound b → distinct_roles b.cast ≡ true) (bundle : Bundle) (limit : ℕ) (views : List (View Entry Base)) (H : List Entry)
-    (closed : Closed bundle limit views H) where
-  abbrev b : PlainBundle
-  b = plain bundle
-
+module _ (law : OthersLeaveAlone) (distinct : (b : PlainBundle) → IsSound b → distinct_roles b.cast ≡ true) (b : PlainBundle) (limit : ℕ) (views : List (View Entry Base)) (H : List Entry)
+    (closed : Closed b limit views H) where
   -- a role of the cast has a seat
-  seat_at : (i : ℕ) (q : Role) → slice_get bundle.cast i ≡ Some q → (v : View Entry Base) × (slice_get views i ≡ Some v)
+  seat_at : (i : ℕ) (q : Role) → slice_get b.cast i ≡ Some q → (v : View Entry Base) × (slice_get views i ≡ Some v)
   seat_at i q at =
-      let below = slice_get_within bundle.cast i q at in
-      let same = went_lengths (opening_views (bundle, limit) (length bundle.cast)) views closed.went in
-      let many = opening_length (bundle, limit) (length bundle.cast) in
+      let below = slice_get_within b.cast i q at in
+      let same = went_lengths (opening_views (b, limit) (length b.cast)) views closed.went in
+      let many = opening_length (b, limit) (length b.cast) in
       at_within views i (omega (arith, below, same, many))
 
   -- it stands after the history where it stood after what its seat has seen
-  stands_after : (i : ℕ) (q : Role) (v : View Entry Base) (P : _) (s : _) → slice_get bundle.cast i ≡ Some q → slice_get views i ≡ Some v → RoleStandsAt b v.seen q P s → RoleStandsAt b H q P s
+  stands_after : (i : ℕ) (q : Role) (v : View Entry Base) (P : _) (s : _) → slice_get b.cast i ≡ Some q → slice_get views i ≡ Some v → RoleStandsAt b v.seen q P s → RoleStandsAt b H q P s
   stands_after i q v P s at here stands =
-      let from = went_at (opening_views (bundle, limit) (length bundle.cast)) views i v closed.went here in
-      let opened = opening_at (bundle, limit) (length bundle.cast) i from.0 from.1 in
-      let number_is : number v ≡ cast_place bundle.cast q =
-      (from.2).number_is ∙ opened.number_is ∙ sym (place_at bundle.cast i q (distinct b closed.sound) at) in
-      let met = (from.2).met (bundle, limit) ((from.2).base ∙ opened.based) in
+      let from = went_at (opening_views (b, limit) (length b.cast)) views i v closed.went here in
+      let opened = opening_at (b, limit) (length b.cast) i from.0 from.1 in
+      let number_is : number v ≡ cast_place b.cast q =
+      (from.2).number_is ∙ opened.number_is ∙ sym (place_at b.cast i q (distinct b closed.sound) at) in
+      let met = (from.2).met (b, limit) ((from.2).base ∙ opened.based) in
       law b v.seen H (mine v) closed.network q P s (closed.begins i v here)
-      (subst (λ n. items_of (owner_in bundle.cast) n H ≡ mine v) number_is (closed.own i v here))
-      (subst (λ n. items_of (owner_in bundle.cast) n v.seen ≡ mine v) number_is met) closed.runs stands
+      (subst (λ n. items_of (owner_in b.cast) n H ≡ mine v) number_is (closed.own i v here))
+      (subst (λ n. items_of (owner_in b.cast) n v.seen ≡ mine v) number_is met) closed.runs stands
 
   process_after : (q : Role) (P : _) (s : _) → RoleStandsAt b H q P s → closed.network.processes q ≡ P
   process_after q P s at = ap (λ (N : Network). N.processes q) (some_same (sym closed.runs ∙ at.runs)) ∙ at.process
@@ -129,13 +125,13 @@ module _ (law : OthersLeaveAlone) (distinct : (b : PlainBundle) → IsSound b �
   none_left pending h = ap no_message h
 
   -- where each role's process has ended, the network has
-  pub run_ended : NothingLeft → AllEnded b views → network_ended bundle.cast (network_at b H) ≡ true
+  pub run_ended : NothingLeft → AllEnded b views → network_ended b.cast (network_at b H) ≡ true
   run_ended nothing ended_all =
-      let all = all_roles (λ q. ended (closed.network.processes q)) bundle.cast (λ i q at.
+      let all = all_roles (λ q. ended (closed.network.processes q)) b.cast (λ i q at.
       let seat = seat_at i q at in
       let end = ended_all i q seat.0 at seat.1 in
       ap ended (process_after q end.process end.store (stands_after i q seat.0 end.process end.store at seat.1 end.stands)) ∙ end.done) in
-      ap (network_ended bundle.cast) network_there
+      ap (network_ended b.cast) network_there
       ∙ ap₂ (λ s t. s && t) all (ap no_message (nothing b H closed.network closed.sound closed.runs all))
 
   -- where a role was cut, the network has not, and the history is full
@@ -146,9 +142,9 @@ module _ (law : OthersLeaveAlone) (distinct : (b : PlainBundle) → IsSound b �
     pub run_full : length H ≡ limit
     run_full = ap length seen_whole ∙ cut.full
 
-    pub run_goes : network_ended bundle.cast (network_at b H) ≡ false
-    run_goes = ap (network_ended bundle.cast) network_there ∙ apart (network_ended bundle.cast closed.network) (λ over.
+    pub run_goes : network_ended b.cast (network_at b H) ≡ false
+    run_goes = ap (network_ended b.cast) network_there ∙ apart (network_ended b.cast closed.network) (λ over.
         both_ways (ended cut.process) cut.goes
         (ap ended (sym (process_after cut.role cut.process cut.store (stands_after cut.place cut.role cut.view cut.process cut.store cut.at cut.here cut.stands)))
-        ∙ all_member (λ q. ended (closed.network.processes q)) bundle.cast cut.role
-        (and_parts (list_all (λ q. ended (closed.network.processes q)) bundle.cast) (no_message closed.network.pending) over).0 (member_at bundle.cast cut.place cut.role cut.at)))
+        ∙ all_member (λ q. ended (closed.network.processes q)) b.cast cut.role
+        (and_parts (list_all (λ q. ended (closed.network.processes q)) b.cast) (no_message closed.network.pending) over).0 (member_at b.cast cut.place cut.role cut.at)))

@@ -117,7 +117,7 @@ begin_keeps b H N M i r c runs more q = ⊎_elim by_role by_change (network_case
     by_change : ChangeStep (setting b) N (entry.Scope i r c) M → M.stores q ≡ N.stores q
     by_change s = ap (λ (L : Network). L.stores q) s.gives
 
-module _ (leaders : LeadersTell) (bundle : Bundle) (q : Role) (v : View Entry Base) (s : LocalState) (tied : IsTied bundle q v s) (i : Index) (p : Prepared)
+module _ (leaders : LeadersTell) (bundle : PlainBundle) (q : Role) (v : View Entry Base) (s : LocalState) (tied : IsTied bundle q v s) (i : Index) (p : Prepared)
     (prepared : IsPrepared s (act.Scope i) p) where
   pub led : (lead : Lead) × (acting_lead s (act.Scope i) ≡ Some lead)
   led = lead_there s (act.Scope i) refl prepared.can_act
@@ -132,7 +132,7 @@ module _ (leaders : LeadersTell) (bundle : Bundle) (q : Role) (v : View Entry Ba
   pub tells : Tells bundle.cast s (act.Scope i)
   tells lead is =
       subst (λ r. TellsOthers bundle.cast r lead.head lead.others) (sym tied.role)
-      (tells_run leaders (plain bundle) v.seen tied.stands.network tied.stands.runs q (act.Scope i) lead
+      (tells_run leaders bundle v.seen tied.stands.network tied.stands.runs q (act.Scope i) lead
       (ap (λ l. acting_lead l (act.Scope i)) local_there ∙ is))
 
   module _ (head : ScopeHead) (is_head : p.head ≡ Some head) where
@@ -150,12 +150,12 @@ module _ (leaders : LeadersTell) (bundle : Bundle) (q : Role) (v : View Entry Ba
 
     pub begin_can : (kept : Store) → kept ≡ s.store → CanCommitScope v head kept
     begin_can kept same base at =
-        subst (λ t. (number v ≡ cast_place base.0.cast head.leader) × CanBegin (plain base.0) v.seen head t) (sym same)
-        (subst (λ (b : Base). (number v ≡ cast_place b.0.cast head.leader) × CanBegin (plain b.0) v.seen head s.store) (some_same (sym tied.base ∙ at)) (
+        subst (λ t. (number v ≡ cast_place base.0.cast head.leader) × CanBegin base.0 v.seen head t) (sym same)
+        (subst (λ (b : Base). (number v ≡ cast_place b.0.cast head.leader) × CanBegin b.0 v.seen head s.store) (some_same (sym tied.base ∙ at)) (
           tied.number_is ∙ ap (cast_place bundle.cast) (sym leads),
           record {
             process = s.process;
-            stands = subst (λ r. RoleStandsAt (plain bundle) v.seen r s.process s.store) (sym leads) tied.stands;
+            stands = subst (λ r. RoleStandsAt bundle v.seen r s.process s.store) (sym leads) tied.stands;
             lead = led.0;
             leads = (λ j. acting_lead (record { role = (leads ∙ sym tied.role) j; process = s.process; store = s.store }) (act.Scope (sym index_is j))) ∙ led.1;
             same = heads;
@@ -170,36 +170,36 @@ module _ (leaders : LeadersTell) (bundle : Bundle) (q : Role) (v : View Entry Ba
       bundles = ap (λ (b : Base). b.0) (some_same (sym done.done.added.found.base ∙ tied.base))
 
       -- what the book of the home that was found chose
-      pub chosen : update ≡ update_of (plain bundle).rules found_network.book found_network.updates head s.store
+      pub chosen : update ≡ update_of bundle.rules found_network.book found_network.updates head s.store
       chosen =
           let home = done.done.added.home in
-          let there = network_is (plain home.bundle) home.history found_network done.done.added.found.sound.runs in
-          done.chosen ∙ (λ j. update_of (plain (bundles j)).rules (there j).book (there j).updates head s.store)
+          let there = network_is home.bundle home.history found_network done.done.added.found.sound.runs in
+          done.chosen ∙ (λ j. update_of (bundles j).rules (there j).book (there j).updates head s.store)
 
       -- the leader's store there is its own
       stored : found_network.stores head.leader ≡ s.store
       stored =
           let home = done.done.added.home in
           let moved = done.done.moved (bundle, tied.limit) s.process s.store (tied.base, tied.number_is ∙ ap (cast_place bundle.cast) (sym leads))
-          (subst (λ r. RoleStandsAt (plain bundle) v.seen r s.process s.store) (sym leads) tied.stands) in
+          (subst (λ r. RoleStandsAt bundle v.seen r s.process s.store) (sym leads) tied.stands) in
           let at = moved.2 in
-          let runs : network_run (plain home.bundle) (home.history ++ begin_in home head s.store ∷ []) ≡ Some at.network =
-          (λ j. network_run (plain (bundles j)) (home.history ++ sym done.shows j ∷ [])) ∙ ap (network_run (plain bundle)) (sym done.done.added.seen) ∙ at.runs in
-          sym (begin_keeps (plain home.bundle) home.history found_network at.network head.index head.leader _ done.done.added.found.sound.runs runs head.leader)
+          let runs : network_run home.bundle (home.history ++ begin_in home head s.store ∷ []) ≡ Some at.network =
+          (λ j. network_run (bundles j) (home.history ++ sym done.shows j ∷ [])) ∙ ap (network_run bundle) (sym done.done.added.seen) ∙ at.runs in
+          sym (begin_keeps home.bundle home.history found_network at.network head.index head.leader _ done.done.added.found.sound.runs runs head.leader)
           ∙ at.store ∙ choice_keeps done.deed s.store head.index head.leader _ done.shows
 
-      pub given_is : done.given ≡ book_given (plain bundle) found_network.book found_network.updates s.store
+      pub given_is : done.given ≡ book_given bundle found_network.book found_network.updates s.store
       given_is =
-          done.done.came ∙ (λ j. FromBook (λ h. decision (plain (bundles j)).cast found_network.updates h
-          (book_choice (plain (bundles j)).rules found_network.book h (stored j))))
+          done.done.came ∙ (λ j. FromBook (λ h. decision (bundles j).cast found_network.updates h
+          (book_choice (bundles j).rules found_network.book h (stored j))))
 
       -- the role went on as the book said
-      pub begin_leaves : (local' : LocalState) → IsStep s (act.Scope i) (book_given (plain bundle) found_network.book found_network.updates s.store) local'
+      pub begin_leaves : (local' : LocalState) → IsStep s (act.Scope i) (book_given bundle found_network.book found_network.updates s.store) local'
           → Leaves bundle q v w tried.Done local'
       begin_leaves local' stepped =
           moved_leaves bundle q v s tied role_fault w head.leader (act.Scope head.index) done.given done.deed leads done.done local'
           (subst (λ g. IsStep s (act.Scope head.index) g local') (sym given_is)
-          (subst (λ j. IsStep s (act.Scope j) (book_given (plain bundle) found_network.book found_network.updates s.store) local') index_is stepped))
+          (subst (λ j. IsStep s (act.Scope j) (book_given bundle found_network.book found_network.updates s.store) local') index_is stepped))
 
       -- it found no memory to go on
       pub begin_behind : (local' : LocalState) → Leaves bundle q v w tried.Behind local'

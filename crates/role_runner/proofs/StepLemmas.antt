@@ -29,7 +29,7 @@ use Rattle.net_core.proofs.MoveLemmas.{reached, deed_of}
 use Rattle.process_steps.specs.Laws.{given_fits, is_done, load_fits, OffersAreSteps, StepsShowTheirActs}
 use Rattle.process_steps.specs.Steps.{Deed, Puts, Takes, Sets, Inputs, Picks, Chooses, Given, Alone, Got, FromBook, Keeps, entry_of, ended, is_offered, step}
 use Rattle.role_runner.specs.Acts.{is_alone}
-use Rattle.stage.specs.Roles.{RoleStandsAt, is_set, own_deed}
+use Rattle.stage.specs.Roles.{RoleStandsAt, is_assignment, own_deed}
 
 -- what a message with this tag may carry
 abbrev fitting_load : Tag → Load
@@ -149,7 +149,7 @@ alone_fits (act.Take k) h = cc
 alone_fits (act.Scope i) h = cc
 
 -- the entry of what is set, read or picked
-pub set_entry : (e : Entry) (a : Act) → act_of e ≡ Some a → (i : _) → a ≡ act.Set i → is_set e ≡ true
+pub set_entry : (e : Entry) (a : Act) → act_of e ≡ Some a → (i : _) → a ≡ act.Set i → is_assignment e ≡ true
 set_entry (entry.Set j r x v) a is i same = refl
 set_entry (entry.Put k n) a is i same = absurd (let h : act.Put k ≡ act.Set i = some_same is ∙ same in cc)
 set_entry (entry.Take k x) a is i same = absurd (let h : act.Take k ≡ act.Set i = some_same is ∙ same in cc)

@@ -5,14 +5,13 @@ use Rattle.std.proofs.lemmas.Bool.Decides.{nat_tests}
 use Rattle.std.specs.List.{list_all}
 use Rattle.std.specs.Option.{option_or}
 use Rattle.std.specs.Prelude.{Err, IfErr, IfOk, Ok, Result, is_none, nat_le}
-use Rattle.dioc_terms.specs.declared.bundles.Bundle.{Bundle}
 use Rattle.dioc_terms.specs.declared.entries.Act.{Act}
 use Rattle.dioc_terms.specs.declared.entries.Entry.{Entry}
 use Rattle.dioc_terms.specs.declared.names.Role.{Role}
 use Rattle.dioc_terms.specs.declared.processes.Key.{Key}
 use Rattle.dioc_terms.specs.Attempts.{Does}
 use Rattle.dioc_terms.specs.Equality.{member}
-use Rattle.dioc_terms.specs.Plain.{plain}
+use Rattle.dioc_terms.specs.Plain.{PlainBundle}
 use Rattle.dpoc_process.specs.LocalStates.{LocalState}
 use Rattle.dpoc_process.specs.RoleSteps.{IsStep}
 use Rattle.marked_laws.proofs.Premise.{all_member}
@@ -67,7 +66,7 @@ pub went_nowhere : (v : View Entry Base) → HasMet v → WentOn v v
 went_nowhere v met = record { base = refl; number_is = refl; made = refl; met = met }
 
 -- and its role's state is tied to it still
-pub looked_tied : (bundle : Bundle) (q : Role) (v w : View Entry Base) (local : LocalState) → LookedOn v w → IsTied bundle q v local → IsTied bundle q w local
+pub looked_tied : (bundle : PlainBundle) (q : Role) (v w : View Entry Base) (local : LocalState) → LookedOn v w → IsTied bundle q v local → IsTied bundle q w local
 looked_tied bundle q v w local looked tied = record {
   limit = tied.limit;
   base = looked.same_base ∙ tied.base;
@@ -86,13 +85,13 @@ module _ (fault_of : HomeState → Option CommitFault) (v w : View Entry Base) (
 full_le : (n m : ℕ) → nat_le n m ≡ true → n ≤ m
 full_le n m h = grind (arith, nat_tests)
 
-module _ (bundle : Bundle) (q : Role) (v : View Entry Base) (local : LocalState) (tied : IsTied bundle q v local) where
+module _ (bundle : PlainBundle) (q : Role) (v : View Entry Base) (local : LocalState) (tied : IsTied bundle q v local) where
   -- a role that made the step that was committed is tied to its seat again
   pub moved_tied : (fault_of : HomeState → Option CommitFault) (w : View Entry Base) (r : Role) (a : Act) (given : Given) (d : Deed) → r ≡ q → Committed fault_of v w r a given d
       → (local' : LocalState) → IsStep local a given local' → IsTied bundle q w local'
   moved_tied fault_of w r a given d same done local' stepped =
       let moved = done.moved (bundle, tied.limit) local.process local.store (tied.base, tied.number_is ∙ ap (cast_place bundle.cast) (sym same))
-      (subst (λ p. RoleStandsAt (plain bundle) v.seen p local.process local.store) (sym same) tied.stands) in
+      (subst (λ p. RoleStandsAt bundle v.seen p local.process local.store) (sym same) tied.stands) in
       let role : r ≡ local.role = same ∙ sym tied.role in
       let both : Does d moved.0 ≡ Does stepped.deed stepped.left = sym moved.1 ∙ ap (λ p. step p local.store local.process a given) role ∙ stepped.does in
       let deed : d ≡ stepped.deed = deed_same both in
@@ -104,10 +103,10 @@ module _ (bundle : Bundle) (q : Role) (v : View Entry Base) (local : LocalState)
         number_is = done.added.same_number ∙ tied.number_is;
         met = added_met fault_of v w (entry_of d) done.added;
         role = ap (λ (l : LocalState). l.role) stepped.becomes ∙ tied.role;
-        stands = subst (λ (l : LocalState). RoleStandsAt (plain bundle) w.seen q l.process l.store) (sym stepped.becomes)
-            (subst (λ p. RoleStandsAt (plain bundle) w.seen p stepped.left (store_after stepped.deed local.store)) same
-            (subst (λ P. RoleStandsAt (plain bundle) w.seen r P (store_after stepped.deed local.store)) left
-            (subst (λ e. RoleStandsAt (plain bundle) w.seen r moved.0 (store_after e local.store)) deed moved.2)));
+        stands = subst (λ (l : LocalState). RoleStandsAt bundle w.seen q l.process l.store) (sym stepped.becomes)
+            (subst (λ p. RoleStandsAt bundle w.seen p stepped.left (store_after stepped.deed local.store)) same
+            (subst (λ P. RoleStandsAt bundle w.seen r P (store_after stepped.deed local.store)) left
+            (subst (λ e. RoleStandsAt bundle w.seen r moved.0 (store_after e local.store)) deed moved.2)));
       }
 
   -- what a done act leaves
@@ -154,15 +153,15 @@ module _ (bundle : Bundle) (q : Role) (v : View Entry Base) (local : LocalState)
         let le : home.limit ≤ length home.history = full_le home.limit (length home.history) full in
         let within = found.sound.within in
         let N = found.sound.network in
-        subst (λ (b : Base). IsCut (plain b.0) b.1 w.seen) same (subst (λ H. IsCut (plain home.bundle) home.limit H) found.history (record {
+        subst (λ (b : Base). IsCut b.0 b.1 w.seen) same (subst (λ H. IsCut home.bundle home.limit H) found.history (record {
           network = N;
           runs = found.sound.runs;
           full = omega (arith, le, within);
           goes = not_true (network_ended home.bundle.cast N) (λ over.
               let stands = still.stands in
               let nets : stands.network ≡ N =
-              some_same (sym stands.runs ∙ ap (λ (b : Bundle). network_of b w.seen) (sym bundles) ∙ ap (network_of home.bundle) (sym found.history) ∙ found.sound.runs) in
-              network_goes w.seen N (subst (λ (b : Bundle). network_ended b.cast N ≡ true) bundles over)
+              some_same (sym stands.runs ∙ ap (λ (b : PlainBundle). network_of b w.seen) (sym bundles) ∙ ap (network_of home.bundle) (sym found.history) ∙ found.sound.runs) in
+              network_goes w.seen N (subst (λ (b : PlainBundle). network_ended b.cast N ≡ true) bundles over)
               (ap (λ (M : Network). M.processes q) (sym nets) ∙ stands.process) goes);
         }));
   }
@@ -170,8 +169,8 @@ module _ (bundle : Bundle) (q : Role) (v : View Entry Base) (local : LocalState)
       still : IsTied bundle q w local
       still = looked_tied bundle q v w local refused.looked tied
 
-      network_of : Bundle → List Entry → Option Network
-      network_of b H = network_run (plain b) H
+      network_of : PlainBundle → List Entry → Option Network
+      network_of b H = network_run b H
 
       refused_same : {f g : CommitFault} → tried.Refused f ≡ tried.Refused g → f ≡ g
       refused_same e = cc
@@ -198,8 +197,8 @@ fulls false u h = absurd (wait_not_full u h)
 
 pub role_full : (home : HomeState) → role_fault home ≡ Some fault.Full → nat_le home.limit (length home.history) ≡ true
 role_full home h =
-    fulls (nat_le home.limit (length home.history)) (change_is_due (plain home.bundle) home.history)
-    (full_or (stop_fault home.stopped) (option_or (full_fault home) (fault_if (change_is_due (plain home.bundle) home.history) fault.NotYet)) h (stop_not_full home.stopped))
+    fulls (nat_le home.limit (length home.history)) (change_is_due home.bundle home.history)
+    (full_or (stop_fault home.stopped) (option_or (full_fault home) (fault_if (change_is_due home.bundle home.history) fault.NotYet)) h (stop_not_full home.stopped))
 
 role_or : (o : Option CommitFault) (t : Bool) → option_or o (fault_if t fault.NotYet) ≡ Some fault.Full → o ≡ Some fault.Full
 role_or None t h = absurd (wait_not_full t h)
@@ -207,11 +206,11 @@ role_or (Some f) t h = h
 
 pub take_full : (k : Key) (home : HomeState) → take_fault k home ≡ Some fault.Full → nat_le home.limit (length home.history) ≡ true
 take_full k home h =
-    role_full home (role_or (role_fault home) (is_none (pending_at k (network_at (plain home.bundle) home.history).pending)) h)
+    role_full home (role_or (role_fault home) (is_none (pending_at k (network_at home.bundle home.history).pending)) h)
 
 -- before its first act a role is tied to a seat that has seen nothing
-pub opening_tied : (bundle : Bundle) (q : Role) (v : View Entry Base) (local : LocalState) → member q bundle.cast ≡ true → IsSeated bundle (cast_place bundle.cast q) v → v.seen ≡ []
-    → local ≡ local_in (network_start (plain bundle)) q → IsTied bundle q v local
+pub opening_tied : (bundle : PlainBundle) (q : Role) (v : View Entry Base) (local : LocalState) → member q bundle.cast ≡ true → IsSeated bundle (cast_place bundle.cast q) v → v.seen ≡ []
+    → local ≡ local_in (network_start bundle) q → IsTied bundle q v local
 opening_tied bundle q v local in_cast seated nothing is = record {
   limit = seated.limit;
   base = seated.base;
@@ -219,21 +218,21 @@ opening_tied bundle q v local in_cast seated nothing is = record {
   number_is = seated.number_is;
   met = seated.met;
   role = ap (λ (l : LocalState). l.role) is;
-  stands = subst (λ H. RoleStandsAt (plain bundle) H q local.process local.store) (sym nothing)
-      (subst (λ (l : LocalState). RoleStandsAt (plain bundle) [] q l.process l.store) (sym is)
-      (record { network = network_start (plain bundle); runs = refl; process = refl; store = refl }));
+  stands = subst (λ H. RoleStandsAt bundle H q local.process local.store) (sym nothing)
+      (subst (λ (l : LocalState). RoleStandsAt bundle [] q l.process l.store) (sym is)
+      (record { network = network_start bundle; runs = refl; process = refl; store = refl }));
 }
 
 -- a role that is tied and has ended may be marked as finished
-pub tied_finished : (bundle : Bundle) (q : Role) (v : View Entry Base) (local : LocalState) → IsTied bundle q v local → ended local.process ≡ true → HasFinished v q
+pub tied_finished : (bundle : PlainBundle) (q : Role) (v : View Entry Base) (local : LocalState) → IsTied bundle q v local → ended local.process ≡ true → HasFinished v q
 tied_finished bundle q v local tied over base is =
-    subst (λ (b : Base). (number v ≡ cast_place b.0.cast q) × HasEnded (plain b.0) v.seen q) (some_same (sym tied.base ∙ is)) (
+    subst (λ (b : Base). (number v ≡ cast_place b.0.cast q) × HasEnded b.0 v.seen q) (some_same (sym tied.base ∙ is)) (
       tied.number_is,
       record { process = local.process; store = local.store; stands = tied.stands; done = over },
     )
 
 -- a try that came to nothing leaves all as it was
-pub stays_leaves : (bundle : Bundle) (q : Role) (v : View Entry Base) (local : LocalState) (f : CommitFault) → (f ≡ fault.Full → ⊥) → IsTied bundle q v local
+pub stays_leaves : (bundle : PlainBundle) (q : Role) (v : View Entry Base) (local : LocalState) (f : CommitFault) → (f ≡ fault.Full → ⊥) → IsTied bundle q v local
     → Leaves bundle q v v (tried.Refused f) local
 stays_leaves bundle q v local f isnt tied = record {
   went = went_nowhere v tied.met;
@@ -245,7 +244,7 @@ stays_leaves bundle q v local f isnt tied = record {
     refused_same e = cc
 
 -- what a try leaves of a seat that had gone on before
-pub leaves_through : (bundle : Bundle) (q : Role) (u v w : View Entry Base) (t : Tried) (local : LocalState) → WentOn u v → Leaves bundle q v w t local → Leaves bundle q u w t local
+pub leaves_through : (bundle : PlainBundle) (q : Role) (u v w : View Entry Base) (t : Tried) (local : LocalState) → WentOn u v → Leaves bundle q v w t local → Leaves bundle q u w t local
 leaves_through bundle q u v w t local went leaves = record {
   went = went_through u v w went leaves.went;
   tied = leaves.tied;

@@ -2,9 +2,9 @@
 use Rattle.std.specs.Prelude.{◌≡◌, ◌≤◌, ℕ, ◌==◌, List, [], Bool, false, ◌&&◌, not, Option, Some, None, IfSome, IsSome, if◌then◌else◌, length, slice_get}
 use Rattle.std.specs.List.{list_all, list_any}
 use Rattle.std.specs.Option.{option_map_or}
-use Rattle.dioc_terms.specs.declared.bundles.Bundle.{Bundle}
 use Rattle.dioc_terms.specs.declared.entries.Entry.{Entry}
 use Rattle.dioc_terms.specs.declared.names.Role.{Role}
+use Rattle.dioc_terms.specs.Plain.{PlainBundle}
 use Rattle.flat_role.specs.declared.states.FlatRole.{FlatRole}
 use Rattle.flat_role.specs.FlatStates.{local_of}
 use Rattle.process_steps.specs.Steps.{ended}
@@ -20,21 +20,21 @@ use Rattle.turn_lock.specs.Words.{view}
 
 -- The job has a seat that has seen nothing, of the stage and under the number of the place: that of
 -- a role, or the feeder's behind them
-pub record OpensJob (stage : Stage) (bundle : Bundle) (place : ℕ) (job : Job) : Type 0 where
+pub record OpensJob (stage : Stage) (bundle : PlainBundle) (place : ℕ) (job : Job) : Type 0 where
   pub seated : IfSome job.seat (λ s.
       IsSeatIn stage s × IsSeated bundle place (view s) × ((view s).seen ≡ []))
   pub here : IsSome job.seat
   pub within : place ≤ length bundle.cast
 
 -- the state is that of the role at the place, and tied to the view
-pub record IsOfRole (bundle : Bundle) (place : ℕ) (v : View Entry Base) (state : FlatRole)
+pub record IsOfRole (bundle : PlainBundle) (place : ℕ) (v : View Entry Base) (state : FlatRole)
     : Type 0 where
   pub role : Role
   pub at : slice_get bundle.cast place ≡ Some role
   pub tied : IsTied bundle role v (local_of state)
 
 -- the job's seat went on, and is there; its state, where there is one, is tied to it
-pub record EndsJob (stage : Stage) (bundle : Bundle) (place : ℕ) (old new : Job) : Type 0 where
+pub record EndsJob (stage : Stage) (bundle : PlainBundle) (place : ℕ) (old new : Job) : Type 0 where
   pub here : IsSome new.seat
   pub of : IfSome new.seat (λ t. IsSeatIn stage t)
   pub went : IfSome old.seat (λ s. IfSome new.seat (λ t. WentOn (view s) (view t)))
@@ -44,8 +44,8 @@ abbrev pub is_done_state : Option FlatRole → Bool
 is_done_state None = false
 is_done_state (Some state) = ended (local_of state).process
 
-abbrev pub is_done : Job → Bool
-is_done job = is_done_state job.state
+abbrev pub has_done_state : Job → Bool
+has_done_state job = is_done_state job.state
 
 -- how many entries the seat of a job has seen, where it has one
 abbrev pub has_seen : ℕ → Job → Bool
@@ -62,5 +62,5 @@ is_cut limit job = is_going job.state && has_seen limit job
 -- how the jobs of all roles came to their end
 abbrev pub ending_in : ℕ → List Job → Ending
 ending_in limit jobs =
-    if list_all is_done jobs then ending.Ended else if list_any (is_cut limit) jobs then
+    if list_all has_done_state jobs then ending.Ended else if list_any (is_cut limit) jobs then
     ending.Limit else ending.Memory

@@ -53,12 +53,12 @@ pub(crate) fn put<R: Wait, G: Gate>(
 ) -> (Seat<Home>, Tried)
     requires sound { IsSound (plain bundle.now) }
     requires of { IsSeatIn stage.now seat }
-    requires tied { IsTied bundle.now role.now (view seat) (local_of state.old) }
+    requires tied { IsTied (plain bundle.now) role.now (view seat) (local_of state.old) }
     requires ready { IsReady state.old act.now }
     requires shown { IsPrepared (local_of state.old) act.now prepared }
     requires put { (k : OneKey) × (act.now ≡ acts.Put k) }
     ensures of { IsSeatIn stage.now result.0 }
-    ensures leaves { Leaves bundle.now role.now (view seat) (view result.0) result.1
+    ensures leaves { Leaves (plain bundle.now) role.now (view seat) (view result.0) result.1
         (local_of state.new) }
 {
     known();
@@ -106,12 +106,12 @@ pub(crate) fn take<R: Wait, G: Gate>(
 ) -> (Seat<Home>, Tried)
     requires sound { IsSound (plain bundle.now) }
     requires of { IsSeatIn stage.now seat }
-    requires tied { IsTied bundle.now role.now (view seat) (local_of state.old) }
+    requires tied { IsTied (plain bundle.now) role.now (view seat) (local_of state.old) }
     requires ready { IsReady state.old act.now }
     requires shown { IsPrepared (local_of state.old) act.now prepared }
     requires take { (k : OneKey) × (act.now ≡ acts.Take k) }
     ensures of { IsSeatIn stage.now result.0 }
-    ensures leaves { Leaves bundle.now role.now (view seat) (view result.0) result.1
+    ensures leaves { Leaves (plain bundle.now) role.now (view seat) (view result.0) result.1
         (local_of state.new) }
 {
     known();
@@ -163,12 +163,12 @@ pub(crate) fn alone<R: Wait, G: Gate>(
 ) -> (Seat<Home>, Tried)
     requires sound { IsSound (plain bundle.now) }
     requires of { IsSeatIn stage.now seat }
-    requires tied { IsTied bundle.now role.now (view seat) (local_of state.old) }
+    requires tied { IsTied (plain bundle.now) role.now (view seat) (local_of state.old) }
     requires ready { IsReady state.old act.now }
     requires shown { IsPrepared (local_of state.old) act.now prepared }
     requires alone { is_alone act.now ≡ true }
     ensures of { IsSeatIn stage.now result.0 }
-    ensures leaves { Leaves bundle.now role.now (view seat) (view result.0) result.1
+    ensures leaves { Leaves (plain bundle.now) role.now (view seat) (view result.0) result.1
         (local_of state.new) }
 {
     known();

@@ -38,12 +38,13 @@ pub(crate) fn play<R: Wait, G: Gate>(
     requires sound { IsSound (plain bundle.now) }
     requires of { IsSeatIn stage.now seat }
     requires in_cast { member role.now bundle.now.cast ≡ true }
-    requires seated { IsSeated bundle.now (cast_place bundle.now.cast role.now) (view seat) }
+    requires seated { IsSeated (plain bundle.now) (cast_place bundle.now.cast role.now)
+        (view seat) }
     requires fresh { (view seat).seen ≡ [] }
     ensures of { IsSeatIn stage.now result.0 }
     ensures went { WentOn (view seat) (view result.0) }
     ensures tied { IfSome result.1
-        (λ state. IsTied bundle.now role.now (view result.0) (local_of state)) }
+        (λ state. IsTied (plain bundle.now) role.now (view result.0) (local_of state)) }
 {
     dioc_terms::casts_are_roles();
     match opening_state(alloc, bundle, role) {
@@ -66,11 +67,11 @@ fn play_on<R: Wait, G: Gate>(
 ) -> (Seat<Home>, Option<FlatRole>)
     requires sound { IsSound (plain bundle.now) }
     requires of { IsSeatIn stage.now seat }
-    requires tied { IsTied bundle.now role.now (view seat) (local_of state) }
+    requires tied { IsTied (plain bundle.now) role.now (view seat) (local_of state) }
     ensures of { IsSeatIn stage.now result.0 }
     ensures went { WentOn (view seat) (view result.0) }
     ensures tied { IfSome result.1
-        (λ state. IsTied bundle.now role.now (view result.0) (local_of state)) }
+        (λ state. IsTied (plain bundle.now) role.now (view result.0) (local_of state)) }
 {
     let mut seat = seat;
     let mut state = state;
@@ -121,9 +122,9 @@ fn take_turn<R: Wait, G: Gate>(
 ) -> (Seat<Home>, Tried)
     requires sound { IsSound (plain bundle.now) }
     requires of { IsSeatIn stage.now seat }
-    requires tied { IsTied bundle.now role.now (view seat) (local_of state.old) }
+    requires tied { IsTied (plain bundle.now) role.now (view seat) (local_of state.old) }
     ensures of { IsSeatIn stage.now result.0 }
-    ensures leaves { Leaves bundle.now role.now (view seat) (view result.0) result.1
+    ensures leaves { Leaves (plain bundle.now) role.now (view seat) (view result.0) result.1
         (local_of state.new) }
 {
     let Ok(acts) = state.acts(alloc) else {
@@ -156,9 +157,9 @@ fn try_act<R: Wait, G: Gate>(
 ) -> (Seat<Home>, Tried)
     requires sound { IsSound (plain bundle.now) }
     requires of { IsSeatIn stage.now seat }
-    requires tied { IsTied bundle.now role.now (view seat) (local_of state.old) }
+    requires tied { IsTied (plain bundle.now) role.now (view seat) (local_of state.old) }
     ensures of { IsSeatIn stage.now result.0 }
-    ensures leaves { Leaves bundle.now role.now (view seat) (view result.0) result.1
+    ensures leaves { Leaves (plain bundle.now) role.now (view seat) (view result.0) result.1
         (local_of state.new) }
 {
     let prepared = match state.prepare(alloc, act) {

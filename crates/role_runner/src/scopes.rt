@@ -1,7 +1,7 @@
 //! The begin of a scope by its leader: it is committed on the stage, and then the leader projects
 //! the update, outside the lock.
 
-ghost use Rattle.std.specs.Prelude.{◌≡◌, ◌<◌, ℕ, true, IsSome, OnOk, Some, length, slice_get};
+ghost use Rattle.std.specs.Prelude.{◌≡◌, ◌<◌, ℕ, true, OnOk, Some, length, slice_get};
 ghost use Rattle.dioc_terms.specs.declared.entries.Act.TheVariants as acts;
 ghost use Rattle.dioc_terms.specs.declared.names.Index.{Index as OneIndex};
 ghost use Rattle.dioc_terms.specs.Plain.{plain};
@@ -44,17 +44,17 @@ pub(crate) fn begin<R: Wait, G: Gate>(
 ) -> (Seat<Home>, Tried)
     requires sound { IsSound (plain bundle.now) }
     requires of { IsSeatIn stage.now seat }
-    requires tied { IsTied bundle.now role.now (view seat) (local_of state.old) }
+    requires tied { IsTied (plain bundle.now) role.now (view seat) (local_of state.old) }
     requires ready { IsReady state.old act.now }
     requires shown { IsPrepared (local_of state.old) act.now prepared }
     requires scope { (i : OneIndex) × (act.now ≡ acts.Scope i) }
     ensures of { IsSeatIn stage.now result.0 }
-    ensures leaves { Leaves bundle.now role.now (view seat) (view result.0) result.1
+    ensures leaves { Leaves (plain bundle.now) role.now (view seat) (view result.0) result.1
         (local_of state.new) }
 {
     scope_leader::leaders_tell();
     process_steps::offers_are_steps();
-    let head = head_of(prepared);
+    let head = prepared.into_head();
     let (seat, done) = stage.commit_scope(rt, seat, &head, state.store());
     match done {
         Ok(update) => {
@@ -66,14 +66,6 @@ pub(crate) fn begin<R: Wait, G: Gate>(
         }
         Err(fault) => (seat, Tried::Refused(fault)),
     }
-}
-
-/// What the book sees of the scope.
-fn head_of(prepared: Prepared) -> ScopeHead
-    requires { IsSome prepared.head }
-    ensures { prepared.head ≡ Some result }
-{
-    prepared.head.unwrap()
 }
 
 /// Goes on in a scope whose begin was committed: into its body, or into the update that replaces

@@ -10,7 +10,7 @@ ghost use Rattle.global_steps.specs.Follow.{inputs_of};
 ghost use Rattle.marked_laws.specs.Network.{network_start};
 ghost use Rattle.role_network.specs.Standing.{local_in};
 
-use dioc_terms::{Bundle, Items, Memory, Role, Store, Value, Values};
+use dioc_terms::{Bundle, Items, Memory, Role, Store, Value, Values, give_up};
 use flat_role::FlatRole;
 use projection::project;
 use role_network::Begins;
@@ -23,12 +23,24 @@ pub(crate) fn opening_state(alloc: Global, bundle: &Bundle, role: &Role) -> Resu
     ensures { IfOk result (λ state. local_of state
         ≡ local_in (network_start (plain bundle.now)) role.now) }
 {
-    let mut inputs = Vec::new(alloc);
-    take_inputs(alloc, bundle.inputs.as_slice(), role, &mut inputs)?;
+    let me = role.copy(alloc)?;
+    let inputs = inputs_for(alloc, bundle.inputs.as_slice(), role)?;
     let store = Store::new(alloc, Items::new(inputs));
-    let proc = project(alloc, &bundle.choreo, role, bundle.cast.as_slice())?;
-    let role = role.copy(alloc)?;
-    FlatRole::begin(alloc, role, proc, store)
+    match project(alloc, &bundle.choreo, role, bundle.cast.as_slice()) {
+        Ok(proc) => FlatRole::begin(alloc, me, proc, store),
+        Err(fault) => give_up((me, store), fault),
+    }
+}
+
+/// Copies of all that is given for the role, in its order.
+fn inputs_for(alloc: Global, inputs: &[(Role, Values)], role: &Role) -> Result<Vec<Value>, Memory>
+    ensures { IfOk result (λ values. values.items ≡ inputs_of inputs.now role.now) }
+{
+    let mut values = Vec::new(alloc);
+    match take_inputs(alloc, inputs, role, &mut values) {
+        Ok(()) => Ok(values),
+        Err(fault) => give_up(values, fault),
+    }
 }
 
 /// Adds copies of all that is given for the role, in its order.

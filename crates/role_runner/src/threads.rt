@@ -4,7 +4,7 @@ ghost use Rattle.std.specs.Prelude.{◌≡◌, ◌≢◌, ◌↔◌, ◌<◌, �
 ghost use Rattle.dioc_terms.specs.Plain.{plain};
 ghost use Rattle.marked_laws.specs.Laws.{IsSound};
 ghost use Rattle.role_runner.specs.Endings.{AllEnded, AllWent, SomeCut};
-ghost use Rattle.role_runner.specs.Jobs.{EndsJob, IsOfRole, OpensJob, ending_in, is_cut, is_done};
+ghost use Rattle.role_runner.specs.Jobs.{EndsJob, IsOfRole, OpensJob, ending_in, is_cut, has_done_state};
 ghost use Rattle.role_runner.specs.Ties.{IsSeated, WentOn};
 ghost use Rattle.stage.specs.Seats.{opening_views};
 ghost use Rattle.stage.specs.Stages.{IsSeatIn};
@@ -62,7 +62,7 @@ pub fn run_roles<R: Threads + Wait + Sync, G: Gate + Sync>(
     requires few { length bundle.now.cast ≤ 4294967295 }
     requires of { All (λ s. IsSeatIn stage.now s) seats.items }
     requires fresh { map view seats.items
-        ≡ opening_views (bundle.now, limit) (length bundle.now.cast) }
+        ≡ opening_views (plain bundle.now, limit) (length bundle.now.cast) }
     ensures of { All (λ s. IsSeatIn stage.now s) result.0.items }
     ensures went { AllWent (map view seats.items) (map view result.0.items) }
     ensures ended { result.1 ≢ Ending.Memory → ((result.1 ≡ Ending.Ended)
@@ -128,10 +128,10 @@ fn run_jobs<R: Threads + Wait + Sync, G: Gate + Sync>(
     requires few { length bundle.now.cast ≤ 4294967295 }
     requires some { 0 < length jobs.items }
     requires opens { (i : ℕ) → IfSome (slice_get jobs.items i)
-        (λ job. OpensJob stage.now bundle.now i job) }
+        (λ job. OpensJob stage.now (plain bundle.now) i job) }
     ensures all { length result.items ≡ length jobs.items }
     ensures ends { (i : ℕ) → IfSome (slice_get jobs.items i) (λ old.
-        IfSome (slice_get result.items i) (λ new. EndsJob stage.now bundle.now i old new)) }
+        IfSome (slice_get result.items i) (λ new. EndsJob stage.now (plain bundle.now) i old new)) }
 {
     let mut jobs = jobs;
     let count = jobs.len();
@@ -158,11 +158,11 @@ fn run_place<R: Wait, G: Gate>(
     requires few { length bundle.now.cast ≤ 4294967295 }
     requires within { place ≤ length bundle.now.cast }
     requires of { IsSeatIn stage.now seat }
-    requires seated { IsSeated bundle.now place (view seat) }
+    requires seated { IsSeated (plain bundle.now) place (view seat) }
     requires fresh { (view seat).seen ≡ [] }
     ensures of { IsSeatIn stage.now result.0 }
     ensures went { WentOn (view seat) (view result.0) }
-    ensures tied { IfSome result.1 (IsOfRole bundle.now place (view result.0)) }
+    ensures tied { IfSome result.1 (IsOfRole (plain bundle.now) place (view result.0)) }
 {
     dioc_terms::casts_are_roles();
     match bundle.cast.as_slice().get(place) {
@@ -202,8 +202,8 @@ impl Job {
     )
         requires sound { IsSound (plain bundle.now) }
         requires few { length bundle.now.cast ≤ 4294967295 }
-        requires opens { OpensJob stage.now bundle.now place self.old }
-        ensures ends { EndsJob stage.now bundle.now place self.old self.new }
+        requires opens { OpensJob stage.now (plain bundle.now) place self.old }
+        ensures ends { EndsJob stage.now (plain bundle.now) place self.old self.new }
     {
         let Some(seat) = self.seat.take() else {
             unreachable!()
@@ -215,7 +215,7 @@ impl Job {
 
     /// Whether the role has its state, and its process has ended.
     fn is_done(&self) -> bool
-        ensures { result ≡ is_done self.now }
+        ensures { result ≡ has_done_state self.now }
     {
         match &self.state {
             Some(state) => state.is_done(),

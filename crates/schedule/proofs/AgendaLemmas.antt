@@ -7,11 +7,10 @@ use Rattle.std.proofs.lemmas.List.{drop_more, get_or-map, get_or_at, length-map,
 use Rattle.std.proofs.lemmas.List.Edits.{map_over_more}
 use Rattle.std.proofs.lemmas.List.Folds.{flat_map-map, list_all_at}
 use Rattle.std.proofs.lemmas.Option.{slice_get_read}
-use Rattle.dioc_terms.specs.declared.bundles.Bundle.{Bundle}
 use Rattle.dioc_terms.specs.declared.entries.Act.{Act}
 use Rattle.dioc_terms.specs.declared.names.Role.{Role}
 use Rattle.dioc_terms.specs.Equality.{member, role_eq}
-use Rattle.dioc_terms.specs.Plain.{plain, setting}
+use Rattle.dioc_terms.specs.Plain.{PlainBundle, setting}
 use Rattle.marked_laws.specs.Network.{Network}
 use Rattle.marked_laws.proofs.Equality.{role_itself}
 use Rattle.marked_laws.proofs.Premise.{Known}
@@ -20,7 +19,7 @@ use Rattle.net_core.specs.declared.moves.Move.{Move}
 use Rattle.net_core.specs.declared.moves.Move.TheVariants as move
 use Rattle.net_core.specs.Schedule.{change_due, move_place, moves}
 use Rattle.role_network.specs.MovesIn.{ready_of}
-use Rattle.role_network.specs.Nets.{IsSoundRun, NetState, bundle_of, network_of}
+use Rattle.role_network.specs.Nets.{IsSoundRun, NetState, network_of}
 use Rattle.schedule.specs.declared.agenda.ReadyRole.{ReadyRole}
 use Rattle.schedule.proofs.TouchLemmas.{untouched, untouched_by_change}
 use Rattle.schedule.specs.Agendas.{IsStale, agenda_of, moves_of, ready_in, refreshed, ready_seen, touches}
@@ -28,26 +27,26 @@ use Rattle.schedule.specs.Turns.{IsMoveOf, IsScheduled, has_ended}
 
 -- whether a change is listed
 abbrev pub is_due : NetState → Bool
-is_due net = change_due (bundle_of net).script (network_of net).changes (network_of net).visible && not (has_ended net)
+is_due net = change_due net.bundle.script (network_of net).changes (network_of net).visible && not (has_ended net)
 
 -- the moves are the change where it is due, and then the acts of the agenda
-pub moves_are : (net : NetState) → moves (setting (bundle_of net)) (network_of net) ≡ (if is_due net then move.Change ∷ [] else []) ++ flat_map moves_of (agenda_of net)
+pub moves_are : (net : NetState) → moves (setting net.bundle) (network_of net) ≡ (if is_due net then move.Change ∷ [] else []) ++ flat_map moves_of (agenda_of net)
 moves_are net =
-    ap (λ l. (if is_due net then move.Change ∷ [] else []) ++ l) (sym (flat_map-map moves_of (ready_in (network_of net)) (bundle_of net).cast))
+    ap (λ l. (if is_due net then move.Change ∷ [] else []) ++ l) (sym (flat_map-map moves_of (ready_in (network_of net)) net.bundle.cast))
 
 moves_due : (net : NetState) (agenda : List (Role × List Act)) → agenda ≡ agenda_of net → true ≡ is_due net
-    → moves (setting (bundle_of net)) (network_of net) ≡ move.Change ∷ flat_map moves_of agenda
+    → moves (setting net.bundle) (network_of net) ≡ move.Change ∷ flat_map moves_of agenda
 moves_due net agenda is due =
     moves_are net ∙ ap (λ (t : Bool). (if t then move.Change ∷ [] else []) ++ flat_map moves_of (agenda_of net)) (sym due)
     ∙ ap (λ l. move.Change ∷ flat_map moves_of l) (sym is)
 
 moves_not_due : (net : NetState) (agenda : List (Role × List Act)) → agenda ≡ agenda_of net → false ≡ is_due net
-    → moves (setting (bundle_of net)) (network_of net) ≡ flat_map moves_of agenda
+    → moves (setting net.bundle) (network_of net) ≡ flat_map moves_of agenda
 moves_not_due net agenda is due =
     moves_are net ∙ ap (λ (t : Bool). (if t then move.Change ∷ [] else []) ++ flat_map moves_of (agenda_of net)) (sym due)
     ∙ ap (flat_map moves_of) (sym is)
 
-is_scheduled : (net : NetState) (seed : Option ℕ) (listed : List Move) (place : ℕ) (m : Move) → moves (setting (bundle_of net)) (network_of net) ≡ listed
+is_scheduled : (net : NetState) (seed : Option ℕ) (listed : List Move) (place : ℕ) (m : Move) → moves (setting net.bundle) (network_of net) ≡ listed
     → place ≡ move_place seed (length listed) → slice_get listed place ≡ Some m → IsScheduled net seed m
 is_scheduled net seed listed place m same is got =
     let at : slice_get listed (move_place seed (length listed)) ≡ Some m = subst (λ n. slice_get listed n ≡ Some m) is got in
@@ -67,7 +66,7 @@ scheduled_act net seed agenda acts place m is due count at got =
 
 -- there is an act where no change is due
 pub some_act : (net : NetState) (agenda : List (Role × List Act)) (acts : ℕ) → agenda ≡ agenda_of net → false ≡ is_due net
-    → acts ≡ length (flat_map moves_of agenda) → 0 < length (moves (setting (bundle_of net)) (network_of net)) → 0 < acts
+    → acts ≡ length (flat_map moves_of agenda) → 0 < length (moves (setting net.bundle) (network_of net)) → 0 < acts
 some_act net agenda acts is due count some = omega (arith, some, count, ap length (moves_not_due net agenda is due))
 
 -- the second of two is the first of what is left
@@ -102,16 +101,16 @@ refreshed_one N M q a r same = by_test (touches q a r) refl
 pub stale_after : Known → (old new : NetState) (m : Move) (agenda : List (Role × List Act)) → IsSoundRun old → IsMoveOf old m new → agenda ≡ agenda_of old
     → IsStale new (Some m) agenda
 stale_after known old new move.Change agenda run made is =
-    is ∙ map_same (ready_in (network_of old)) (ready_in (network_of new)) (bundle_of old).cast
-    (λ r. ap (λ acts. (r, acts)) (sym (ap (λ M. ready_of M r) made.goes.network ∙ untouched_by_change (setting (bundle_of old)) (network_of old) made.outcome made.steps r)))
-    ∙ ap (λ (b : Bundle). map (ready_in (network_of new)) (plain b).cast) (sym made.goes.bundle)
+    is ∙ map_same (ready_in (network_of old)) (ready_in (network_of new)) old.bundle.cast
+    (λ r. ap (λ acts. (r, acts)) (sym (ap (λ M. ready_of M r) made.goes.network ∙ untouched_by_change (setting old.bundle) (network_of old) made.outcome made.steps r)))
+    ∙ ap (λ (b : PlainBundle). map (ready_in (network_of new)) b.cast) (sym made.goes.bundle)
 stale_after known old new (move.Act q a) agenda run made is =
     ap (refreshed (network_of new) q a) is
-    ∙ map_map_same (ready_in (network_of old)) (ready_in (network_of new)) (λ ready. if touches q a ready.0 then ready_in (network_of new) ready.0 else ready) (bundle_of old).cast
+    ∙ map_map_same (ready_in (network_of old)) (ready_in (network_of new)) (λ ready. if touches q a ready.0 then ready_in (network_of new) ready.0 else ready) old.bundle.cast
     (λ r. refreshed_one (network_of old) (network_of new) q a r
     (λ apart. ap (λ M. ready_of M r) made.goes.network
-    ∙ untouched known (bundle_of old) old.history (network_of old) run.sound run.runs q a made.outcome made.steps r apart))
-    ∙ ap (λ (b : Bundle). map (ready_in (network_of new)) (plain b).cast) (sym made.goes.bundle)
+    ∙ untouched known old.bundle old.history (network_of old) run.sound run.runs q a made.outcome made.steps r apart))
+    ∙ ap (λ (b : PlainBundle). map (ready_in (network_of new)) b.cast) (sym made.goes.bundle)
 
 -- the roles of an agenda stay when it is brought up to date
 roles_stay : (N : Network) (q : Role) (a : Act) (agenda : List (Role × List Act)) → map (λ ready. ready.0) (refreshed N q a agenda) ≡ map (λ ready. ready.0) agenda
@@ -138,9 +137,9 @@ all_among cast (q ∷ qs) among =
 
 -- the roles of an agenda that is to be brought up to date are roles of the cast
 pub roles_of_cast : (net : NetState) (q : Role) (a : Act) (agenda : List (Role × List Act)) → IsStale net (Some (move.Act q a)) agenda
-    → list_all (λ ready. member ready.0 (bundle_of net).cast) agenda ≡ true
+    → list_all (λ ready. member ready.0 net.bundle.cast) agenda ≡ true
 roles_of_cast net q a agenda stale =
-    let cast = (bundle_of net).cast in
+    let cast = net.bundle.cast in
     sym (all_by_roles (λ r. member r cast) agenda)
     ∙ ap (list_all (λ r. member r cast)) (sym (roles_stay (network_of net) q a agenda) ∙ ap (map (λ ready. ready.0)) stale ∙ roles_listed (network_of net) cast)
     ∙ all_among cast cast (λ r h. h)

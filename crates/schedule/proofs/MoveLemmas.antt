@@ -20,7 +20,7 @@ use Rattle.net_core.specs.Schedule.{change_due, is_ready, moves, role_moves}
 use Rattle.net_core.proofs.MoveLemmas.{has_move, has_some, reached}
 use Rattle.role_network.specs.declared.faults.ChangeFault.TheVariants.{Full, NotYet}
 use Rattle.role_network.specs.Changes.{change_fault, script_fault}
-use Rattle.role_network.specs.Nets.{IsSoundRun, NetState, bundle_of, network_of}
+use Rattle.role_network.specs.Nets.{IsSoundRun, NetState, network_of}
 use Rattle.role_network.specs.Steps.{fault_of}
 use Rattle.schedule.specs.Turns.{CanMake, has_ended}
 
@@ -46,11 +46,11 @@ module _ (net : NetState) (goes : has_ended net ≡ false) (room : length net.hi
   open_end : nat_le net.limit (length net.history) ≡ false
   open_end = lt-leb net.limit (length net.history) room
 
-  act_good : (q : Role) (a : Act) → member q (bundle_of net).cast ≡ true → is_offered a (offers q ((network_of net).processes q)) ≡ true
+  act_good : (q : Role) (a : Act) → member q net.bundle.cast ≡ true → is_offered a (offers q ((network_of net).processes q)) ≡ true
       → is_ready (network_of net) a ≡ true → fault_of net q a ≡ None
   act_good q a in_cast offered ready = λ j. first_fault (goes j) (open_end j) (in_cast j && offered j) (ready j)
 
-  acts_good : (q : Role) (acts : List Act) → member q (bundle_of net).cast ≡ true
+  acts_good : (q : Role) (acts : List Act) → member q net.bundle.cast ≡ true
       → ((a : Act) → is_offered a acts ≡ true → is_offered a (offers q ((network_of net).processes q)) ≡ true)
       → Each (CanMake net) (map (move.Act q) (filter (is_ready (network_of net)) acts))
   acts_good q [] in_cast offered = tt
@@ -67,7 +67,7 @@ module _ (net : NetState) (goes : has_ended net ≡ false) (room : length net.hi
           subst (λ l. Each (CanMake net) (map (move.Act q) l))
           (sym (cond-false (is_ready (network_of net) a) (a ∷ filter (is_ready (network_of net)) acts) (filter (is_ready (network_of net)) acts) waits)) rest
 
-  roles_good : (roles : List Role) → ((q : Role) → member q roles ≡ true → member q (bundle_of net).cast ≡ true)
+  roles_good : (roles : List Role) → ((q : Role) → member q roles ≡ true → member q net.bundle.cast ≡ true)
       → Each (CanMake net) (flat_map (role_moves (network_of net)) roles)
   roles_good [] among = tt
   roles_good (q ∷ qs) among =
@@ -75,10 +75,10 @@ module _ (net : NetState) (goes : has_ended net ≡ false) (room : length net.hi
       (acts_good q (offers q ((network_of net).processes q)) (among q (or_left (role_eq q q) (member q qs) (role_itself q))) (λ a h. h))
       (roles_good qs (λ r h. among r (or_right (role_eq r q) (member r qs) h)))
 
-  change_good : change_due (bundle_of net).script (network_of net).changes (network_of net).visible ≡ true → change_fault net ≡ None
+  change_good : change_due net.bundle.script (network_of net).changes (network_of net).visible ≡ true → change_fault net ≡ None
   change_good due =
-      ap (λ t. if t then Some Full else script_fault (slice_get (bundle_of net).script (network_of net).changes) (network_of net).visible) open_end
-      ∙ by_timed (slice_get (bundle_of net).script (network_of net).changes) due
+      ap (λ t. if t then Some Full else script_fault (slice_get net.bundle.script (network_of net).changes) (network_of net).visible) open_end
+      ∙ by_timed (slice_get net.bundle.script (network_of net).changes) due
     where
       by_timed : (o : Option Timed) → option_map_or (λ (timed : Timed). nat_le timed.after (network_of net).visible) o false ≡ true
           → script_fault o (network_of net).visible ≡ None
@@ -86,27 +86,27 @@ module _ (net : NetState) (goes : has_ended net ≡ false) (room : length net.hi
       by_timed (Some timed) h =
           ap (λ t. if t then Some NotYet else None) (le-ltb (network_of net).visible timed.after (leb-true timed.after (network_of net).visible h))
 
-  moves_good : Each (CanMake net) (moves (setting (bundle_of net)) (network_of net))
+  moves_good : Each (CanMake net) (moves (setting net.bundle) (network_of net))
   moves_good =
       each_append (CanMake net)
-      (if change_due (bundle_of net).script (network_of net).changes (network_of net).visible && not (has_ended net) then move.Change ∷ [] else [])
-      (flat_map (role_moves (network_of net)) (bundle_of net).cast)
-      (by_test (change_due (bundle_of net).script (network_of net).changes (network_of net).visible && not (has_ended net)) refl)
-      (roles_good (bundle_of net).cast (λ q h. h))
+      (if change_due net.bundle.script (network_of net).changes (network_of net).visible && not (has_ended net) then move.Change ∷ [] else [])
+      (flat_map (role_moves (network_of net)) net.bundle.cast)
+      (by_test (change_due net.bundle.script (network_of net).changes (network_of net).visible && not (has_ended net)) refl)
+      (roles_good net.bundle.cast (λ q h. h))
     where
-      by_test : (t : Bool) → (change_due (bundle_of net).script (network_of net).changes (network_of net).visible && not (has_ended net)) ≡ t
+      by_test : (t : Bool) → (change_due net.bundle.script (network_of net).changes (network_of net).visible && not (has_ended net)) ≡ t
           → Each (CanMake net) (if t then move.Change ∷ [] else [])
-      by_test true is = (change_good (and_parts (change_due (bundle_of net).script (network_of net).changes (network_of net).visible) (not (has_ended net)) is).0, tt)
+      by_test true is = (change_good (and_parts (change_due net.bundle.script (network_of net).changes (network_of net).visible) (not (has_ended net)) is).0, tt)
       by_test false is = tt
 
   -- a move has no fault
-  pub can_make : (place : ℕ) (m : Move) → slice_get (moves (setting (bundle_of net)) (network_of net)) place ≡ Some m → CanMake net m
-  can_make place m = each_at (CanMake net) (moves (setting (bundle_of net)) (network_of net)) place m moves_good
+  pub can_make : (place : ℕ) (m : Move) → slice_get (moves (setting net.bundle) (network_of net)) place ≡ Some m → CanMake net m
+  can_make place m = each_at (CanMake net) (moves (setting net.bundle) (network_of net)) place m moves_good
 
 -- there is a move
-pub some_move : Known → Progress → (net : NetState) → IsSoundRun net → has_ended net ≡ false → 0 < length (moves (setting (bundle_of net)) (network_of net))
+pub some_move : Known → Progress → (net : NetState) → IsSoundRun net → has_ended net ≡ false → 0 < length (moves (setting net.bundle) (network_of net))
 some_move known progress net run goes =
-    let at = reached known (bundle_of net) run.sound net.history (network_of net) run.runs in
-    some_length (moves (setting (bundle_of net)) (network_of net))
-    (has_move known (bundle_of net) run.sound (network_of net) at.0 at.1
-    (progress (bundle_of net) net.history (network_of net) run.sound run.runs goes))
+    let at = reached known net.bundle run.sound net.history (network_of net) run.runs in
+    some_length (moves (setting net.bundle) (network_of net))
+    (has_move known net.bundle run.sound (network_of net) at.0 at.1
+    (progress net.bundle net.history (network_of net) run.sound run.runs goes))

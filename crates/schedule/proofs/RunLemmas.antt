@@ -4,12 +4,11 @@ use Rattle.std.specs.Prelude.{if◌then◌else◌, nat_le}
 use Rattle.std.specs.Option.{option_map_or}
 use Rattle.std.proofs.lemmas.Bool.{both_ways, cond-false, cond-true, leb-false, leb-true}
 use Rattle.std.proofs.lemmas.List.{append-nil}
-use Rattle.dioc_terms.specs.declared.bundles.Bundle.{Bundle}
 use Rattle.dioc_terms.specs.declared.entries.Entry.{Entry}
-use Rattle.dioc_terms.specs.Plain.{Setting, plain, setting}
+use Rattle.dioc_terms.specs.Plain.{PlainBundle, Setting, setting}
 use Rattle.marked_laws.specs.Network.{Network, NextNetwork, network_ended}
 use Rattle.net_core.specs.Schedule.{IsPrompt, continued, next_seed, sched_from, scheduled}
-use Rattle.role_network.specs.Nets.{IsSoundRun, NetState, bundle_of, network_of}
+use Rattle.role_network.specs.Nets.{IsSoundRun, NetState, network_of}
 use Rattle.schedule.proofs.PromptLemmas.{prompt_turn}
 use Rattle.schedule.specs.declared.runs.Finish.{Finish}
 use Rattle.schedule.specs.declared.runs.Finish.TheVariants as finish
@@ -18,12 +17,12 @@ use Rattle.schedule.specs.Turns.{Advances, has_ended}
 
 -- what the schedule takes from the net on
 abbrev pub run_of : NetState → Option ℕ → List Entry
-run_of net seed = continued (setting (bundle_of net)) seed (net.limit - length net.history) (network_of net)
+run_of net seed = continued (setting net.bundle) seed (net.limit - length net.history) (network_of net)
 
 -- the schedule of a net is its history and what the schedule takes from it on
-pub schedule_is : (net : NetState) (seed : Option ℕ) → IsSoundRun net → sched_from (bundle_of net) net.history seed net.limit ≡ net.history ++ run_of net seed
+pub schedule_is : (net : NetState) (seed : Option ℕ) → IsSoundRun net → sched_from net.bundle net.history seed net.limit ≡ net.history ++ run_of net seed
 schedule_is net seed run =
-    ap (λ o. net.history ++ option_map_or (continued (setting (bundle_of net)) seed (net.limit - length net.history)) o []) run.runs
+    ap (λ o. net.history ++ option_map_or (continued (setting net.bundle) seed (net.limit - length net.history)) o []) run.runs
 
 -- where a net stands that goes on
 pub goes_on : (net : NetState) → finish_at net ≡ None → (has_ended net ≡ false) × (length net.history < net.limit)
@@ -71,7 +70,7 @@ has_finished net seed how run h = by_test (has_ended net) (nat_le net.limit (len
     by_test true full ends is k =
         let so : how ≡ finish.Ended = cc in
         record {
-          over = continued-ended (setting (bundle_of net)) seed (net.limit - length net.history) (network_of net) ends;
+          over = continued-ended (setting net.bundle) seed (net.limit - length net.history) (network_of net) ends;
           ended = ((λ e. ends), (λ e. so));
           limit = ((λ e. absurd (not_both e so)), (λ e. absurd (both_ways (has_ended net) e.1 ends)));
         }
@@ -79,7 +78,7 @@ has_finished net seed how run h = by_test (has_ended net) (nat_le net.limit (len
         let so : how ≡ finish.Limit = cc in
         let full : net.limit ≤ length net.history = leb-true net.limit (length net.history) is in
         record {
-          over = ap (λ n. continued (setting (bundle_of net)) seed n (network_of net)) (no_room net.limit (length net.history) full);
+          over = ap (λ n. continued (setting net.bundle) seed n (network_of net)) (no_room net.limit (length net.history) full);
           ended = ((λ e. absurd (not_both so e)), (λ e. absurd (both_ways (has_ended net) goes e)));
           limit = ((λ e. (same_count net.limit (length net.history) full run.within, goes)), (λ e. so));
         }
@@ -93,7 +92,7 @@ pub record Goes (old : NetState) (seed : Option ℕ) (new : NetState) (next : Op
   pub bundle : new.bundle ≡ old.bundle
   pub limit : new.limit ≡ old.limit
   pub seedless : seed ≡ None → next ≡ None
-  pub prompt : seed ≡ None → IsPrompt (bundle_of old) old.history → IsPrompt (bundle_of new) new.history
+  pub prompt : seed ≡ None → IsPrompt old.bundle old.history → IsPrompt new.bundle new.history
   pub began : IsSoundRun new → IsSoundRun old
 
 pub goes_here : (net : NetState) (seed : Option ℕ) → Goes net seed net seed
@@ -119,21 +118,21 @@ turn old new seed goes room step =
     let count : old.limit - length old.history ≡ suc (new.limit - length new.history) =
     one_less old.limit (length old.history) (length new.history) room longer ∙ ap (λ n. suc (n - length new.history)) (sym step.goes.limit) in (
       step.outcome.entry,
-      ap (λ n. continued (setting (bundle_of old)) seed n (network_of old)) count
-          ∙ continued-goes (setting (bundle_of old)) seed (new.limit - length new.history) (network_of old) step.outcome goes step.takes
-          ∙ ap (λ N. step.outcome.entry ∷ continued (setting (bundle_of old)) (next_seed seed) (new.limit - length new.history) N) (sym step.goes.network)
-          ∙ ap (λ (b : Bundle). step.outcome.entry ∷ continued (setting (plain b)) (next_seed seed) (new.limit - length new.history) (network_of new)) (sym step.goes.bundle),
+      ap (λ n. continued (setting old.bundle) seed n (network_of old)) count
+          ∙ continued-goes (setting old.bundle) seed (new.limit - length new.history) (network_of old) step.outcome goes step.takes
+          ∙ ap (λ N. step.outcome.entry ∷ continued (setting old.bundle) (next_seed seed) (new.limit - length new.history) N) (sym step.goes.network)
+          ∙ ap (λ (b : PlainBundle). step.outcome.entry ∷ continued (setting b) (next_seed seed) (new.limit - length new.history) (network_of new)) (sym step.goes.bundle),
       step.goes.history,
     )
 
 still_prompt : (old new : NetState) (seed : Option ℕ) → IsSoundRun old → has_ended old ≡ false → Advances old seed new → seed ≡ None
-    → IsPrompt (bundle_of old) old.history → IsPrompt (bundle_of new) new.history
+    → IsPrompt old.bundle old.history → IsPrompt new.bundle new.history
 still_prompt old new seed run goes step none prompt =
-    let takes : scheduled (setting (bundle_of old)) (network_of old) None ≡ Some step.outcome =
-    ap (scheduled (setting (bundle_of old)) (network_of old)) (sym none) ∙ step.takes in
-    subst (λ (b : Bundle). IsPrompt (plain b) new.history) (sym step.goes.bundle)
-    (subst (IsPrompt (bundle_of old)) (sym step.goes.history)
-    (prompt_turn (bundle_of old) old.history (network_of old) step.outcome run.runs goes takes prompt))
+    let takes : scheduled (setting old.bundle) (network_of old) None ≡ Some step.outcome =
+    ap (scheduled (setting old.bundle) (network_of old)) (sym none) ∙ step.takes in
+    subst (λ (b : PlainBundle). IsPrompt b new.history) (sym step.goes.bundle)
+    (subst (IsPrompt old.bundle) (sym step.goes.history)
+    (prompt_turn old.bundle old.history (network_of old) step.outcome run.runs goes takes prompt))
 
 pub goes_more : (old mid new : NetState) (seed here next : Option ℕ) → Goes old seed mid here → IsSoundRun mid → finish_at mid ≡ None → Advances mid here new
     → next ≡ next_seed here → Goes old seed new next
@@ -153,12 +152,12 @@ goes_more old mid new seed here next far run on step is =
 
 -- the schedule of the old net is that of the new one
 pub same_schedule : (old new : NetState) (seed next : Option ℕ) → Goes old seed new next → IsSoundRun new
-    → sched_from (bundle_of new) new.history next new.limit ≡ sched_from (bundle_of old) old.history seed old.limit
+    → sched_from new.bundle new.history next new.limit ≡ sched_from old.bundle old.history seed old.limit
 same_schedule old new seed next far run =
     schedule_is new next run ∙ ap (λ h. h ++ run_of new next) far.history ∙ append_assoc old.history far.made (run_of new next)
     ∙ ap (λ r. old.history ++ r) (sym far.run) ∙ sym (schedule_is old seed (far.began run))
 
-pub on_the_way : (old new : NetState) (seed next : Option ℕ) → Goes old seed new next → IsSoundRun new → IsOnTheWay (bundle_of old) old.history seed old.limit new.history
+pub on_the_way : (old new : NetState) (seed next : Option ℕ) → Goes old seed new next → IsSoundRun new → IsOnTheWay old.bundle old.history seed old.limit new.history
 on_the_way old new seed next far run = record {
   made = far.made;
   left = run_of new next;
@@ -167,13 +166,13 @@ on_the_way old new seed next far run = record {
 }
 
 pub goes_again : (old new : NetState) (seed next : Option ℕ) → Goes old seed new next → IsSoundRun new → seed ≡ None
-    → sched_from (bundle_of new) new.history None new.limit ≡ sched_from (bundle_of old) old.history None old.limit
+    → sched_from new.bundle new.history None new.limit ≡ sched_from old.bundle old.history None old.limit
 goes_again old new seed next far run none =
-    ap (λ s. sched_from (bundle_of new) new.history s new.limit) (sym (far.seedless none)) ∙ same_schedule old new seed next far run
-    ∙ ap (λ s. sched_from (bundle_of old) old.history s old.limit) none
+    ap (λ s. sched_from new.bundle new.history s new.limit) (sym (far.seedless none)) ∙ same_schedule old new seed next far run
+    ∙ ap (λ s. sched_from old.bundle old.history s old.limit) none
 
 pub whole_run : (old new : NetState) (seed next : Option ℕ) (how : Finish) → Goes old seed new next → IsSoundRun new → finish_at new ≡ Some how
-    → new.history ≡ sched_from (bundle_of old) old.history seed old.limit
+    → new.history ≡ sched_from old.bundle old.history seed old.limit
 whole_run old new seed next how far run is =
     sym (append-nil new.history) ∙ ap (λ r. new.history ++ r) (sym (has_finished new next how run is).over)
     ∙ sym (schedule_is new next run) ∙ same_schedule old new seed next far run

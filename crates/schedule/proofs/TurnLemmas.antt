@@ -8,7 +8,7 @@ use Rattle.net_core.specs.declared.moves.Move.{Move}
 use Rattle.net_core.specs.declared.moves.Move.TheVariants as move
 use Rattle.net_core.specs.Schedule.{move_step}
 use Rattle.role_network.specs.Changes.{IsChangeOf}
-use Rattle.role_network.specs.Nets.{NetState, bundle_of, network_of}
+use Rattle.role_network.specs.Nets.{NetState, network_of}
 use Rattle.role_network.specs.Steps.{IsStepOf}
 use Rattle.schedule.specs.Turns.{Advances, IsMoveOf, IsScheduled}
 
@@ -22,6 +22,6 @@ move_of_step old new q a made = record { outcome = made.outcome; steps = made.st
 pub advances : (old new : NetState) (seed : Option ℕ) (m : Move) → IsScheduled old seed m → IsMoveOf old m new → Advances old seed new
 advances old new seed m next made = record {
   outcome = made.outcome;
-  takes = ap (option_and_then (move_step (setting (bundle_of old)) (network_of old))) next ∙ made.steps;
+  takes = ap (option_and_then (move_step (setting old.bundle) (network_of old))) next ∙ made.steps;
   goes = made.goes;
 }

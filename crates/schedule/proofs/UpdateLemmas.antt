@@ -10,7 +10,7 @@ use Rattle.process_steps.specs.Steps.{entry_of}
 use Rattle.marked_laws.specs.Network.{Network, network_start, network_step, run_from}
 use Rattle.marked_laws.proofs.Networks.{ChangeStep, RoleStep, network_cases}
 use Rattle.marked_laws.proofs.Shapes.{none_some, some_same}
-use Rattle.role_network.specs.Nets.{IsSoundRun, NetState, bundle_of, network_of}
+use Rattle.role_network.specs.Nets.{IsSoundRun, NetState, network_of}
 
 one_update : (e : Entry) (updates : ℕ) → updates_after e updates ≤ updates + 1
 one_update (entry.Scope i r (chosen.Rule name n)) updates = omega arith
@@ -49,4 +49,4 @@ run_updates b N (e ∷ H) M h = by_step (network_step b N e) refl h (λ L k. run
 -- where there is room, fewer updates were made than the limit allows entries
 pub few_updates : (net : NetState) → IsSoundRun net → length net.history < net.limit → net.limit ≤ 4294967295 → (network_of net).updates < 4294967295
 few_updates net run room limit =
-    omega (arith, room, limit, run_updates (setting (bundle_of net)) (network_start (bundle_of net)) net.history (network_of net) run.runs)
+    omega (arith, room, limit, run_updates (setting net.bundle) (network_start net.bundle) net.history (network_of net) run.runs)

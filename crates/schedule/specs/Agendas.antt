@@ -8,7 +8,7 @@ use Rattle.marked_laws.specs.Network.{Network}
 use Rattle.net_core.specs.declared.moves.Move.{Move}
 use Rattle.net_core.specs.declared.moves.Move.TheVariants as move
 use Rattle.role_network.specs.MovesIn.{ready_of}
-use Rattle.role_network.specs.Nets.{NetState, bundle_of, network_of}
+use Rattle.role_network.specs.Nets.{NetState, network_of}
 use Rattle.schedule.specs.declared.agenda.ReadyRole.{ReadyRole}
 
 -- a role with acts, as a proof sees it
@@ -24,7 +24,7 @@ ready_in N q = (q, ready_of N q)
 
 -- each role with the acts that it can do now, in the cast's order
 abbrev pub agenda_of : NetState → List (Role × List Act)
-agenda_of net = map (ready_in (network_of net)) (bundle_of net).cast
+agenda_of net = map (ready_in (network_of net)) net.bundle.cast
 
 -- whether the act puts a message to the role
 abbrev pub puts_to : Act → Role → Bool

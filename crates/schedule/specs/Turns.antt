@@ -6,12 +6,12 @@ use Rattle.net_core.specs.declared.moves.Move.{Move}
 use Rattle.net_core.specs.declared.moves.Move.TheVariants as move
 use Rattle.net_core.specs.Schedule.{move_place, move_step, moves, scheduled}
 use Rattle.role_network.specs.Changes.{change_fault}
-use Rattle.role_network.specs.Nets.{NetState, bundle_of, network_of}
+use Rattle.role_network.specs.Nets.{NetState, network_of}
 use Rattle.role_network.specs.Steps.{GoesOn, fault_of}
 
 -- whether the network of a net has ended
 abbrev pub has_ended : NetState → Bool
-has_ended net = network_ended (bundle_of net).cast (network_of net)
+has_ended net = network_ended net.bundle.cast (network_of net)
 
 -- a move has no fault
 abbrev pub CanMake : NetState → Move → Type 0
@@ -21,17 +21,17 @@ CanMake net (move.Act q a) = fault_of net q a ≡ None
 -- the move is the one that the schedule takes next
 abbrev pub IsScheduled : NetState → Option ℕ → Move → Type 0
 IsScheduled net seed next =
-    let listed = moves (setting (bundle_of net)) (network_of net) in
+    let listed = moves (setting net.bundle) (network_of net) in
     slice_get listed (move_place seed (length listed)) ≡ Some next
 
 -- the net has made this move
 pub record IsMoveOf (old : NetState) (m : Move) (new : NetState) : Type 0 where
   pub outcome : NextNetwork
-  pub steps : move_step (setting (bundle_of old)) (network_of old) m ≡ Some outcome
+  pub steps : move_step (setting old.bundle) (network_of old) m ≡ Some outcome
   pub goes : GoesOn old outcome new
 
 -- the net has made the move that the schedule takes next
 pub record Advances (old : NetState) (seed : Option ℕ) (new : NetState) : Type 0 where
   pub outcome : NextNetwork
-  pub takes : scheduled (setting (bundle_of old)) (network_of old) seed ≡ Some outcome
+  pub takes : scheduled (setting old.bundle) (network_of old) seed ≡ Some outcome
   pub goes : GoesOn old outcome new

@@ -4,7 +4,7 @@
 ghost use Rattle.std.specs.Prelude.{◌≡◌, ◌<◌, ◌^◌, ◌-◌, true, Some, IfOk, OnOk, flat_map, length, map, slice_get};
 ghost use Rattle.std.specs.List.{list_all};
 ghost use Rattle.dioc_terms.specs.Equality.{member};
-ghost use Rattle.role_network.specs.Nets.{bundle_of, network_of};
+ghost use Rattle.role_network.specs.Nets.{network_of};
 ghost use Rattle.schedule.specs.Agendas.{IsStale, again, agenda_of, moves_of, puts_to, refreshed, ready_seen, touches};
 
 use dioc_terms::{Act, Memory, Role};
@@ -83,7 +83,7 @@ fn refresh<R: Runs>(
     act: &Act,
     agenda: &mut [ReadyRole],
 ) -> Result<(), Memory>
-    requires { list_all (λ ready. member ready.0 (bundle_of net.now).cast)
+    requires { list_all (λ ready. member ready.0 net.now.bundle.cast)
         (map ready_seen agenda.old) ≡ true }
     ensures { OnOk result (map ready_seen agenda.new
         ≡ refreshed (network_of net.now) role.now act.now (map ready_seen agenda.old)) }
@@ -101,7 +101,7 @@ fn list_again<R: Runs>(
     act: &Act,
     ready: &mut ReadyRole,
 ) -> Result<(), Memory>
-    requires { member ready.old.role (bundle_of net.now).cast ≡ true }
+    requires { member ready.old.role net.now.bundle.cast ≡ true }
     ensures { OnOk result (ready_seen ready.new
         ≡ again (network_of net.now) role.now act.now (ready_seen ready.old)) }
 {

@@ -2,7 +2,7 @@
 
 ghost use Rattle.std.specs.Prelude.{◌≡◌, ◌≤◌, ◌↔◌, [], true, false, None, IfOk, OnErr, OnOk, length};
 ghost use Rattle.net_core.specs.Schedule.{IsPrompt, sched_from};
-ghost use Rattle.role_network.specs.Nets.{IsSoundRun, bundle_of};
+ghost use Rattle.role_network.specs.Nets.{IsSoundRun};
 ghost use Rattle.schedule.specs.Runs.{IsOnTheWay, finish_at};
 ghost use Rattle.schedule.specs.Turns.{has_ended};
 
@@ -28,17 +28,17 @@ pub enum Finish {
 pub fn run_seeded<R: Runs>(net: &mut Net<R>, seed: Option<u64>) -> Result<Finish, Memory>
     requires { net.old.limit ≤ 4294967295 }
     ensures history { OnOk result (net.new.history
-        ≡ sched_from (bundle_of net.old) net.old.history seed net.old.limit) }
+        ≡ sched_from net.old.bundle net.old.history seed net.old.limit) }
     ensures ended { IfOk result (λ finish. (finish ≡ Finish.Ended) ↔ (has_ended net.new ≡ true)) }
     ensures limit { IfOk result (λ finish. (finish ≡ Finish.Limit)
         ↔ ((length net.new.history ≡ net.new.limit) × (has_ended net.new ≡ false))) }
-    ensures way { IsOnTheWay (bundle_of net.old) net.old.history seed net.old.limit
+    ensures way { IsOnTheWay net.old.bundle net.old.history seed net.old.limit
         net.new.history }
-    ensures again { seed ≡ None → sched_from (bundle_of net.new) net.new.history None net.new.limit
-        ≡ sched_from (bundle_of net.old) net.old.history None net.old.limit }
+    ensures again { seed ≡ None → sched_from net.new.bundle net.new.history None net.new.limit
+        ≡ sched_from net.old.bundle net.old.history None net.old.limit }
     ensures run { IsSoundRun net.new }
-    ensures prompt { seed ≡ None → IsPrompt (bundle_of net.old) net.old.history
-        → IsPrompt (bundle_of net.new) net.new.history }
+    ensures prompt { seed ≡ None → IsPrompt net.old.bundle net.old.history
+        → IsPrompt net.new.bundle net.new.history }
     ensures same_bundle { net.new.bundle ≡ net.old.bundle }
     ensures same_limit { net.new.limit ≡ net.old.limit }
 {

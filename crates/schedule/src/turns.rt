@@ -4,7 +4,7 @@ ghost use Rattle.std.specs.Prelude.{◌≡◌, ◌<◌, ◌≤◌, ◌+◌, ◌�
 ghost use Rattle.dioc_terms.specs.Plain.{setting};
 ghost use Rattle.net_core.specs.Schedule.{moves};
 ghost use Rattle.role_network.specs.Changes.{change_fault};
-ghost use Rattle.role_network.specs.Nets.{IsSoundRun, bundle_of, network_of};
+ghost use Rattle.role_network.specs.Nets.{IsSoundRun, network_of};
 ghost use Rattle.role_network.specs.Steps.{fault_of};
 ghost use Rattle.schedule.specs.Agendas.{IsStale, agenda_of, moves_of, ready_seen};
 ghost use Rattle.schedule.specs.Turns.{Advances, CanMake, IsMoveOf, IsScheduled, has_ended};
@@ -42,7 +42,7 @@ pub(crate) fn take_next<R: Runs>(
 /// The move that the schedule takes next: the script's next change has the number 0 where it is
 /// due, and the acts come after it.
 fn next_move<R: Runs>(net: &Net<R>, agenda: &[ReadyRole], seed: Option<u64>) -> Result<Move, Memory>
-    requires some { 0 < length (moves (setting (bundle_of net.now)) (network_of net.now)) }
+    requires some { 0 < length (moves (setting net.now.bundle) (network_of net.now)) }
     requires agenda { map ready_seen agenda.now ≡ agenda_of net.now }
     ensures { IfOk result (λ next. IsScheduled net.now seed next) }
 {

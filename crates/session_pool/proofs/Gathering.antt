@@ -17,7 +17,7 @@ use Rattle.session_pool.specs.declared.answers.Answer.{Answer}
 use Rattle.session_pool.specs.declared.jobs.Numbered.{Numbered}
 use Rattle.session_pool.specs.declared.jobs.Job.{Job}
 use Rattle.session_pool.specs.Answers.{PlainAnswer, answer_of, answer_seen, answers_of}
-use Rattle.session_pool.specs.Jobs.{IsDone, IsRight, HasWorked, numbers_of}
+use Rattle.session_pool.specs.Jobs.{IsWorkDone, IsRight, HasWorked, numbers_of}
 use Rattle.session_pool.specs.Places.{placed}
 use Rattle.session_pool.proofs.Lists.{each_some, get_within, mapped, both, all_more, get_mapped}
 use Rattle.session_pool.proofs.Placing.{FitPlaces, worker_placed}
@@ -37,7 +37,7 @@ none_gathered tickets answers first places of is fits = record {
   past = λ (some : 0 < 0). absurd (omega arith);
 }
 
-pub one_gathered : (tickets : Tickets) (answers : List PlainAnswer) (workers : ℕ) (old new : Drawer) (job : Job) (places : List (Option Answer)) → Gathered tickets answers workers old places → IsDone tickets answers job
+pub one_gathered : (tickets : Tickets) (answers : List PlainAnswer) (workers : ℕ) (old new : Drawer) (job : Job) (places : List (Option Answer)) → Gathered tickets answers workers old places → IsWorkDone tickets answers job
     → IsDrawerOf tickets new → view new ≡ joined (view old) (view job.drawer) → Gathered tickets answers (workers + 1) new (placed places job.answers.items)
 one_gathered tickets answers workers old new job places so_far done of is = record {
   of = of;
@@ -88,10 +88,10 @@ right_within answers count kept same right =
     mapped (IsRight answers) (λ numbered. numbered.number < count) (λ numbered is. let within = get_within answers numbered.number _ is in omega arith) kept right
 
 -- each worker is done, where each has come past the last session
-pub all_are_done : (tickets : Tickets) (answers : List PlainAnswer) (jobs : List Job) → All (λ (job : Job). job.done ≡ true → IsDone tickets answers job) jobs → AllByRecursion (λ (job : Job). job.done ≡ true) jobs → AllByRecursion (IsDone tickets answers) jobs
+pub all_are_done : (tickets : Tickets) (answers : List PlainAnswer) (jobs : List Job) → All (λ (job : Job). job.done ≡ true → IsWorkDone tickets answers job) jobs → AllByRecursion (λ (job : Job). job.done ≡ true) jobs → AllByRecursion (IsWorkDone tickets answers) jobs
 all_are_done tickets answers jobs done all =
-    both (λ (job : Job). job.done ≡ true) (λ (job : Job). job.done ≡ true → IsDone tickets answers job) (IsDone tickets answers) (λ job is worked. worked is) jobs all
-    (recursion_from_All (λ (job : Job). job.done ≡ true → IsDone tickets answers job) jobs done)
+    both (λ (job : Job). job.done ≡ true) (λ (job : Job). job.done ≡ true → IsWorkDone tickets answers job) (IsWorkDone tickets answers) (λ job is worked. worked is) jobs all
+    (recursion_from_All (λ (job : Job). job.done ≡ true → IsWorkDone tickets answers job) jobs done)
 
 -- a session more was claimed and answered
 pub claims_more : (kept new : List Numbered) (numbered : Numbered) (claims after : List ℕ) (ticket : ℕ) → claims ≡ numbers_of kept → after ≡ claims ++ ticket ∷ [] → numbered.number ≡ ticket → new ≡ kept ++ numbered ∷ [] → after ≡ numbers_of new

@@ -15,7 +15,7 @@ abbrev pub expected : Order → List PlainAnswer
 expected order = answers_of order.seed order.limit (map plain order.bundles.now)
 
 -- a worker that has claimed nothing
-pub record IsReady (tickets : Tickets) (job : Job) : Type 0 where
+pub record HasClaimedNothing (tickets : Tickets) (job : Job) : Type 0 where
   pub of : IsDrawerOf tickets job.drawer
   pub view : view job.drawer ≡ holding 1 []
   pub none : job.answers.items ≡ []
@@ -37,7 +37,7 @@ pub record HasWorked (answers : List PlainAnswer) (claims : List ℕ) (kept : Li
   pub right : AllByRecursion (IsRight answers) kept
 
 -- what a worker leaves that has done its work
-pub record IsDone (tickets : Tickets) (answers : List PlainAnswer) (job : Job) : Type 0 where
+pub record IsWorkDone (tickets : Tickets) (answers : List PlainAnswer) (job : Job) : Type 0 where
   pub of : IsDrawerOf tickets job.drawer
   pub one : parts_of job.drawer ≡ 1
   pub worked : HasWorked answers (drawn_by job.drawer) job.answers.items

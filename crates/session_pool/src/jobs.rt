@@ -7,7 +7,7 @@ ghost use Rattle.dioc_terms.specs.Bundles.{IsFormed};
 ghost use Rattle.dioc_terms.specs.Plain.{plain};
 ghost use Rattle.ticket_table.specs.Views.{holding};
 ghost use Rattle.ticket_table.specs.Words.{IsDrawerOf, drawn_by, parts_of, view};
-ghost use Rattle.session_pool.specs.Jobs.{HasWorked, IsDone, IsReady, expected};
+ghost use Rattle.session_pool.specs.Jobs.{HasWorked, IsWorkDone, HasClaimedNothing, expected};
 
 use crate::answers::{Answer, answer_session};
 use crate::watch::Watch;
@@ -54,9 +54,9 @@ pub fn work_all<W: Watch + Sync, R: Threads + Wait + Sync>(
     requires few { length order.now.bundles.now ≤ 1000 }
     requires limit { order.now.limit ≤ 4294967295 }
     requires some { 0 < length jobs.items }
-    requires ready { All (IsReady tickets.now) jobs.items }
+    requires ready { All (HasClaimedNothing tickets.now) jobs.items }
     ensures same { length result.items ≡ length jobs.items }
-    ensures done { All (λ job. job.done ≡ true → IsDone tickets.now (expected order.now) job)
+    ensures done { All (λ job. job.done ≡ true → IsWorkDone tickets.now (expected order.now) job)
         result.items }
 {
     let count = jobs.len();
@@ -81,8 +81,8 @@ fn work<W: Watch, R: Wait>(
     requires formed { All (λ b. IsFormed (plain b)) order.now.bundles.now }
     requires few { length order.now.bundles.now ≤ 1000 }
     requires limit { order.now.limit ≤ 4294967295 }
-    requires ready { IsReady tickets.now job.old }
-    ensures { job.new.done ≡ true → IsDone tickets.now (expected order.now) job.new }
+    requires ready { HasClaimedNothing tickets.now job.old }
+    ensures { job.new.done ≡ true → IsWorkDone tickets.now (expected order.now) job.new }
 {
     let worked = answer_all(
         rt,

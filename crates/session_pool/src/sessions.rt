@@ -7,7 +7,7 @@ ghost use Rattle.dioc_terms.specs.Plain.{plain};
 ghost use Rattle.ticket_table.specs.Views.{holding};
 ghost use Rattle.ticket_table.specs.Words.{IsDrawerOf, all_parts, view};
 ghost use Rattle.session_pool.specs.Answers.{answer_seen, answers_of};
-ghost use Rattle.session_pool.specs.Jobs.{IsDone, IsReady, expected};
+ghost use Rattle.session_pool.specs.Jobs.{IsWorkDone, HasClaimedNothing, expected};
 
 use crate::answers::Answer;
 use crate::jobs::{Job, Order, all_done, work_all};
@@ -68,7 +68,7 @@ fn ready_jobs(
     requires of { IsDrawerOf tickets.now first.old }
     requires view { view first.old ≡ holding (workers + 1) [] }
     ensures count { IfOk result (λ jobs. length jobs.items ≡ workers) }
-    ensures ready { IfOk result (λ jobs. All (IsReady tickets.now) jobs.items) }
+    ensures ready { IfOk result (λ jobs. All (HasClaimedNothing tickets.now) jobs.items) }
     ensures of { OnOk result (IsDrawerOf tickets.now first.new) }
     ensures view { OnOk result (view first.new ≡ holding 1 []) }
 {
@@ -97,7 +97,7 @@ fn collect(
     requires view { view first ≡ holding 1 [] }
     requires all { all_parts tickets ≡ 1 + length jobs.items }
     requires some { 0 < length jobs.items }
-    requires done { AllByRecursion (IsDone tickets (expected order.now)) jobs.items }
+    requires done { AllByRecursion (IsWorkDone tickets (expected order.now)) jobs.items }
     ensures { IfOk result (λ answers. map answer_seen answers.items ≡ expected order.now) }
 {
     let mut places = empty_places(alloc, order.bundles.len())?;

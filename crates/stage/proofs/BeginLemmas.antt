@@ -4,7 +4,6 @@ use Rattle.std.specs.List.{list_all}
 use Rattle.std.proofs.lemmas.List.{length-map}
 use Rattle.std.specs.Prelude.{nat_lt, option_and_then}
 use Rattle.std.proofs.lemmas.Option.{slice_get_within}
-use Rattle.dioc_terms.specs.declared.bundles.Bundle.{Bundle}
 use Rattle.dioc_terms.specs.declared.entries.Act.TheVariants as act
 use Rattle.dioc_terms.specs.declared.entries.Entry.{Entry}
 use Rattle.dioc_terms.specs.declared.entries.Entry.TheVariants as entry
@@ -12,7 +11,7 @@ use Rattle.dioc_terms.specs.declared.names.Role.{Role}
 use Rattle.dioc_terms.specs.declared.processes.ScopeHead.{ScopeHead}
 use Rattle.dioc_terms.specs.Attempts.{Attempt, Stuck, Does}
 use Rattle.dioc_terms.specs.Equality.{member}
-use Rattle.dioc_terms.specs.Plain.{PlainBundle, PlainRule, plain}
+use Rattle.dioc_terms.specs.Plain.{PlainBundle, PlainRule}
 use Rattle.dioc_terms.specs.Processes.{Process}
 use Rattle.dioc_terms.specs.RuleLaws.{ChoicesGoOn}
 use Rattle.dioc_terms.specs.Rules.{Book, choose}
@@ -73,13 +72,13 @@ pub shows_decision : (cast : List Role) (count : ℕ) (head : ScopeHead) (says :
 shows_decision cast count head KeepsBody = refl
 shows_decision cast count head (TakesRule name body) = refl
 
-module _ (of : Bundle) (limit : ℕ) (H : List Entry) (cast : List Role) (names : List (List ℕ)) (mail : Mail) (book : KeptBook) (script : List ScriptedChange) (count : ℕ) (finished : List Bool) (stopped : Option Why)
+module _ (of : PlainBundle) (limit : ℕ) (H : List Entry) (cast : List Role) (names : List (List ℕ)) (mail : Mail) (book : KeptBook) (script : List ScriptedChange) (count : ℕ) (finished : List Bool) (stopped : Option Why)
     (is : IsHome of limit H cast names mail book script count finished stopped) where
   abbrev home : HomeState
   home = shown of limit H cast names mail book script count finished stopped is
 
   there : network_in home ≡ is.shared.network
-  there = network_is (plain of) H is.shared.network is.shared.runs
+  there = network_is of H is.shared.network is.shared.runs
 
   books : book_of book ≡ (network_in home).book
   books = is.shared.opened ∙ ap (λ (N : Network). N.book) (sym there)
@@ -88,11 +87,11 @@ module _ (of : Bundle) (limit : ℕ) (H : List Entry) (cast : List Role) (names 
   counts = is.shared.updates ∙ ap (λ (N : Network). N.updates) (sym there)
 
   -- what the book of the home chooses is what its network's chooses
-  pub update_there : (head : ScopeHead) (s : Store) → update_of (plain of).rules (book_of book) count head s ≡ update_in home head s
-  update_there head s = λ i. update_of (plain of).rules (books i) (counts i) head s
+  pub update_there : (head : ScopeHead) (s : Store) → update_of of.rules (book_of book) count head s ≡ update_in home head s
+  update_there head s = λ i. update_of of.rules (books i) (counts i) head s
 
-  pub begin_there : (head : ScopeHead) (s : Store) → scope_entry (plain of).rules (book_of book) count head s ≡ begin_in home head s
-  begin_there head s = λ i. scope_entry (plain of).rules (books i) (counts i) head s
+  pub begin_there : (head : ScopeHead) (s : Store) → scope_entry of.rules (book_of book) count head s ≡ begin_in home head s
+  begin_there head s = λ i. scope_entry of.rules (books i) (counts i) head s
 
   -- there may be one update more
   pub update_fits : role_fault home ≡ None → count < 4294967295
@@ -101,28 +100,28 @@ module _ (of : Bundle) (limit : ℕ) (H : List Entry) (cast : List Role) (names 
       omega (arith, is.shared.few, is.shared.small, calm.room)
 
   -- what a home keeps after the begin of a scope
-  pub home_led : Laws → (head : ScopeHead) (s : Store) → CanBegin (plain of) H head s → role_fault home ≡ None → (count' : ℕ) (H' : List Entry)
-      → count' ≡ updates_after (scope_entry (plain of).rules (book_of book) count head s) count → H' ≡ H ++ scope_entry (plain of).rules (book_of book) count head s ∷ []
+  pub home_led : Laws → (head : ScopeHead) (s : Store) → CanBegin of H head s → role_fault home ≡ None → (count' : ℕ) (H' : List Entry)
+      → count' ≡ updates_after (scope_entry of.rules (book_of book) count head s) count → H' ≡ H ++ scope_entry of.rules (book_of book) count head s ∷ []
       → IsHome of limit H' cast names mail book script count' finished stopped
   home_led laws head s can free count' H' counted pushed =
       home_did of limit H cast names mail book script count finished stopped is laws head.leader (act.Scope head.index) (FromBook decide)
       (Chooses head.index head.leader (chosen_by (decide head)))
-      (can_lead laws.offers (plain of) H head s can decide) refl refl free mail count' H' (record { at = λ k. refl })
+      (can_lead laws.offers of H head s can decide) refl refl free mail count' H' (record { at = λ k. refl })
       (counted ∙ ap (λ e. updates_after e count) shows) (pushed ∙ ap (λ e. H ++ e ∷ []) shows)
     where
       N : Network
       N = is.shared.network
 
       decide : ScopeHead → Decision
-      decide h = decision (plain of).cast is.shared.network.updates h (book_choice (plain of).rules is.shared.network.book h (is.shared.network.stores head.leader))
+      decide h = decision of.cast is.shared.network.updates h (book_choice of.rules is.shared.network.book h (is.shared.network.stores head.leader))
 
       store : s ≡ is.shared.network.stores head.leader
       store = sym can.stands.store ∙ ap (λ (M : Network). M.stores head.leader) (some_same (sym can.stands.runs ∙ is.shared.runs))
 
-      shows : scope_entry (plain of).rules (book_of book) count head s ≡ entry_of (Chooses head.index head.leader (chosen_by (decide head)))
-      shows = (λ i. scope_entry (plain of).rules (is.shared.opened i) (is.shared.updates i) head (store i))
+      shows : scope_entry of.rules (book_of book) count head s ≡ entry_of (Chooses head.index head.leader (chosen_by (decide head)))
+      shows = (λ i. scope_entry of.rules (is.shared.opened i) (is.shared.updates i) head (store i))
           ∙ ap (entry.Scope head.index head.leader)
-          (shows_decision (plain of).cast is.shared.network.updates head (book_choice (plain of).rules is.shared.network.book head (is.shared.network.stores head.leader)))
+          (shows_decision of.cast is.shared.network.updates head (book_choice of.rules is.shared.network.book head (is.shared.network.stores head.leader)))
 
 module _ (rules : List PlainRule) (book : Book) (head : ScopeHead) (s : Store) where
   abbrev rule_fits : Option PlainRule → Bool

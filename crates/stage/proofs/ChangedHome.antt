@@ -1,10 +1,9 @@
 -- What a home keeps after the script's next change.
 use Rattle.std.proofs.Common.{◌≡◌, ◌<◌, ℕ, suc, List, [], ◌∷◌, ◌++◌, length, map, Bool, true, is_some, is_none, Option, Some, None, refl, sym, ap, ◌∙◌, subst, arith, length-append}
-use Rattle.dioc_terms.specs.declared.bundles.Bundle.{Bundle}
 use Rattle.dioc_terms.specs.declared.entries.Entry.{Entry}
 use Rattle.dioc_terms.specs.declared.names.Role.{Role}
 use Rattle.dioc_terms.specs.Messages.{doer, visible}
-use Rattle.dioc_terms.specs.Plain.{PlainBundle, plain, setting}
+use Rattle.dioc_terms.specs.Plain.{PlainBundle, setting}
 use Rattle.marked_laws.proofs.Shapes.{some_same}
 use Rattle.marked_laws.specs.Network.{Network, network_run}
 use Rattle.net_core.proofs.ScriptLemmas.{change_is_nobodys}
@@ -95,17 +94,17 @@ module _ (b : PlainBundle) (limit : ℕ) (H : List Entry) (mail : Mail) (book : 
         (ended_stays b H q made.entry runs_changed.0 runs_changed.1 (nobodys nobody) was)
 
 -- what a home keeps after the change
-pub home_changed : (of : Bundle) (limit : ℕ) (H : List Entry) (cast : List Role) (names : List (List ℕ)) (mail : Mail) (book : KeptBook) (script : List ScriptedChange) (count : ℕ) (finished : List Bool) (stopped : Option Why)
+pub home_changed : (of : PlainBundle) (limit : ℕ) (H : List Entry) (cast : List Role) (names : List (List ℕ)) (mail : Mail) (book : KeptBook) (script : List ScriptedChange) (count : ℕ) (finished : List Bool) (stopped : Option Why)
     → IsHome of limit H cast names mail book script count finished stopped → StepsRun → stopped ≡ None → length H < limit
-    → (script' : List ScriptedChange) (book' : KeptBook) (H' : List Entry) → ChangeMade (plain of).rules script (length (visible H)) book H script' book' H'
+    → (script' : List ScriptedChange) (book' : KeptBook) (H' : List Entry) → ChangeMade of.rules script (length (visible H)) book H script' book' H'
     → IsHome of limit H' cast names mail book' script' count finished stopped
 home_changed of limit H cast names mail book script count finished stopped is laws goes room script' book' H' made = record {
-  shared = shared_changed (plain of) limit H mail book script count is.shared laws room script' book' H' made;
+  shared = shared_changed of limit H mail book script count is.shared laws room script' book' H' made;
   same_cast = is.same_cast;
   same_names = is.same_names;
   marks = record {
     marks = is.marks.marks;
-    finish = λ i q at mark. ended_changed (plain of) limit H mail book script count is.shared laws room script' book' H' made q (is.marks.finish i q at mark);
+    finish = λ i q at mark. ended_changed of limit H mail book script count is.shared laws room script' book' H' made q (is.marks.finish i q at mark);
     stop = λ cut. absurd (stopped_not goes cut);
   };
 }

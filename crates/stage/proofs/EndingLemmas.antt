@@ -5,11 +5,10 @@ use Rattle.std.specs.Prelude.{◌⊎◌, slice_set}
 use Rattle.std.proofs.lemmas.Bool.{cases_Bool, cond-true, cond-false}
 use Rattle.std.proofs.lemmas.Iterator.Adapters.{position_from-zero}
 use Rattle.std.proofs.lemmas.List.{length-set, set_past}
-use Rattle.dioc_terms.specs.declared.bundles.Bundle.{Bundle}
 use Rattle.dioc_terms.specs.declared.entries.Entry.{Entry}
 use Rattle.dioc_terms.specs.declared.names.Role.{Role}
 use Rattle.dioc_terms.specs.Equality.{role_eq}
-use Rattle.dioc_terms.specs.Plain.{PlainBundle, plain}
+use Rattle.dioc_terms.specs.Plain.{PlainBundle}
 use Rattle.marked_laws.proofs.Equality.{role_same}
 use Rattle.marked_laws.proofs.Shapes.{none_some, some_same}
 use Rattle.role_mailbox.specs.declared.mail.Mail.{Mail}
@@ -86,7 +85,7 @@ mark_nowhere q cast finished same none =
     let past = place_past q cast none in
     sym (set_past finished (cast_place cast q) true (omega (arith, past, same)))
 
-module _ (of : Bundle) (limit : ℕ) (H : List Entry) (cast : List Role) (names : List (List ℕ)) (mail : Mail) (book : KeptBook) (script : List ScriptedChange) (count : ℕ) (finished : List Bool) (stopped : Option Why)
+module _ (of : PlainBundle) (limit : ℕ) (H : List Entry) (cast : List Role) (names : List (List ℕ)) (mail : Mail) (book : KeptBook) (script : List ScriptedChange) (count : ℕ) (finished : List Bool) (stopped : Option Why)
     (is : IsHome of limit H cast names mail book script count finished stopped) where
   -- each role of the cast has a place for its mark
   pub marks_fit : length finished ≡ length cast
@@ -96,13 +95,13 @@ module _ (of : Bundle) (limit : ℕ) (H : List Entry) (cast : List Role) (names 
   marks_same q finished' set = set ∙ ap (λ l. slice_set finished (cast_place l q) true) is.same_cast
 
   -- what a home keeps once the role is marked
-  pub home_finished : (q : Role) → HasEnded (plain of) H q → (finished' : List Bool) → finished' ≡ slice_set finished (cast_place cast q) true
+  pub home_finished : (q : Role) → HasEnded of H q → (finished' : List Bool) → finished' ≡ slice_set finished (cast_place cast q) true
       → IsHome of limit H cast names mail book script count finished' stopped
   home_finished q done finished' set = record {
     shared = is.shared;
     same_cast = is.same_cast;
     same_names = is.same_names;
-    marks = subst (λ l. MarksHold (plain of) limit H l stopped) (sym (marks_same q finished' set)) (marks_more (plain of) limit H finished stopped is.marks q done);
+    marks = subst (λ l. MarksHold of limit H l stopped) (sym (marks_same q finished' set)) (marks_more of limit H finished stopped is.marks q done);
   }
 
   abbrev shown_as : List Bool → HomeState

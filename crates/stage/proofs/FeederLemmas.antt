@@ -3,7 +3,6 @@ use Rattle.std.proofs.Common.{◌≡◌, ◌<◌, ℕ, zero, suc, List, [], ◌�
 use Rattle.std.specs.List.{list_all}
 use Rattle.std.specs.Option.{option_or}
 use Rattle.std.specs.Prelude.{nat_le, nat_lt, option_map, option_and_then}
-use Rattle.dioc_terms.specs.declared.bundles.Bundle.{Bundle}
 use Rattle.dioc_terms.specs.declared.bundles.Change.{Change}
 use Rattle.dioc_terms.specs.declared.bundles.Change.TheVariants as change
 use Rattle.dioc_terms.specs.declared.bundles.Timed.{Timed}
@@ -11,7 +10,7 @@ use Rattle.dioc_terms.specs.declared.entries.Entry.{Entry}
 use Rattle.dioc_terms.specs.declared.entries.Entry.TheVariants as entry
 use Rattle.dioc_terms.specs.declared.names.Role.{Role}
 use Rattle.dioc_terms.specs.Messages.{doer, visible}
-use Rattle.dioc_terms.specs.Plain.{PlainBundle, PlainRule, plain}
+use Rattle.dioc_terms.specs.Plain.{PlainBundle, PlainRule}
 use Rattle.global_steps.specs.Follow.{change_entry}
 use Rattle.marked_laws.proofs.Shapes.{none_some, some_same}
 use Rattle.net_core.specs.Schedule.{changes_in}
@@ -50,10 +49,10 @@ by_after home None = refl
 by_after home (Some timed) = refl
 
 -- who has a home's next change has its fault
-pub next_is : (home : HomeState) (limit : ℕ) (mail : Mail) (book : KeptBook) (script : List ScriptedChange) (count : ℕ) → IsSharedAfter (plain home.bundle) limit home.history mail book script count
-    → (o : Option ℕ) → o ≡ first_after script → fault_after home o ≡ next_fault home (slice_get (plain home.bundle).script (changes_in home.history))
+pub next_is : (home : HomeState) (limit : ℕ) (mail : Mail) (book : KeptBook) (script : List ScriptedChange) (count : ℕ) → IsSharedAfter home.bundle limit home.history mail book script count
+    → (o : Option ℕ) → o ≡ first_after script → fault_after home o ≡ next_fault home (slice_get home.bundle.script (changes_in home.history))
 next_is home limit mail book script count is o first =
-    let b = plain home.bundle in
+    let b = home.bundle in
     let asks : o ≡ option_map after_in (slice_get b.script (changes_in home.history)) =
     first ∙ ap first_after is.rest ∙ first_of b.rules b.script is.network.changes ∙ ap (λ n. option_map after_in (slice_get b.script n)) is.changes in
     ap (fault_after home) asks ∙ by_after home (slice_get b.script (changes_in home.history))
@@ -67,7 +66,7 @@ next_free home (Some timed) h =
 -- what it says that a home has no fault for the script's next change
 pub feeder_free : (home : HomeState) → feeder_fault home ≡ None → (home.stopped ≡ None) × (length home.history < home.limit)
 feeder_free home h =
-    let next = slice_get (plain home.bundle).script (changes_in home.history) in
+    let next = slice_get home.bundle.script (changes_in home.history) in
     let ends = fault_if (list_all (λ finished. finished) home.finished) fault.Ended in
     let stop = or_none (stop_fault home.stopped) (option_or ends (next_fault home next)) h in
     let rest = or_none ends (next_fault home next) stop.1 in
@@ -86,18 +85,18 @@ module _ (b : PlainBundle) (limit : ℕ) (H : List Entry) (mail : Mail) (book : 
       ap (λ n. entry_at (slice_get b.script n)) (sym is.changes) ∙ ap entry_at next.stands ∙ ap (λ (due : ScriptedChange). due.entry) (sym next.same) ∙ made.shows
 
 -- the home with what is made
-pub is_changed : (of : Bundle) (limit : ℕ) (H : List Entry) (cast : List Role) (names : List (List ℕ)) (mail : Mail) (book : KeptBook) (script : List ScriptedChange) (count : ℕ) (finished : List Bool) (stopped : Option Why)
+pub is_changed : (of : PlainBundle) (limit : ℕ) (H : List Entry) (cast : List Role) (names : List (List ℕ)) (mail : Mail) (book : KeptBook) (script : List ScriptedChange) (count : ℕ) (finished : List Bool) (stopped : Option Why)
     → IsHome of limit H cast names mail book script count finished stopped → StepsRun
-    → (script' : List ScriptedChange) (book' : KeptBook) (H' : List Entry) → ChangeMade (plain of).rules script (length (visible H)) book H script' book' H'
+    → (script' : List ScriptedChange) (book' : KeptBook) (H' : List Entry) → ChangeMade of.rules script (length (visible H)) book H script' book' H'
     → IsChanged (record { bundle = of; limit = limit; history = H; finished = finished; stopped = stopped }) (record { bundle = of; limit = limit; history = H'; finished = finished; stopped = stopped })
 is_changed of limit H cast names mail book script count finished stopped is laws script' book' H' made = record {
   entry = made.entry;
-  next = entry_is (plain of) limit H mail book script count is.shared laws script' book' H' made;
+  next = entry_is of limit H mail book script count is.shared laws script' book' H' made;
   added = ap (λ (h : List Entry). record { bundle = of; limit = limit; history = h; finished = finished; stopped = stopped }) made.entries;
 }
 
 -- where nothing was changed the home stands as before
-pub home_unchanged : (of : Bundle) (limit : ℕ) (H : List Entry) (cast : List Role) (names : List (List ℕ)) (mail : Mail) (book : KeptBook) (script : List ScriptedChange) (count : ℕ) (finished : List Bool) (stopped : Option Why)
+pub home_unchanged : (of : PlainBundle) (limit : ℕ) (H : List Entry) (cast : List Role) (names : List (List ℕ)) (mail : Mail) (book : KeptBook) (script : List ScriptedChange) (count : ℕ) (finished : List Bool) (stopped : Option Why)
     → IsHome of limit H cast names mail book script count finished stopped
     → (script' : List ScriptedChange) (book' : KeptBook) (H' : List Entry) → script' ≡ script → book' ≡ book → H' ≡ H
     → IsHome of limit H' cast names mail book' script' count finished stopped
@@ -117,8 +116,8 @@ change_nobodys rules (change.Env key v) e h = ap doer (sym (some_same h))
 
 -- the script's next change is no role's
 pub next_nobodys : (home : HomeState) (e : Entry) → next_entry home ≡ Some e → doer e ≡ None
-next_nobodys home e h = by_next (slice_get (plain home.bundle).script (changes_in home.history)) h
+next_nobodys home e h = by_next (slice_get home.bundle.script (changes_in home.history)) h
   where
-    by_next : (o : Option Timed) → option_and_then (λ (timed : Timed). change_entry (plain home.bundle).rules timed.change) o ≡ Some e → doer e ≡ None
+    by_next : (o : Option Timed) → option_and_then (λ (timed : Timed). change_entry home.bundle.rules timed.change) o ≡ Some e → doer e ≡ None
     by_next None k = absurd (none_some k)
-    by_next (Some timed) k = change_nobodys (plain home.bundle).rules timed.change e k
+    by_next (Some timed) k = change_nobodys home.bundle.rules timed.change e k

@@ -7,7 +7,7 @@ use Rattle.dioc_terms.specs.declared.entries.Entry.{Entry}
 use Rattle.dioc_terms.specs.declared.names.Role.{Role}
 use Rattle.dioc_terms.specs.declared.processes.Key.{Key}
 use Rattle.dioc_terms.specs.Messages.{doer, act_of}
-use Rattle.dioc_terms.specs.Plain.{plain, setting}
+use Rattle.dioc_terms.specs.Plain.{setting}
 use Rattle.dioc_terms.specs.Processes.{Load}
 use Rattle.marked_laws.specs.Network.{Network, given_at, pending_at}
 use Rattle.process_steps.specs.Laws.{StepsShowTheirActs}
@@ -95,7 +95,7 @@ own_entry v home e base can =
 module _ (v u w : View Entry Base) (home next : HomeState) (base : v.base ≡ Some (home.bundle, home.limit)) (still : StillStands v home.history) (sound : IsSoundHome home)
     (fault_of : HomeState → Option CommitFault) (free : fault_of home ≡ None) (law : DeedsMove) (after : IsSoundHome next) where
   -- a role's deed that needs nothing from outside
-  pub did_alone : (q : Role) (a : Act) (d : Deed) → CanCommit v q a Alone d → Alone ≡ given_at (setting (plain home.bundle)) sound.network q a
+  pub did_alone : (q : Role) (a : Act) (d : Deed) → CanCommit v q a Alone d → Alone ≡ given_at (setting home.bundle) sound.network q a
       → doer (entry_of d) ≡ Some q → act_of (entry_of d) ≡ Some a → Grown v u home next (entry_of d)
       → Leaves u w next → Committed fault_of v w q a Alone d
   did_alone q a d can fits who acts grown leaves =
@@ -103,14 +103,14 @@ module _ (v u w : View Entry Base) (home next : HomeState) (base : v.base ≡ So
       (subst IsSoundHome grown.added after) (own_grown v u w home next (entry_of d) grown leaves) w (left_grown v u w home next (entry_of d) grown leaves)
 
   -- a take, with the message that is pending
-  pub did_take : Laws → (k : Key) (x : Option (List ℕ)) (l : Load) → CanReceive v k.to k x → pending_at k (network_at (plain home.bundle) home.history).pending ≡ Some l
+  pub did_take : Laws → (k : Key) (x : Option (List ℕ)) (l : Load) → CanReceive v k.to k x → pending_at k (network_at home.bundle home.history).pending ≡ Some l
       → Grown v u home next (entry_of (Takes k x l)) → Leaves u w next
       → Committed fault_of v w k.to (act.Take k) (Got l) (Takes k x l)
   did_take laws k x l can there grown leaves =
       let pending : pending_at k sound.network.pending ≡ Some l =
-      sym (ap (λ (N : Network). pending_at k N.pending) (network_is (plain home.bundle) home.history sound.network sound.runs)) ∙ there in
+      sym (ap (λ (N : Network). pending_at k N.pending) (network_is home.bundle home.history sound.network sound.runs)) ∙ there in
       committed v home base still k.to (act.Take k) (Got l) (Takes k x l) fault_of law sound
-      (take_can laws (plain home.bundle) home.history sound.network sound.sound sound.runs k.to k x (take_now v home base still k.to k x can) l pending)
+      (take_can laws home.bundle home.history sound.network sound.sound sound.runs k.to k x (take_now v home base still k.to k x can) l pending)
       (sym (ap message_given pending)) refl refl free
       (subst IsSoundHome grown.added after) (own_grown v u w home next (entry_of (Takes k x l)) grown leaves) w
       (left_grown v u w home next (entry_of (Takes k x l)) grown leaves)

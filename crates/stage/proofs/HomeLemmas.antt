@@ -4,7 +4,6 @@ use Rattle.std.specs.Prelude.{nat_le}
 use Rattle.std.specs.Option.{option_or}
 use Rattle.std.specs.Map.{lookup}
 use Rattle.std.proofs.lemmas.Bool.Decides.{nat_tests}
-use Rattle.dioc_terms.specs.declared.bundles.Bundle.{Bundle}
 use Rattle.dioc_terms.specs.declared.entries.Act.{Act}
 use Rattle.dioc_terms.specs.declared.entries.Act.TheVariants as act
 use Rattle.dioc_terms.specs.declared.entries.Chosen.TheVariants as chosen
@@ -14,7 +13,7 @@ use Rattle.dioc_terms.specs.declared.processes.Key.{Key}
 use Rattle.dioc_terms.specs.Attempts.{Attempt, Stuck, Does}
 use Rattle.dioc_terms.specs.Equality.{key_eq}
 use Rattle.dioc_terms.specs.Messages.{doer, visible}
-use Rattle.dioc_terms.specs.Plain.{PlainBundle, plain, setting}
+use Rattle.dioc_terms.specs.Plain.{PlainBundle, setting}
 use Rattle.dioc_terms.specs.Processes.{Process, Load}
 use Rattle.global_steps.specs.Follow.{updates_after}
 use Rattle.marked_laws.proofs.Networks.{after_deed, deed_outcome}
@@ -204,7 +203,7 @@ or_none (Some x) p h = cc
 pub not_full : (limit : ℕ) (H : List Entry) → nat_le limit (length H) ≡ false → length H < limit
 not_full limit H h = grind (arith, nat_tests)
 
-pub sound_home : (of : Bundle) (limit : ℕ) (H : List Entry) (cast : List Role) (names : List (List ℕ)) (mail : Mail) (book : KeptBook) (script : List ScriptedChange) (count : ℕ) (finished : List Bool) (stopped : Option Why)
+pub sound_home : (of : PlainBundle) (limit : ℕ) (H : List Entry) (cast : List Role) (names : List (List ℕ)) (mail : Mail) (book : KeptBook) (script : List ScriptedChange) (count : ℕ) (finished : List Bool) (stopped : Option Why)
     → IsHome of limit H cast names mail book script count finished stopped
     → IsSoundHome (record { bundle = of; limit = limit; history = H; finished = finished; stopped = stopped })
 sound_home of limit H cast names mail book script count finished stopped is = record {
@@ -229,51 +228,51 @@ no_fault_if true f h = cc
 pub record IsFree (home : HomeState) : Type 0 where
   pub goes : home.stopped ≡ None
   pub room : length home.history < home.limit
-  pub calm : change_is_due (plain home.bundle) home.history ≡ false
+  pub calm : change_is_due home.bundle home.history ≡ false
 
 pub role_free : (home : HomeState) → role_fault home ≡ None → IsFree home
 role_free home h =
-    let stop = or_none (stop_fault home.stopped) (option_or (full_fault home) (fault_if (change_is_due (plain home.bundle) home.history) fault.NotYet)) h in
-    let full = or_none (full_fault home) (fault_if (change_is_due (plain home.bundle) home.history) fault.NotYet) stop.1 in
+    let stop = or_none (stop_fault home.stopped) (option_or (full_fault home) (fault_if (change_is_due home.bundle home.history) fault.NotYet)) h in
+    let full = or_none (full_fault home) (fault_if (change_is_due home.bundle home.history) fault.NotYet) stop.1 in
     record {
       goes = no_stop home.stopped stop.0;
       room = not_full home.limit home.history (no_fault_if (nat_le home.limit (length home.history)) fault.Full full.0);
-      calm = no_fault_if (change_is_due (plain home.bundle) home.history) fault.NotYet full.1;
+      calm = no_fault_if (change_is_due home.bundle home.history) fault.NotYet full.1;
     }
 
 pub take_free : (k : Key) (home : HomeState) → take_fault k home ≡ None
-    → (role_fault home ≡ None) × (is_none (pending_at k (network_at (plain home.bundle) home.history).pending) ≡ false)
+    → (role_fault home ≡ None) × (is_none (pending_at k (network_at home.bundle home.history).pending) ≡ false)
 take_free k home h =
-    let parts = or_none (role_fault home) (fault_if (is_none (pending_at k (network_at (plain home.bundle) home.history).pending)) fault.NotYet) h in
-    (parts.0, no_fault_if (is_none (pending_at k (network_at (plain home.bundle) home.history).pending)) fault.NotYet parts.1)
+    let parts = or_none (role_fault home) (fault_if (is_none (pending_at k (network_at home.bundle home.history).pending)) fault.NotYet) h in
+    (parts.0, no_fault_if (is_none (pending_at k (network_at home.bundle home.history).pending)) fault.NotYet parts.1)
 
-module _ (of : Bundle) (limit : ℕ) (H : List Entry) (cast : List Role) (names : List (List ℕ)) (mail : Mail) (book : KeptBook) (script : List ScriptedChange) (count : ℕ) (finished : List Bool) (stopped : Option Why)
+module _ (of : PlainBundle) (limit : ℕ) (H : List Entry) (cast : List Role) (names : List (List ℕ)) (mail : Mail) (book : KeptBook) (script : List ScriptedChange) (count : ℕ) (finished : List Bool) (stopped : Option Why)
     (is : IsHome of limit H cast names mail book script count finished stopped) where
   abbrev pub shown : HomeState
   shown = record { bundle = of; limit = limit; history = H; finished = finished; stopped = stopped }
 
   -- what a home keeps after the deed of a role
-  pub home_did : Laws → (q : Role) (a : Act) (given : Given) (d : Deed) → CanDo (plain of) H q a given d → given ≡ given_at (setting (plain of)) is.shared.network q a
+  pub home_did : Laws → (q : Role) (a : Act) (given : Given) (d : Deed) → CanDo of H q a given d → given ≡ given_at (setting of) is.shared.network q a
       → doer (entry_of d) ≡ Some q → role_fault shown ≡ None → (mail' : Mail) (count' : ℕ) (H' : List Entry) → MailAfter d mail mail'
       → count' ≡ updates_after (entry_of d) count → H' ≡ H ++ entry_of d ∷ [] → IsHome of limit H' cast names mail' book script count' finished stopped
   home_did laws q a given d can fits who free mail' count' H' changed counted pushed =
       let calm = role_free shown free in
-      let runs = next_runs (plain of) limit H mail book script count is.shared laws q a given d can fits in
+      let runs = next_runs of limit H mail book script count is.shared laws q a given d can fits in
       record {
-        shared = shared_did (plain of) limit H mail book script count is.shared laws q a given d can fits calm.room calm.calm mail' count' H' changed counted pushed;
+        shared = shared_did of limit H mail book script count is.shared laws q a given d can fits calm.room calm.calm mail' count' H' changed counted pushed;
         same_cast = is.same_cast;
         same_names = is.same_names;
-        marks = marks_did laws.offers (plain of) limit H finished stopped is.marks calm.goes q a given d can who
-            (next_network (plain of) limit H mail book script count is.shared laws q a given d can fits) runs H' pushed;
+        marks = marks_did laws.offers of limit H finished stopped is.marks calm.goes q a given d can who
+            (next_network of limit H mail book script count is.shared laws q a given d can fits) runs H' pushed;
       }
 
   -- a home that shows the same stands as well
   pub home_same : (mail' : Mail) (H' : List Entry) → messages mail' ≡ messages mail → H' ≡ H → IsHome of limit H' cast names mail' book script count finished stopped
   home_same mail' H' same_mail same_history = record {
-    shared = shared_same (plain of) limit H mail book script count is.shared mail' H' same_mail same_history;
+    shared = shared_same of limit H mail book script count is.shared mail' H' same_mail same_history;
     same_cast = is.same_cast;
     same_names = is.same_names;
-    marks = subst (λ h. MarksHold (plain of) limit h finished stopped) (sym same_history) is.marks;
+    marks = subst (λ h. MarksHold of limit h finished stopped) (sym same_history) is.marks;
   }
 
 outcome_there : (N : Network) (q : Role) (m : Attempt Deed Process) → IsSome (deed_outcome N q m) → (d : Deed) × (P : Process) × (m ≡ Does d P)
@@ -305,33 +304,33 @@ some_there : {A : Type 0} (o : Option A) → is_none o ≡ false → is_some o �
 some_there None h = cc
 some_there (Some x) h = refl
 
-module _ (of : Bundle) (limit : ℕ) (H : List Entry) (cast : List Role) (names : List (List ℕ)) (mail : Mail) (book : KeptBook) (script : List ScriptedChange) (count : ℕ) (finished : List Bool) (stopped : Option Why)
+module _ (of : PlainBundle) (limit : ℕ) (H : List Entry) (cast : List Role) (names : List (List ℕ)) (mail : Mail) (book : KeptBook) (script : List ScriptedChange) (count : ℕ) (finished : List Bool) (stopped : Option Why)
     (is : IsHome of limit H cast names mail book script count finished stopped) where
   -- a message that may be taken is there
   pub take_there : (k : Key) → take_fault k (shown of limit H cast names mail book script count finished stopped is) ≡ None → is_some (payload_at k mail) ≡ true
   take_there k free =
-      let here = pending_is (plain of) limit H mail book script count is.shared k in
-      ap is_some here ∙ some_there (pending_at k (network_at (plain of) H).pending) (take_free k (shown of limit H cast names mail book script count finished stopped is) free).1
+      let here = pending_is of limit H mail book script count is.shared k in
+      ap is_some here ∙ some_there (pending_at k (network_at of H).pending) (take_free k (shown of limit H cast names mail book script count finished stopped is) free).1
 
   -- what a home keeps after a take
-  pub home_took : Laws → (q : Role) (k : Key) (x : Option (List ℕ)) (l : Load) → k.to ≡ q → CanTake (plain of) H q k x
+  pub home_took : Laws → (q : Role) (k : Key) (x : Option (List ℕ)) (l : Load) → k.to ≡ q → CanTake of H q k x
       → take_fault k (shown of limit H cast names mail book script count finished stopped is) ≡ None → payload_at k mail ≡ Some l
       → (mail' : Mail) (H' : List Entry) → MailAfter (Takes k x l) mail mail' → H' ≡ H ++ entry_of (Takes k x l) ∷ []
       → IsHome of limit H' cast names mail' book script count finished stopped
   home_took laws q k x l to can free there mail' H' changed pushed =
       let pending : pending_at k is.shared.network.pending ≡ Some l = sym (is.shared.pending k) ∙ there in
       home_did of limit H cast names mail book script count finished stopped is laws q (act.Take k) (Got l) (Takes k x l)
-      (take_can laws (plain of) H is.shared.network is.shared.sound is.shared.runs q k x can l pending)
+      (take_can laws of H is.shared.network is.shared.sound is.shared.runs q k x can l pending)
       (sym (ap message_given pending)) (ap (λ (r : Role). Some r) to)
       (take_free k (shown of limit H cast names mail book script count finished stopped is) free).0
       mail' count H' changed refl pushed
 
   -- what a home keeps after what a role did alone
-  pub home_added : Laws → StepsShowTheirActs → (e : Entry) → CanAdd (plain of) H e → role_fault (shown of limit H cast names mail book script count finished stopped is) ≡ None
+  pub home_added : Laws → StepsShowTheirActs → (e : Entry) → CanAdd of H e → role_fault (shown of limit H cast names mail book script count finished stopped is) ≡ None
       → (H' : List Entry) → H' ≡ H ++ e ∷ [] → IsHome of limit H' cast names mail book script count finished stopped
   home_added laws shows e can free H' pushed =
       let own = is_own e can.deed can.is_own in
       let acts = shows can.role can.can.store can.can.process can.act Alone can.deed can.can.next can.can.does in
       home_did of limit H cast names mail book script count finished stopped is laws can.role can.act Alone can.deed can.can
-      (own.alone (setting (plain of)) is.shared.network can.role can.act acts) (ap doer own.shows ∙ can.who) free
+      (own.alone (setting of) is.shared.network can.role can.act acts) (ap doer own.shows ∙ can.who) free
       mail count H' (own.mail mail) (own.updates count) (pushed ∙ ap (λ x. H ++ x ∷ []) (sym own.shows))

@@ -6,7 +6,6 @@ use Rattle.dioc_terms.specs.declared.entries.Entry.{Entry}
 use Rattle.dioc_terms.specs.declared.entries.Entry.TheVariants as entry
 use Rattle.dioc_terms.specs.declared.names.Role.{Role}
 use Rattle.dioc_terms.specs.declared.processes.ScopeHead.{ScopeHead}
-use Rattle.dioc_terms.specs.Plain.{plain}
 use Rattle.dioc_terms.specs.Stores.{Store}
 use Rattle.global_steps.specs.Follow.{book_choice}
 use Rattle.marked_laws.proofs.Shapes.{some_same}
@@ -33,7 +32,7 @@ use Rattle.stage.specs.Seats.{Base, StillStands}
 
 module _ (v : View Entry Base) (home : HomeState) (base : v.base ≡ Some (home.bundle, home.limit)) (still : StillStands v home.history) where
   -- a leader that could begin its scope can begin it still
-  pub begin_now : (head : ScopeHead) (s : Store) → CanCommitScope v head s → CanBegin (plain home.bundle) home.history head s
+  pub begin_now : (head : ScopeHead) (s : Store) → CanCommitScope v head s → CanBegin home.bundle home.history head s
   begin_now head s can =
       let here = can (home.bundle, home.limit) base in
       record {
@@ -45,7 +44,7 @@ module _ (v : View Entry Base) (home : HomeState) (base : v.base ≡ Some (home.
       }
 
   -- a role that has ended has ended still
-  pub ended_now : (q : Role) → HasFinished v q → HasEnded (plain home.bundle) home.history q
+  pub ended_now : (q : Role) → HasFinished v q → HasEnded home.bundle home.history q
   ended_now q done =
       let here = done (home.bundle, home.limit) base in
       record {
@@ -60,12 +59,12 @@ module _ (v : View Entry Base) (home : HomeState) (base : v.base ≡ Some (home.
   nothing_more (e ∷ es) h = absurd (omega (arith, h))
 
   -- a history that was cut where the seat looked is what is found
-  pub cut_now : IsSoundHome home → SawLimit v → IsCut (plain home.bundle) home.limit home.history
+  pub cut_now : IsSoundHome home → SawLimit v → IsCut home.bundle home.limit home.history
   cut_now sound saw =
       let cut = saw (home.bundle, home.limit) base in
       let rest = still.begins.0 in
       let none : length rest ≡ 0 = omega (arith, sound.within, cut.full, ap length still.begins.1, length-append v.seen rest) in
-      subst (IsCut (plain home.bundle) home.limit)
+      subst (IsCut home.bundle home.limit)
       (sym (still.begins.1 ∙ ap (λ r. v.seen ++ r) (nothing_more rest none) ∙ append-nil v.seen)) cut
 
   module _ (u w : View Entry Base) (next : HomeState) (sound : IsSoundHome home) (after : IsSoundHome next) where
@@ -86,32 +85,32 @@ module _ (v : View Entry Base) (home : HomeState) (base : v.base ≡ Some (home.
           given = FromBook decide;
           deed = deed;
           done = committed_here v home base still head.leader (act.Scope head.index) (FromBook decide) deed role_fault law sound
-              (can_lead offers (plain home.bundle) home.history head s there decide) refl refl refl free
+              (can_lead offers home.bundle home.history head s there decide) refl refl refl free
               (subst IsSoundHome (grown.added ∙ ap (with_entry home) shown) after)
               (subst (λ e. items_of (owner_in home.bundle.cast) (number v) (home.history ++ e ∷ []) ≡ mine v ++ e ∷ []) shown (own_grown v u w home next (begin_in home head s) grown leaves));
           chosen = chosen;
           shows = sym shown;
         })
       where
-        there : CanBegin (plain home.bundle) home.history head s
+        there : CanBegin home.bundle home.history head s
         there = begin_now head s can
 
         decide : ScopeHead → Decision
-        decide h = decision (plain home.bundle).cast sound.network.updates h (book_choice (plain home.bundle).rules sound.network.book h (sound.network.stores head.leader))
+        decide h = decision home.bundle.cast sound.network.updates h (book_choice home.bundle.rules sound.network.book h (sound.network.stores head.leader))
 
         deed : Deed
         deed = Chooses head.index head.leader (chosen_by (decide head))
 
         same : network_in home ≡ sound.network
-        same = network_is (plain home.bundle) home.history sound.network sound.runs
+        same = network_is home.bundle home.history sound.network sound.runs
 
         store : s ≡ sound.network.stores head.leader
         store = sym there.stands.store ∙ ap (λ (M : Network). M.stores head.leader) (some_same (sym there.stands.runs ∙ sound.runs))
 
         shown : begin_in home head s ≡ entry_of deed
-        shown = (λ i. scope_entry (plain home.bundle).rules (same i).book (same i).updates head (store i))
+        shown = (λ i. scope_entry home.bundle.rules (same i).book (same i).updates head (store i))
             ∙ ap (entry.Scope head.index head.leader)
-            (shows_decision (plain home.bundle).cast sound.network.updates head (book_choice (plain home.bundle).rules sound.network.book head (sound.network.stores head.leader)))
+            (shows_decision home.bundle.cast sound.network.updates head (book_choice home.bundle.rules sound.network.book head (sound.network.stores head.leader)))
 
         is : w ≡ left_with (entered v home.history) (entry_of deed ∷ [])
         is = left_grown v u w home next (begin_in home head s) grown leaves ∙ ap (λ e. left_with (entered v home.history) (e ∷ [])) shown

@@ -5,12 +5,11 @@ use Rattle.std.specs.Map.{lookup}
 use Rattle.dioc_terms.specs.Equality.{key_eq}
 use Rattle.std.proofs.lemmas.List.{length-map}
 use Rattle.std.proofs.lemmas.Option.{slice_get-map}
-use Rattle.dioc_terms.specs.declared.bundles.Bundle.{Bundle}
 use Rattle.dioc_terms.specs.declared.bundles.Rule.{Rule}
 use Rattle.dioc_terms.specs.declared.bundles.Timed.{Timed}
 use Rattle.dioc_terms.specs.declared.entries.Entry.{Entry}
 use Rattle.dioc_terms.specs.declared.names.Role.{Role}
-use Rattle.dioc_terms.specs.Plain.{PlainBundle, plain, plain_rule}
+use Rattle.dioc_terms.specs.Plain.{PlainBundle, plain_rule}
 use Rattle.dioc_terms.specs.Rules.{opening_book}
 use Rattle.marked_laws.specs.Laws.{IsSound}
 use Rattle.marked_laws.specs.Network.{network_start}
@@ -65,15 +64,15 @@ shared_started b limit mail book script sound small none opened of next all =
       few = omega arith;
     }
 
-pub home_started : (of : Bundle) (limit : ℕ) (H : List Entry) (cast : List Role) (names : List (List ℕ)) (mail : Mail) (book : KeptBook) (script : List ScriptedChange) (finished : List Bool)
-    → IsSound (plain of) → limit ≤ 4294967295 → H ≡ [] → cast ≡ of.cast → names ≡ map (λ (rule : Rule). rule.name) of.rules → messages mail ≡ []
-    → book_of book ≡ opening_book (plain of).rules of.opening of.env → IsBookOf (plain of).rules book → coming book ≡ map (λ (timed : Timed). timed.change) of.script
-    → script ≡ map (due_of (plain of).rules) of.script → finished ≡ map (λ (q : Role). false) of.cast
+pub home_started : (of : PlainBundle) (limit : ℕ) (H : List Entry) (cast : List Role) (names : List (List ℕ)) (mail : Mail) (book : KeptBook) (script : List ScriptedChange) (finished : List Bool)
+    → IsSound of → limit ≤ 4294967295 → H ≡ [] → cast ≡ of.cast → names ≡ names_of of.rules → messages mail ≡ []
+    → book_of book ≡ opening_book of.rules of.opening of.env → IsBookOf of.rules book → coming book ≡ map (λ (timed : Timed). timed.change) of.script
+    → script ≡ map (due_of of.rules) of.script → finished ≡ map (λ (q : Role). false) of.cast
     → IsHome of limit H cast names mail book script 0 finished None
 home_started of limit H cast names mail book script finished sound small empty same_cast same_names none opened book_is next all unmarked =
     subst (λ h. IsHome of limit h cast names mail book script 0 finished None) (sym empty) (record {
-      shared = shared_started (plain of) limit mail book script sound small none opened book_is next all;
+      shared = shared_started of limit mail book script sound small none opened book_is next all;
       same_cast = same_cast;
-      same_names = same_names ∙ names_started of.rules;
-      marks = marks_started (plain of) limit finished unmarked;
+      same_names = same_names;
+      marks = marks_started of limit finished unmarked;
     })

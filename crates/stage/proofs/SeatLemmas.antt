@@ -6,7 +6,7 @@ use Rattle.dioc_terms.specs.declared.names.Role.{Role}
 use Rattle.dioc_terms.specs.declared.processes.Key.{Key}
 use Rattle.dioc_terms.specs.Messages.{doer, act_of}
 use Rattle.dioc_terms.specs.Attempts.{Does}
-use Rattle.dioc_terms.specs.Plain.{PlainBundle, plain, setting}
+use Rattle.dioc_terms.specs.Plain.{PlainBundle, setting}
 use Rattle.dioc_terms.specs.Processes.{Process}
 use Rattle.dioc_terms.specs.Stores.{Store}
 use Rattle.marked_laws.proofs.Shapes.{some_same}
@@ -47,14 +47,14 @@ module _ (v : View Entry Base) (home : HomeState) (base : v.base ≡ Some (home.
     stands = λ b q P s sits at.
         let same = base_is b sits.0 in
         let place : number v ≡ cast_place home.bundle.cast q = sits.1 ∙ ap (λ (c : Base). cast_place c.0.cast q) (sym same) in
-        subst (λ (c : Base). RoleStandsAt (plain c.0) v.seen q P s → RoleStandsAt (plain c.0) home.history q P s) same
-        (law (plain home.bundle) v.seen home.history (mine v) sound.network q P s begins
+        subst (λ (c : Base). RoleStandsAt c.0 v.seen q P s → RoleStandsAt c.0 home.history q P s) same
+        (law home.bundle v.seen home.history (mine v) sound.network q P s begins
         (subst (λ n. items_of (owner_in home.bundle.cast) n home.history ≡ mine v) place own)
         (subst (λ n. items_of (owner_in home.bundle.cast) n v.seen ≡ mine v) place met) sound.runs) at;
   }
 
   -- a take that its role offered is one that it offers still
-  pub take_now : StillStands v home.history → (q : Role) (k : Key) (x : Option (List ℕ)) → CanReceive v q k x → CanTake (plain home.bundle) home.history q k x
+  pub take_now : StillStands v home.history → (q : Role) (k : Key) (x : Option (List ℕ)) → CanReceive v q k x → CanTake home.bundle home.history q k x
   take_now still q k x can =
       let here = can (home.bundle, home.limit) base in
       record {
@@ -85,7 +85,7 @@ module _ (v : View Entry Base) (home : HomeState) (base : v.base ≡ Some (home.
 
   module _ (still : StillStands v home.history) (q : Role) (a : Act) (given : Given) (d : Deed) where
     -- what the role could do after what its seat had seen, it can do in the home that is found
-    pub can_now : CanCommit v q a given d → CanDo (plain home.bundle) home.history q a given d
+    pub can_now : CanCommit v q a given d → CanDo home.bundle home.history q a given d
     can_now can =
         let here = can (home.bundle, home.limit) base in
         record {
@@ -97,23 +97,23 @@ module _ (v : View Entry Base) (home : HomeState) (base : v.base ≡ Some (home.
         }
 
     -- the role stands where its step took it
-    pub moved_on : DeedsMove → (sound : IsSoundHome home) → (can : CanDo (plain home.bundle) home.history q a given d) → given ≡ given_at (setting (plain home.bundle)) sound.network q a
-        → doer (entry_of d) ≡ Some q → act_of (entry_of d) ≡ Some a → (b : Base) (P : Process) (s : Store) → SitsFor v b q → RoleStandsAt (plain b.0) v.seen q P s
-        → (Q : Process) × (step q s P a given ≡ Does d Q) × RoleStandsAt (plain b.0) (home.history ++ entry_of d ∷ []) q Q (store_after d s)
+    pub moved_on : DeedsMove → (sound : IsSoundHome home) → (can : CanDo home.bundle home.history q a given d) → given ≡ given_at (setting home.bundle) sound.network q a
+        → doer (entry_of d) ≡ Some q → act_of (entry_of d) ≡ Some a → (b : Base) (P : Process) (s : Store) → SitsFor v b q → RoleStandsAt b.0 v.seen q P s
+        → (Q : Process) × (step q s P a given ≡ Does d Q) × RoleStandsAt b.0 (home.history ++ entry_of d ∷ []) q Q (store_after d s)
     moved_on law sound can fits who acts b P s sits at =
         let same = base_is b sits.0 in
-        let now : RoleStandsAt (plain home.bundle) home.history q P s =
-        subst (λ (c : Base). RoleStandsAt (plain c.0) home.history q P s) (sym same) (still.stands b q P s sits at) in
-        let does = does_there (plain home.bundle) home.history q a given d P s now can in (
+        let now : RoleStandsAt home.bundle home.history q P s =
+        subst (λ (c : Base). RoleStandsAt c.0 home.history q P s) (sym same) (still.stands b q P s sits at) in
+        let does = does_there home.bundle home.history q a given d P s now can in (
           can.next,
           does,
-          subst (λ (c : Base). RoleStandsAt (plain c.0) (home.history ++ entry_of d ∷ []) q can.next (store_after d s)) same
-              (law (plain home.bundle) home.history sound.network q P s a d can.next sound.runs now (ap (step q s P a) (sym fits) ∙ does) who acts),
+          subst (λ (c : Base). RoleStandsAt c.0 (home.history ++ entry_of d ∷ []) q can.next (store_after d s)) same
+              (law home.bundle home.history sound.network q P s a d can.next sound.runs now (ap (step q s P a) (sym fits) ∙ does) who acts),
         )
 
     -- what a commit leaves its seat
-    abbrev pub committed_here : (fault_of : HomeState → Option CommitFault) → DeedsMove → (sound : IsSoundHome home) → CanDo (plain home.bundle) home.history q a given d
-        → given ≡ given_at (setting (plain home.bundle)) sound.network q a → doer (entry_of d) ≡ Some q → act_of (entry_of d) ≡ Some a → fault_of home ≡ None
+    abbrev pub committed_here : (fault_of : HomeState → Option CommitFault) → DeedsMove → (sound : IsSoundHome home) → CanDo home.bundle home.history q a given d
+        → given ≡ given_at (setting home.bundle) sound.network q a → doer (entry_of d) ≡ Some q → act_of (entry_of d) ≡ Some a → fault_of home ≡ None
         → IsSoundHome (with_entry home (entry_of d)) → items_of (owner_in home.bundle.cast) (number v) (home.history ++ entry_of d ∷ []) ≡ mine v ++ entry_of d ∷ []
         → Committed fault_of v (left_with (entered v home.history) (entry_of d ∷ [])) q a given d
     committed_here fault_of law sound can fits who acts free after own = record {
@@ -122,8 +122,8 @@ module _ (v : View Entry Base) (home : HomeState) (base : v.base ≡ Some (home.
       moved = moved_on law sound can fits who acts;
     }
 
-    pub committed : (fault_of : HomeState → Option CommitFault) → DeedsMove → (sound : IsSoundHome home) → CanDo (plain home.bundle) home.history q a given d
-        → given ≡ given_at (setting (plain home.bundle)) sound.network q a → doer (entry_of d) ≡ Some q → act_of (entry_of d) ≡ Some a → fault_of home ≡ None
+    pub committed : (fault_of : HomeState → Option CommitFault) → DeedsMove → (sound : IsSoundHome home) → CanDo home.bundle home.history q a given d
+        → given ≡ given_at (setting home.bundle) sound.network q a → doer (entry_of d) ≡ Some q → act_of (entry_of d) ≡ Some a → fault_of home ≡ None
         → IsSoundHome (with_entry home (entry_of d)) → items_of (owner_in home.bundle.cast) (number v) (home.history ++ entry_of d ∷ []) ≡ mine v ++ entry_of d ∷ []
         → (w : View Entry Base) → w ≡ left_with (entered v home.history) (entry_of d ∷ []) → Committed fault_of v w q a given d
     committed fault_of law sound can fits who acts free after own w is =
@@ -140,7 +140,7 @@ module _ (v : View Entry Base) (home : HomeState) (base : v.base ≡ Some (home.
   })
 
   -- what a role could do alone it can do in the home that is found
-  pub can_add_now : StillStands v home.history → (e : Entry) → CanCommitOwn v e → CanAdd (plain home.bundle) home.history e
+  pub can_add_now : StillStands v home.history → (e : Entry) → CanCommitOwn v e → CanAdd home.bundle home.history e
   can_add_now still e can = record {
     role = can.role;
     act = can.act;
@@ -165,7 +165,7 @@ module _ (v : View Entry Base) (home : HomeState) (base : v.base ≡ Some (home.
         is_own = can.is_own;
         who = can.who;
         done = committed still can.role can.act Alone can.deed fault_of law sound here
-            (own.alone (setting (plain home.bundle)) sound.network can.role can.act acts)
+            (own.alone (setting home.bundle) sound.network can.role can.act acts)
             (ap doer own.shows ∙ can.who) acts free
             (subst (λ x. IsSoundHome (with_entry home x)) (sym own.shows) after)
             (subst (λ x. items_of (owner_in home.bundle.cast) (number v) (home.history ++ x ∷ []) ≡ mine v ++ x ∷ []) (sym own.shows) counts) w

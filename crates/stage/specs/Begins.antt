@@ -6,7 +6,7 @@ use Rattle.dioc_terms.specs.declared.entries.Chosen.TheVariants as chosen
 use Rattle.dioc_terms.specs.declared.entries.Entry.{Entry}
 use Rattle.dioc_terms.specs.declared.entries.Entry.TheVariants as entry
 use Rattle.dioc_terms.specs.declared.processes.ScopeHead.{ScopeHead}
-use Rattle.dioc_terms.specs.Plain.{PlainBundle, PlainRule, plain}
+use Rattle.dioc_terms.specs.Plain.{PlainBundle, PlainRule}
 use Rattle.dioc_terms.specs.Processes.{Process}
 use Rattle.dioc_terms.specs.Rules.{Book, choose}
 use Rattle.dioc_terms.specs.Stores.{Store}
@@ -44,14 +44,14 @@ scope_entry rules book count head s =
 
 -- the network after the history of the home
 abbrev pub network_in : HomeState → Network
-network_in home = network_at (plain home.bundle) home.history
+network_in home = network_at home.bundle home.history
 
 -- the update that the book of the home chooses for the scope, none where the scope keeps its body
 abbrev pub update_in : HomeState → ScopeHead → Store → Option (ℕ × ℕ)
 update_in home head s =
-    update_of (plain home.bundle).rules (network_in home).book (network_in home).updates head s
+    update_of home.bundle.rules (network_in home).book (network_in home).updates head s
 
 -- the entry of the begin of the scope in the home
 abbrev pub begin_in : HomeState → ScopeHead → Store → Entry
 begin_in home head s =
-    scope_entry (plain home.bundle).rules (network_in home).book (network_in home).updates head s
+    scope_entry home.bundle.rules (network_in home).book (network_in home).updates head s

@@ -2,7 +2,6 @@
 use Rattle.std.specs.Prelude.{◌≡◌, ℕ, List, [], ◌∷◌, Option, Some, None, slice_get, option_and_then}
 use Rattle.dioc_terms.specs.declared.bundles.Timed.{Timed}
 use Rattle.dioc_terms.specs.declared.entries.Entry.{Entry}
-use Rattle.dioc_terms.specs.Plain.{plain}
 use Rattle.global_steps.specs.Follow.{change_entry}
 use Rattle.net_core.specs.Schedule.{changes_in}
 use Rattle.role_network.specs.Standing.{ScriptedChange}
@@ -17,8 +16,8 @@ first_after (due ∷ rest) = Some due.after
 -- the entry of the script's next change, none where the script has no more
 abbrev pub next_entry : HomeState → Option Entry
 next_entry home =
-    option_and_then (λ (timed : Timed). change_entry (plain home.bundle).rules timed.change)
-    (slice_get (plain home.bundle).script (changes_in home.history))
+    option_and_then (λ (timed : Timed). change_entry home.bundle.rules timed.change)
+    (slice_get home.bundle.script (changes_in home.history))
 
 -- the home has made the script's next change
 pub record IsChanged (old new : HomeState) : Type 0 where

@@ -5,7 +5,6 @@ use Rattle.std.specs.Option.{option_or}
 use Rattle.dioc_terms.specs.declared.bundles.Timed.{Timed}
 use Rattle.dioc_terms.specs.declared.processes.Key.{Key}
 use Rattle.dioc_terms.specs.Messages.{visible}
-use Rattle.dioc_terms.specs.Plain.{plain}
 use Rattle.marked_laws.specs.Network.{pending_at}
 use Rattle.net_core.specs.Schedule.{changes_in, change_is_due}
 use Rattle.role_network.specs.Nets.{network_at}
@@ -32,14 +31,13 @@ abbrev pub role_fault : HomeState → Option CommitFault
 role_fault home =
     option_or (stop_fault home.stopped)
     (option_or (full_fault home)
-    (fault_if (change_is_due (plain home.bundle) home.history) fault.NotYet))
+    (fault_if (change_is_due home.bundle home.history) fault.NotYet))
 
 -- of a take: those, and its message isn't pending
 abbrev pub take_fault : Key → HomeState → Option CommitFault
 take_fault k home =
     option_or (role_fault home)
-    (fault_if
-    (is_none (pending_at k (network_at (plain home.bundle) home.history).pending)) fault.NotYet)
+    (fault_if (is_none (pending_at k (network_at home.bundle home.history).pending)) fault.NotYet)
 
 -- of the script's next change, after so many visible entries
 abbrev pub next_fault : HomeState → Option Timed → Option CommitFault
@@ -54,5 +52,4 @@ abbrev pub feeder_fault : HomeState → Option CommitFault
 feeder_fault home =
     option_or (stop_fault home.stopped)
     (option_or (fault_if (list_all (λ finished. finished) home.finished) fault.Ended)
-    (next_fault home
-    (slice_get (plain home.bundle).script (changes_in home.history))))
+    (next_fault home (slice_get home.bundle.script (changes_in home.history))))

@@ -5,7 +5,6 @@ use Rattle.dioc_terms.specs.declared.entries.Act.TheVariants as act
 use Rattle.dioc_terms.specs.declared.entries.Entry.{Entry}
 use Rattle.dioc_terms.specs.declared.names.Role.{Role}
 use Rattle.dioc_terms.specs.declared.processes.ScopeHead.{ScopeHead}
-use Rattle.dioc_terms.specs.Plain.{plain}
 use Rattle.dioc_terms.specs.Stores.{Store}
 use Rattle.process_steps.specs.Steps.{Deed, Given, entry_of}
 use Rattle.turn_lock.specs.declared.views.View.{View}
@@ -22,7 +21,7 @@ use Rattle.stage.specs.Seats.{Base, Added, Committed, IsFound, LookedOn}
 abbrev pub CanCommitScope : View Entry Base → ScopeHead → Store → Type 0
 CanCommitScope v head s =
     (base : Base) → v.base ≡ Some base
-    → (number v ≡ cast_place base.0.cast head.leader) × CanBegin (plain base.0) v.seen head s
+    → (number v ≡ cast_place base.0.cast head.leader) × CanBegin base.0 v.seen head s
 
 -- A commit began the scope of this head: the update is the one that the book of the home that was
 -- found chooses for it, none where the scope keeps its body, and the entry shows it.
@@ -48,11 +47,11 @@ pub record CommittedChange (v w : View Entry Base) : Type 0 where
 abbrev pub HasFinished : View Entry Base → Role → Type 0
 HasFinished v q =
     (base : Base) → v.base ≡ Some base
-    → (number v ≡ cast_place base.0.cast q) × HasEnded (plain base.0) v.seen q
+    → (number v ≡ cast_place base.0.cast q) × HasEnded base.0 v.seen q
 
 -- what the seat has seen has as many entries as it may, and the network has not ended after it
 abbrev pub SawLimit : View Entry Base → Type 0
-SawLimit v = (base : Base) → v.base ≡ Some base → IsCut (plain base.0) base.1 v.seen
+SawLimit v = (base : Base) → v.base ≡ Some base → IsCut base.0 base.1 v.seen
 
 -- the seat has looked on, and has seen the whole history of the home that was found
 pub record SawHome (v w : View Entry Base) : Type 0 where

@@ -1,12 +1,11 @@
 -- What lies under the lock of a stage: a history that the network of its bundle can run, and what
 -- all roles share of the network after it.
 use Rattle.std.specs.Prelude.{◌≡◌, ℕ, ◌≤◌, List, [], ◌∷◌, ◌++◌, map, length, drop, Bool, true, false, Option, Some, None, slice_get}
-use Rattle.dioc_terms.specs.declared.bundles.Bundle.{Bundle}
 use Rattle.dioc_terms.specs.declared.entries.Entry.{Entry}
 use Rattle.dioc_terms.specs.declared.names.Role.{Role}
 use Rattle.dioc_terms.specs.declared.processes.Key.{Key}
 use Rattle.dioc_terms.specs.Messages.{visible}
-use Rattle.dioc_terms.specs.Plain.{PlainBundle, PlainRule, plain}
+use Rattle.dioc_terms.specs.Plain.{PlainBundle, PlainRule}
 use Rattle.dioc_terms.specs.Processes.{Process}
 use Rattle.dioc_terms.specs.Stores.{Store}
 use Rattle.marked_laws.specs.Laws.{IsSound}
@@ -24,7 +23,7 @@ use Rattle.stage.specs.Roles.{RoleStandsAt}
 
 -- what contracts see of a home
 pub record HomeState : Type 0 where
-  pub bundle : Bundle
+  pub bundle : PlainBundle
   pub limit : ℕ
   pub history : List Entry
   -- for each role of the cast, whether it is marked as finished
@@ -35,7 +34,7 @@ abbrev pub with_entry : HomeState → Entry → HomeState
 with_entry home e = record home { history = home.history ++ e ∷ [] }
 
 -- before the first entry
-abbrev pub opening_home : Bundle → ℕ → HomeState
+abbrev pub opening_home : PlainBundle → ℕ → HomeState
 opening_home bundle limit =
     record {
       bundle = bundle;
@@ -92,24 +91,24 @@ pub record MarksHold (b : PlainBundle) (limit : ℕ) (H : List Entry) (finished 
 
 -- what holds of every home
 pub record IsSoundHome (home : HomeState) : Type 0 where
-  pub sound : IsSound (plain home.bundle)
+  pub sound : IsSound home.bundle
   pub network : Network
-  pub runs : network_run (plain home.bundle) home.history ≡ Some network
+  pub runs : network_run home.bundle home.history ≡ Some network
   pub within : length home.history ≤ home.limit
   pub small : home.limit ≤ 4294967295
-  pub prompt : IsPrompt (plain home.bundle) home.history
-  pub marks : MarksHold (plain home.bundle) home.limit home.history home.finished home.stopped
+  pub prompt : IsPrompt home.bundle home.history
+  pub marks : MarksHold home.bundle home.limit home.history home.finished home.stopped
 
 -- the names of rules, by their numbers
 abbrev pub names_of : List PlainRule → List (List ℕ)
 names_of rules = map (λ (rule : PlainRule). rule.name) rules
 
 -- what a home keeps stands for the network of its bundle after its history
-pub record IsHome (of : Bundle) (limit : ℕ) (H : List Entry) (cast : List Role)
+pub record IsHome (of : PlainBundle) (limit : ℕ) (H : List Entry) (cast : List Role)
     (names : List (List ℕ)) (mail : Mail) (book : KeptBook) (script : List ScriptedChange)
     (count : ℕ) (finished : List Bool) (stopped : Option Why) : Type 0
   where
-    pub shared : IsSharedAfter (plain of) limit H mail book script count
-    pub same_cast : cast ≡ (plain of).cast
-    pub same_names : names ≡ names_of (plain of).rules
-    pub marks : MarksHold (plain of) limit H finished stopped
+    pub shared : IsSharedAfter of limit H mail book script count
+    pub same_cast : cast ≡ of.cast
+    pub same_names : names ≡ names_of of.rules
+    pub marks : MarksHold of limit H finished stopped

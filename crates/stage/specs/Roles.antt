@@ -48,9 +48,9 @@ own_deed (entry.Input i r x v) = Some (Inputs i r x v)
 own_deed (entry.Pick i r b) = Some (Picks i r b)
 own_deed _ = None
 
-abbrev pub is_set : Entry → Bool
-is_set (entry.Set i r x v) = true
-is_set _ = false
+abbrev pub is_assignment : Entry → Bool
+is_assignment (entry.Set i r x v) = true
+is_assignment _ = false
 
 abbrev pub is_input : Entry → Bool
 is_input (entry.Input i r x v) = true

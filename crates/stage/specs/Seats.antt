@@ -1,13 +1,12 @@
 -- What a commit asks of its seat, and what a call of a stage leaves it.
 use Rattle.std.specs.Prelude.{◌≡◌, ◌≢◌, ℕ, zero, suc, List, [], ◌∷◌, ◌++◌, false, Option, Some, None}
-use Rattle.dioc_terms.specs.declared.bundles.Bundle.{Bundle}
 use Rattle.dioc_terms.specs.declared.entries.Act.{Act}
 use Rattle.dioc_terms.specs.declared.entries.Entry.{Entry}
 use Rattle.dioc_terms.specs.declared.names.Role.{Role}
 use Rattle.dioc_terms.specs.declared.processes.Key.{Key}
 use Rattle.dioc_terms.specs.Attempts.{Does}
 use Rattle.dioc_terms.specs.Messages.{doer}
-use Rattle.dioc_terms.specs.Plain.{plain, setting}
+use Rattle.dioc_terms.specs.Plain.{PlainBundle, setting}
 use Rattle.dioc_terms.specs.Processes.{Process}
 use Rattle.dioc_terms.specs.Stores.{Store}
 use Rattle.marked_laws.specs.Network.{given_at}
@@ -24,7 +23,7 @@ use Rattle.stage.specs.Roles.{RoleStandsAt, CanDo, CanTake, own_deed}
 
 -- the base of a stage's lock: its bundle, and how many entries its history may have
 abbrev pub Base : Type 0
-Base = Bundle × ℕ
+Base = PlainBundle × ℕ
 
 -- the seat is that of the role, in a lock of this base
 abbrev pub SitsFor : View Entry Base → Base → Role → Type 0
@@ -34,14 +33,14 @@ SitsFor v base q = (v.base ≡ Some base) × (number v ≡ cast_place base.0.cas
 abbrev pub CanCommit : View Entry Base → Role → Act → Given → Deed → Type 0
 CanCommit v q a given d =
     (base : Base) → v.base ≡ Some base
-    → (number v ≡ cast_place base.0.cast q) × CanDo (plain base.0) v.seen q a given d
+    → (number v ≡ cast_place base.0.cast q) × CanDo base.0 v.seen q a given d
 
 -- the seat is that of the role, which offers the take of the key after what the seat has seen, and
 -- keeps what comes in this variable, if in one
 abbrev pub CanReceive : View Entry Base → Role → Key → Option (List ℕ) → Type 0
 CanReceive v q k x =
     (base : Base) → v.base ≡ Some base
-    → (number v ≡ cast_place base.0.cast q) × CanTake (plain base.0) v.seen q k x
+    → (number v ≡ cast_place base.0.cast q) × CanTake base.0 v.seen q k x
 
 -- the seat is that of the role whose entry this is, which can do it alone after what the seat has
 -- seen
@@ -60,7 +59,7 @@ pub record StillStands (v : View Entry Base) (H : List Entry) : Type 0 where
   pub own : (base : Base) → v.base ≡ Some base
       → items_of (owner_in base.0.cast) (number v) H ≡ mine v
   pub stands : (base : Base) (q : Role) (P : Process) (s : Store) → SitsFor v base q
-      → RoleStandsAt (plain base.0) v.seen q P s → RoleStandsAt (plain base.0) H q P s
+      → RoleStandsAt base.0 v.seen q P s → RoleStandsAt base.0 H q P s
 
 -- the entries of the seat's number in what it has seen are its own
 abbrev pub HasMet : View Entry Base → Type 0
@@ -112,11 +111,11 @@ pub record Added (fault_of : HomeState → Option CommitFault) (v w : View Entry
 pub record Committed (fault_of : HomeState → Option CommitFault) (v w : View Entry Base) (q : Role)
     (a : Act) (given : Given) (d : Deed) : Type 0 where
   pub added : Added fault_of v w (entry_of d)
-  pub came : given ≡ given_at (setting (plain added.home.bundle)) added.found.sound.network q a
+  pub came : given ≡ given_at (setting added.home.bundle) added.found.sound.network q a
   pub moved : (base : Base) (P : Process) (s : Store) → SitsFor v base q
-      → RoleStandsAt (plain base.0) v.seen q P s
+      → RoleStandsAt base.0 v.seen q P s
       → (Q : Process) × (step q s P a given ≡ Does d Q)
-      × RoleStandsAt (plain base.0) w.seen q Q (store_after d s)
+      × RoleStandsAt base.0 w.seen q Q (store_after d s)
 
 -- a commit added what the role of this entry did alone
 pub record CommittedOwn (fault_of : HomeState → Option CommitFault) (v w : View Entry Base)

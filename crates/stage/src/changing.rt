@@ -4,7 +4,6 @@ ghost use Rattle.std.specs.Prelude.{◌≡◌, ◌≢◌, IfErr, OnErr, OnOk, No
 ghost use Rattle.std.specs.List.{list_all};
 ghost use Rattle.std.specs.Option.{option_or};
 ghost use Rattle.dioc_terms.specs.Messages.{visible};
-ghost use Rattle.dioc_terms.specs.Plain.{plain};
 ghost use Rattle.net_core.specs.Schedule.{changes_in};
 ghost use Rattle.role_network.specs.KeptParts.{due_seen};
 ghost use Rattle.stage.specs.Changes.{IsChanged, first_after};
@@ -69,7 +68,7 @@ impl Home {
     /// history is full, or it isn't due.
     fn next_fault(&self) -> Option<CommitFault>
         ensures { result ≡ next_fault self.now
-            (slice_get (plain self.now.bundle).script (changes_in self.now.history)) }
+            (slice_get self.now.bundle.script (changes_in self.now.history)) }
     {
         match first_after(&self.coming) {
             None => Some(CommitFault::NoMore),

@@ -4,7 +4,6 @@
 ghost use Rattle.std.specs.Prelude.{◌≡◌, ◌≢◌, IfErr, IfOk, OnErr, OnOk, None, Some};
 ghost use Rattle.dioc_terms.specs.declared.entries.Act.TheVariants as acts;
 ghost use Rattle.dioc_terms.specs.declared.entries.Entry.TheVariants as entry;
-ghost use Rattle.dioc_terms.specs.Plain.{plain};
 ghost use Rattle.dioc_terms.specs.Processes.{load, noted};
 ghost use Rattle.marked_laws.specs.Network.{pending_at};
 ghost use Rattle.process_steps.specs.Steps.{Alone, Puts};
@@ -23,7 +22,7 @@ impl Home {
     /// Puts a message of a role. After a refusal the home is as it was, and the key and the payload
     /// are dropped.
     pub(crate) fn put(&mut self, key: Key, payload: Payload) -> Result<(), CommitFault>
-        requires can { CanDo (plain self.old.bundle) self.old.history key.from (acts.Put key) Alone
+        requires can { CanDo self.old.bundle self.old.history key.from (acts.Put key) Alone
             (Puts key (load payload)) }
         ensures free { OnOk result (role_fault self.old ≡ None) }
         ensures added { OnOk result
@@ -42,7 +41,7 @@ impl Home {
 
     /// Puts a message, where the home has no fault for roles. Its refusal is want of memory.
     fn add_put(&mut self, key: Key, payload: Payload) -> Result<(), CommitFault>
-        requires can { CanDo (plain self.old.bundle) self.old.history key.from (acts.Put key) Alone
+        requires can { CanDo self.old.bundle self.old.history key.from (acts.Put key) Alone
             (Puts key (load payload)) }
         requires free { role_fault self.old ≡ None }
         ensures added { OnOk result
@@ -63,10 +62,10 @@ impl Home {
     /// Takes a message for a role. After a refusal the home is as it was, and the name of the
     /// variable is dropped.
     pub(crate) fn take(&mut self, key: &Key, var: Option<Name>) -> Result<Payload, CommitFault>
-        requires can { CanTake (plain self.old.bundle) self.old.history key.now.to key.now var }
+        requires can { CanTake self.old.bundle self.old.history key.now.to key.now var }
         ensures free { OnOk result (take_fault key.now self.old ≡ None) }
         ensures taken { IfOk result (λ payload. pending_at key.now
-            (network_at (plain self.old.bundle) self.old.history).pending ≡ Some (load payload)) }
+            (network_at self.old.bundle self.old.history).pending ≡ Some (load payload)) }
         ensures added { OnOk result (self.new ≡ with_entry self.old (entry.Take key.now var)) }
         ensures first { IfErr result
             (λ f. f ≢ CommitFault.Memory → take_fault key.now self.old ≡ Some f) }
@@ -81,10 +80,10 @@ impl Home {
 
     /// Takes a message, where the home has no fault for it. Its refusal is want of memory.
     fn add_take(&mut self, key: &Key, var: Option<Name>) -> Result<Payload, CommitFault>
-        requires can { CanTake (plain self.old.bundle) self.old.history key.now.to key.now var }
+        requires can { CanTake self.old.bundle self.old.history key.now.to key.now var }
         requires free { take_fault key.now self.old ≡ None }
         ensures taken { IfOk result (λ payload. pending_at key.now
-            (network_at (plain self.old.bundle) self.old.history).pending ≡ Some (load payload)) }
+            (network_at self.old.bundle self.old.history).pending ≡ Some (load payload)) }
         ensures added { OnOk result (self.new ≡ with_entry self.old (entry.Take key.now var)) }
         ensures memory { IfErr result (λ f. f ≡ CommitFault.Memory) }
         ensures err { OnErr result (self.new ≡ self.old) }
@@ -102,7 +101,7 @@ impl Home {
     /// Adds what a role did alone: it set a variable, read an input or picked a branch. After a
     /// refusal the home is as it was, and the entry is dropped.
     pub(crate) fn add(&mut self, entry: Entry) -> Result<(), CommitFault>
-        requires can { CanAdd (plain self.old.bundle) self.old.history entry }
+        requires can { CanAdd self.old.bundle self.old.history entry }
         ensures free { OnOk result (role_fault self.old ≡ None) }
         ensures added { OnOk result (self.new ≡ with_entry self.old entry) }
         ensures first { IfErr result
@@ -119,7 +118,7 @@ impl Home {
     /// Adds what a role did alone, where the home has no fault for roles. Its refusal is want of
     /// memory.
     fn add_own(&mut self, entry: Entry) -> Result<(), CommitFault>
-        requires can { CanAdd (plain self.old.bundle) self.old.history entry }
+        requires can { CanAdd self.old.bundle self.old.history entry }
         requires free { role_fault self.old ≡ None }
         ensures added { OnOk result (self.new ≡ with_entry self.old entry) }
         ensures memory { IfErr result (λ f. f ≡ CommitFault.Memory) }

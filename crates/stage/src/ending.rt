@@ -3,7 +3,6 @@
 ghost use Rattle.std.specs.Prelude.{◌≡◌, ◌<◌, true, IfSome, length, slice_set};
 ghost use Rattle.std.specs.List.{position};
 ghost use Rattle.dioc_terms.specs.Equality.{role_eq};
-ghost use Rattle.dioc_terms.specs.Plain.{plain};
 ghost use Rattle.stage.specs.Homes.{HasEnded, IsCut};
 ghost use Rattle.stage.specs.Marks.{with_finished, with_stop};
 ghost use Rattle.stage.specs.Owners.{cast_place};
@@ -15,7 +14,7 @@ use dioc_terms::Role;
 impl Home {
     /// Marks a role whose process has ended as finished. Nothing else is changed.
     pub(crate) fn finish(&mut self, role: &Role)
-        requires { HasEnded (plain self.old.bundle) self.old.history role.now }
+        requires { HasEnded self.old.bundle self.old.history role.now }
         ensures { self.new ≡ with_finished self.old role.now }
     {
         mark(self.cast.as_slice(), &mut self.finished, role);
@@ -24,8 +23,7 @@ impl Home {
     /// Keeps why the stage is stopped. Where it was stopped before, that stays. Nothing else is
     /// changed.
     pub(crate) fn stop(&mut self, why: Why)
-        requires { why ≡ Why.Limit
-            → IsCut (plain self.old.bundle) self.old.limit self.old.history }
+        requires { why ≡ Why.Limit → IsCut self.old.bundle self.old.limit self.old.history }
         ensures { self.new ≡ with_stop self.old why }
     {
         if self.stopped.is_none() {

@@ -41,26 +41,46 @@ pub struct Home {
 impl Model for Home {
     ghost use Rattle.std.specs.Prelude.{map};
     ghost use Rattle.std.specs.Coded.{codes};
-    ghost use Rattle.dioc_terms.specs.contracts.choreographies.Choreo as choreo;
-    ghost use Rattle.dioc_terms.specs.contracts.expressions.Expr as expr;
+    ghost use Rattle.dioc_terms.specs.Plain.{plain};
+    ghost use Rattle.role_network.specs.Codes.{expression_code, term_code};
     ghost use Rattle.role_network.specs.KeptParts.{due_seen};
     ghost use Rattle.stage.specs.Homes.{HomeState, IsHome};
 
     ghost Value = { HomeState };
 
-    ghost coded = { Prim.hlevel (codes, choreo.the_row.coded, expr.the_row.coded) };
+    ghost coded = { Prim.hlevel (codes, term_code, expression_code) };
 
     ghost view = { λ home. record {
-      bundle = home.of.value;
+      bundle = plain home.of.value;
       limit = home.limit;
       history = home.history.entries;
       finished = home.finished.items;
       stopped = home.stopped;
     } };
 
-    ghost invariant = { λ home. IsHome home.of.value home.limit home.history.entries home.cast
-        home.names.items home.mail home.book (map due_seen home.coming.items) home.updates
-        home.finished.items home.stopped };
+    ghost invariant = { λ home. IsHome (plain home.of.value) home.limit home.history.entries
+        home.cast home.names.items home.mail home.book (map due_seen home.coming.items)
+        home.updates home.finished.items home.stopped };
+}
+
+/// What the lock of a stage is for: its bundle, and how many entries its history may have. No value
+/// of it is made: it stands in contracts alone.
+pub struct StageBase {
+    pub(crate) of: Snapshot<Bundle>,
+    pub(crate) limit: u64,
+}
+
+impl Model for StageBase {
+    ghost use Rattle.std.specs.Coded.{codes};
+    ghost use Rattle.dioc_terms.specs.Plain.{plain};
+    ghost use Rattle.role_network.specs.Codes.{expression_code, term_code};
+    ghost use Rattle.stage.specs.Seats.{Base};
+
+    ghost Value = { Base };
+
+    ghost coded = { Prim.hlevel (codes, term_code, expression_code) };
+
+    ghost view = { λ base. (plain base.of.value, base.limit) };
 }
 
 impl Chronicle for Home {
@@ -68,7 +88,7 @@ impl Chronicle for Home {
 
     type Item = Entry;
 
-    type Base = (Bundle, u64);
+    type Base = StageBase;
 
     ghost items = { λ home. home.history };
 
@@ -123,7 +143,7 @@ impl Home {
 
     /// Whether the script's next change is due.
     fn is_due(&self) -> bool
-        ensures { result ≡ change_is_due (plain self.now.bundle) self.now.history }
+        ensures { result ≡ change_is_due self.now.bundle self.now.history }
     {
         is_first_due(&self.coming, self.history.visible_len())
     }

@@ -3,7 +3,7 @@
 ghost use Rattle.std.specs.Prelude.{◌≡◌, ◌≢◌, ◌<◌, ◌++◌, [], ◌∷◌, List, IfErr, IfOk, OnErr, OnOk, None, Some, length, slice_get};
 ghost use Rattle.dioc_terms.specs.declared.entries.Entry.TheVariants as entry;
 ghost use Rattle.dioc_terms.specs.KeptStores.{store_of};
-ghost use Rattle.dioc_terms.specs.Plain.{PlainRule, plain};
+ghost use Rattle.dioc_terms.specs.Plain.{PlainRule};
 ghost use Rattle.global_steps.specs.Follow.{updates_after};
 ghost use Rattle.rule_book.specs.KeptBooks.{book_of, IsBookOf};
 ghost use Rattle.stage.specs.Begins.{CanBegin, begin_in, scope_entry, update_in, update_of};
@@ -28,8 +28,7 @@ impl Home {
         head: &ScopeHead,
         store: &Store,
     ) -> Result<Option<(u32, u32)>, CommitFault>
-        requires can { CanBegin (plain self.old.bundle) self.old.history head.now
-            (store_of store.now) }
+        requires can { CanBegin self.old.bundle self.old.history head.now (store_of store.now) }
         ensures free { OnOk result (role_fault self.old ≡ None) }
         ensures chosen { IfOk result
             (λ update. update ≡ update_in self.old head.now (store_of store.now)) }
@@ -51,8 +50,7 @@ impl Home {
         head: &ScopeHead,
         store: &Store,
     ) -> Result<Option<(u32, u32)>, CommitFault>
-        requires can { CanBegin (plain self.old.bundle) self.old.history head.now
-            (store_of store.now) }
+        requires can { CanBegin self.old.bundle self.old.history head.now (store_of store.now) }
         requires free { role_fault self.old ≡ None }
         ensures chosen { IfOk result
             (λ update. update ≡ update_in self.old head.now (store_of store.now)) }

@@ -20,7 +20,7 @@ impl Home {
     pub(crate) fn start(alloc: Global, bundle: &Bundle, limit: u64) -> Result<Home, Memory>
         requires sound { IsSound (plain bundle.now) }
         requires small { limit ≤ 4294967295 }
-        ensures { IfOk result (λ home. home ≡ opening_home bundle.now limit) }
+        ensures { IfOk result (λ home. home ≡ opening_home (plain bundle.now) limit) }
     {
         let cast = bundle.cast.copy(alloc)?;
         let finished = no_marks(alloc, bundle.cast.as_slice())?;

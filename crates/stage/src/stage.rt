@@ -8,7 +8,7 @@ ghost use Rattle.marked_laws.specs.Laws.{IsSound};
 ghost use Rattle.process_steps.specs.Steps.{Alone, Got, Puts, Takes};
 ghost use Rattle.stage.specs.Faults.{role_fault, take_fault};
 ghost use Rattle.stage.specs.Homes.{IsSoundHome};
-ghost use Rattle.stage.specs.Roles.{is_input, is_pick, is_set};
+ghost use Rattle.stage.specs.Roles.{is_input, is_pick, is_assignment};
 ghost use Rattle.stage.specs.Seats.{CanCommit, CanCommitOwn, CanReceive, Committed, CommittedOwn, IsClosed, RefusedFor, StillStands, opening_views};
 ghost use Rattle.turn_lock.specs.Items.{BeginsWith};
 ghost use Rattle.turn_lock.specs.Views.{entered};
@@ -49,7 +49,7 @@ impl Stage {
         requires small { limit ≤ 4294967295 }
         ensures of { IfOk result (λ made. All (λ s. IsSeatIn made.0 s) made.1.items) }
         ensures views { IfOk result (λ made. map view made.1.items
-            ≡ opening_views (bundle.now, limit) (length bundle.now.cast)) }
+            ≡ opening_views (plain bundle.now, limit) (length bundle.now.cast)) }
     {
         let home = Home::start(alloc, bundle, limit)?;
         let Ok((turns, first)) = Turns::new(alloc, home) else {
@@ -150,7 +150,7 @@ impl Stage {
         entry: Entry,
     ) -> (Seat<Home>, Result<(), CommitFault>)
         requires of { IsSeatIn self.now seat }
-        requires set { is_set entry ≡ true }
+        requires set { is_assignment entry ≡ true }
         requires can { CanCommitOwn (view seat) entry }
         ensures of { IsSeatIn self.now result.0 }
         ensures done { IfOk result.1

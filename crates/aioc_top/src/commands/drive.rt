@@ -3,7 +3,7 @@
 ghost use Rattle.std.specs.Prelude.{◌≡◌, ◌≤◌, IfOk, OnOk, length};
 ghost use Rattle.dioc_terms.specs.Messages.{visible};
 ghost use Rattle.dioc_terms.specs.Plain.{plain};
-ghost use Rattle.role_network.specs.Nets.{IsSoundRun, bundle_of};
+ghost use Rattle.role_network.specs.Nets.{IsSoundRun};
 ghost use Rattle.rule_checks.specs.Refusals.{IsAccepted};
 ghost use Rattle.command_words.specs.Commands.{most_steps};
 ghost use Rattle.command_words.specs.declared.commands.Verb.{Verb};
@@ -66,10 +66,10 @@ fn say_driven(
     net: &Net<FlatRole>,
 ) -> Result<Written, Memory>
     requires run { IsSoundRun net.now }
-    requires last { (bundle_of net.now).trace.last ≡ last.now }
-    requires entries { (bundle_of net.now).trace.entries ≡ entries.now }
+    requires last { net.now.bundle.trace.last ≡ last.now }
+    requires entries { net.now.bundle.trace.entries ≡ entries.now }
     ensures { IfOk result (λ written. reply_of written
-        ≡ driven_reply (bundle_of net.now) net.now.history) }
+        ≡ driven_reply net.now.bundle net.now.history) }
 {
     let is_over = net.is_ended();
     if is_cut_short(last, is_over) {

@@ -7,7 +7,7 @@ use Rattle.dpoc_process.specs.Acting.{acting}
 use Rattle.flat_code.specs.Places.{processes}
 use Rattle.flat_role.proofs.FrameLemmas.{acts_left, acts_right}
 use Rattle.flat_role.specs.declared.frames.Frame.{the_lemmas}
-use Rattle.flat_role.specs.Frames.{frame_process, is_open, is_placed, marked}
+use Rattle.flat_role.specs.Frames.{frame_process, is_open, is_placed, marked_over}
 use Rattle.flat_role.proofs.changes.+replace.Goals as goal
 
 pub replace-requires-then-acts_in : goal.replace-requires-then-acts_in
@@ -25,7 +25,7 @@ replace-requires-then-acts_in t c =
     let left = acts_left done me a c.in-Par.left_over F
     (and_parts (c.in-Par.left_over || is_open done F) (c.in-Par.right_over || is_open done G)
     opened).0
-    (ap (λ X. is_some (acting me a (marked c.in-Par.left_over (frame_process done X))))
+    (ap (λ X. is_some (acting me a (marked_over c.in-Par.left_over (frame_process done X))))
     (sym c.deref-in-Par.ensures) ∙ acts) in (
       search (rules, the_lemmas),
       (
@@ -52,9 +52,9 @@ replace-requires-in-Par t c =
     let opened = rw c.in-Par.is at c.requires.opened in
     let acts = rw c.in-Par.is at c.requires.acts in
     let is = c.deref_mut-in-Par.ensures.value in
-    let none = ap (λ X. is_some (acting me a (marked c.in-Par.left_over (frame_process done X))))
+    let none = ap (λ X. is_some (acting me a (marked_over c.in-Par.left_over (frame_process done X))))
     (sym c.deref-in-Par.ensures) ∙ sym c.acts_in.ensures ∙ c.if-acts_in.false in
-    let right = acts_right done me a (marked c.in-Par.left_over (frame_process done F))
+    let right = acts_right done me a (marked_over c.in-Par.left_over (frame_process done F))
     c.in-Par.right_over G
     (and_parts (c.in-Par.left_over || is_open done F) (c.in-Par.right_over || is_open done G)
     opened).1 none acts in (

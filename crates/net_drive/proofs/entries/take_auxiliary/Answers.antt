@@ -7,7 +7,7 @@ use Rattle.net_core.specs.Schedule.{move_step}
 use Rattle.net_drive.specs.Driven.{first_auxiliary}
 use Rattle.net_drive.specs.Making.{Makes}
 use Rattle.net_drive.proofs.Trying.{first_of_agenda}
-use Rattle.role_network.specs.Nets.{bundle_of, network_of}
+use Rattle.role_network.specs.Nets.{network_of}
 use Rattle.schedule.specs.Agendas.{ready_seen}
 use Rattle.net_drive.proofs.entries.take_auxiliary.Goals as goal
 
@@ -15,7 +15,7 @@ pub returns-in-None-clause-makes : goal.returns-in-None-clause-makes
 returns-in-None-clause-makes g c =
     let old = c.args.net.now in (
       first_of_agenda old (map ready_seen c.args.agenda.now) c.requires.agenda
-          ∙ ap (option_and_then (move_step (setting (bundle_of old)) (network_of old))) (sym c.in_ok-next.ensures ∙ c.in-None.is),
+          ∙ ap (option_and_then (move_step (setting old.bundle) (network_of old))) (sym c.in_ok-next.ensures ∙ c.in-None.is),
       refl,
     )
 
@@ -23,7 +23,7 @@ pub returns-in-Some-clause-makes : goal.returns-in-Some-clause-makes
 returns-in-Some-clause-makes g c =
     let old = c.args.net.now in
     let new = c.make_on.new.net in
-    let first : first_auxiliary (setting (bundle_of old)) (network_of old) ≡ move_step (setting (bundle_of old)) (network_of old) c.in-Some.next =
+    let first : first_auxiliary (setting old.bundle) (network_of old) ≡ move_step (setting old.bundle) (network_of old) c.in-Some.next =
     first_of_agenda old (map ready_seen c.args.agenda.now) c.requires.agenda
-    ∙ ap (option_and_then (move_step (setting (bundle_of old)) (network_of old))) (sym c.in_ok-next.ensures ∙ c.in-Some.is) in
+    ∙ ap (option_and_then (move_step (setting old.bundle) (network_of old))) (sym c.in_ok-next.ensures ∙ c.in-Some.is) in
     subst (λ (o : Option NextNetwork). IfOk c.make_on.result (Makes o old new)) (sym first) c.make_on.ensures.makes

@@ -10,7 +10,7 @@ use Rattle.net_drive.specs.Driving.{HasCome, IsTried}
 use Rattle.net_drive.specs.Making.{Makes}
 use Rattle.net_drive.proofs.OnTheWay.{few_made, has_room}
 use Rattle.net_drive.proofs.Trying.{turn_stuck, turn_waits}
-use Rattle.role_network.specs.Nets.{NetState, bundle_of, network_of}
+use Rattle.role_network.specs.Nets.{NetState, network_of}
 use Rattle.schedule.proofs.AgendaLemmas.{stale_after}
 use Rattle.schedule.specs.Agendas.{ready_seen}
 use Rattle.schedule.specs.Turns.{IsMoveOf}
@@ -63,7 +63,7 @@ returns-then-branch-clause-turn g c =
     let new = c.take_auxiliary.new.net in
     let waits : IsTried old c.args.entry.now between tried.Waits = subst (IsTried old c.args.entry.now between) c.in-Waits.is c.in_ok-try_entry.ensures in
     turn_waits known c.known.ensures.offered old c.requires.run c.args.entry.now between new waits
-    (subst (Makes (first_auxiliary (setting (bundle_of between)) (network_of between)) between new) c.if-branch.true c.in_ok-take_auxiliary-in-Waits.ensures.makes)
+    (subst (Makes (first_auxiliary (setting between.bundle) (network_of between)) between new) c.if-branch.true c.in_ok-take_auxiliary-in-Waits.ensures.makes)
 
 pub returns-else-branch-clause-turn : goal.returns-else-branch-clause-turn
 returns-else-branch-clause-turn g c =
@@ -79,4 +79,4 @@ returns-else-branch-clause-turn g c =
     let new = c.take_auxiliary.new.net in
     let waits : IsTried old c.args.entry.now between tried.Waits = subst (IsTried old c.args.entry.now between) c.in-Waits.is c.in_ok-try_entry.ensures in
     turn_stuck known c.known.ensures.offered old c.requires.run c.args.entry.now between new waits
-    (subst (Makes (first_auxiliary (setting (bundle_of between)) (network_of between)) between new) c.if-branch.false c.in_ok-take_auxiliary-in-Waits.ensures.makes)
+    (subst (Makes (first_auxiliary (setting between.bundle) (network_of between)) between new) c.if-branch.false c.in_ok-take_auxiliary-in-Waits.ensures.makes)

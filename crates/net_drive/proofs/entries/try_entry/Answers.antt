@@ -10,7 +10,7 @@ use Rattle.net_drive.specs.declared.entries.Tried.{Tried}
 use Rattle.net_drive.specs.Driving.{IsTried, judged}
 use Rattle.net_drive.specs.Making.{Makes, shown_move}
 use Rattle.net_drive.proofs.Trying.{tried_by}
-use Rattle.role_network.specs.Nets.{bundle_of, network_of}
+use Rattle.role_network.specs.Nets.{network_of}
 use Rattle.net_drive.proofs.entries.try_entry.Goals as goal
 
 pub returns : goal.returns
@@ -27,8 +27,8 @@ returns g c =
     let e = c.args.entry.now in
     let made = c.in_ok-is_made.is_made in
     let noted = c.is_noted-is_noted.result in
-    let does : Makes (move_step (setting (bundle_of old)) (network_of old) (shown_move e)) old new made =
-    subst (λ (m : Move). Makes (move_step (setting (bundle_of old)) (network_of old) m) old new made) c.requires.next c.in_ok-is_made.ensures.makes in
+    let does : Makes (move_step (setting old.bundle) (network_of old) (shown_move e)) old new made =
+    subst (λ (m : Move). Makes (move_step (setting old.bundle) (network_of old) m) old new made) c.requires.next c.in_ok-is_made.ensures.makes in
     let stands = c.is_noted-is_noted.ensures
     ∙ (λ j. option_map_or (entry_eq e) (slice_get (c.history-2.ensures.entries j) (c.len-place.ensures j)) false)
     ∙ ap (λ entries. option_map_or (entry_eq e) (slice_get new.history (length entries)) false) c.history.ensures.entries in

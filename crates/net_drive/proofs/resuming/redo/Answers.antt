@@ -1,12 +1,7 @@
 -- An entry that wasn't done again is the first stray.
-use Rattle.std.proofs.Common.{◌≡◌, ◌≤◌, ◌+◌, ℕ, suc, List, ◌∷◌, ◌++◌, Some, None, drop, length, refl, sym, ap, ◌∙◌, subst, arith}
+use Rattle.std.proofs.Common.{◌≡◌, ◌≤◌, ◌+◌, suc, ◌∷◌, ◌++◌, drop, length, sym, ap, ◌∙◌, subst, arith}
 use Rattle.std.proofs.Math.Seq.{drop-cons}
-use Rattle.dioc_terms.specs.declared.entries.Entry.{Entry}
-use Rattle.dioc_terms.specs.Plain.{setting}
-use Rattle.marked_laws.specs.Network.{network_run, network_step}
-use Rattle.role_network.specs.Nets.{NetState, bundle_of, network_of}
 use Rattle.net_drive.specs.Redoing.{Redoes}
-use Rattle.net_drive.specs.Resumed.{IsFirstStray}
 use Rattle.net_drive.proofs.Redone.{redone_stray}
 use Rattle.net_drive.proofs.resuming.redo.Goals as goal
 

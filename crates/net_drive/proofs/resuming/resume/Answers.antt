@@ -1,5 +1,5 @@
 -- The net that is resumed is that of the bundle; the number of a stray is counted.
-use Rattle.std.proofs.Common.{◌≡◌, subst}
+use Rattle.std.proofs.Common.{subst}
 use Rattle.dioc_terms.specs.Plain.{plain}
 use Rattle.net_drive.specs.Redoing.{IsRedone}
 use Rattle.net_drive.proofs.Redone.{counted_for}
@@ -13,4 +13,4 @@ pub returns-in-Ok-Stray-clause-counted : goal.returns-in-Ok-Stray-clause-counted
 returns-in-Ok-Stray-clause-counted g c =
     let far : IsRedone c.in-Ok.net c.args.entries.now c.redo.new.net (redone.Stray c.in-Ok-Stray.number) =
     subst (IsRedone c.in-Ok.net c.args.entries.now c.redo.new.net) c.in-Ok-Stray.field-0-is c.in-Ok-Stray.ensures.redone in
-    counted_for c.in-Ok.net c.args.bundle.now c.args.entries.now c.args.limit c.redo.new.net c.in-Ok-Stray.number c.in-Ok.ensures.bundle c.in-Ok.ensures.limit far
+    counted_for c.in-Ok.net (plain c.args.bundle.now) c.args.entries.now c.args.limit c.redo.new.net c.in-Ok-Stray.number c.in-Ok.ensures.bundle c.in-Ok.ensures.limit far

@@ -1,7 +1,6 @@
 -- The net is driven through the entries, one by one; where it is stuck the entry is the first stray.
 use Rattle.std.proofs.Common.{◌≡◌, ◌≤◌, ◌+◌, suc, [], ◌∷◌, ◌++◌, length, take, drop, true, refl, sym, ap, ◌∙◌, subst, arith, append-nil}
 use Rattle.std.proofs.lemmas.List.{drop_all, length-take-le, take_all}
-use Rattle.dioc_terms.specs.Plain.{plain}
 use Rattle.marked_laws.specs.Laws.{IsSound}
 use Rattle.marked_laws.proofs.Premise.{Known}
 use Rattle.net_drive.specs.Driving.{DrivesOn, IsStuckAt, Reaches, Settles}
@@ -9,7 +8,6 @@ use Rattle.net_drive.specs.Strays.{IsDriveStray}
 use Rattle.net_drive.proofs.DriveStrays.{stuck_stray}
 use Rattle.net_drive.proofs.Exactness.{same_traces, strays_are_exact}
 use Rattle.net_drive.proofs.OnTheWay.{entry_more, entry_shown, join, part_left, room_on, shown_so_far, stay, way_whole, whole_driven}
-use Rattle.role_network.specs.Nets.{bundle_of}
 use Rattle.net_drive.proofs.traces.drive_entries.Goals as goal
 
 pub loop-entry-init : goal.loop-entry-init
@@ -41,9 +39,9 @@ returns-then-not-branch-clause-driven g c =
     ap (λ rest. take i trace ++ rest) (sym (part_left trace i e c.loop-entry-test.true c.entry-item.is)) ∙ way_whole i trace in
     let number : suc (length (take i trace)) ≡ c.loop-entry.number + 1 =
     omega (arith, length-take-le i trace (omega (arith, c.loop-entry-test.true)), so_far.number) in
-    subst (IsDriveStray (bundle_of start) trace) number
+    subst (IsDriveStray start.bundle trace) number
     (stuck_stray (same_traces known k.offered k.readiness k.auxiliary k.simulation k.settlement) (strays_are_exact known k.offered k.readiness k.auxiliary)
-    start net (take i trace) (drop (i + 1) trace) e trace (subst (λ b. IsSound (plain b)) so_far.way.bundle c.has_run.ensures.sound) so_far.way.bundle
+    start net (take i trace) (drop (i + 1) trace) e trace (subst IsSound so_far.way.bundle c.has_run.ensures.sound) so_far.way.bundle
     (shown_so_far start net (take i trace) (drop i trace) so_far.way c.requires.fresh) stuck splits)
 
 pub loop-entry-preserved : goal.loop-entry-preserved

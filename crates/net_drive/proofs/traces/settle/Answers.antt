@@ -7,7 +7,7 @@ use Rattle.net_drive.specs.Driving.{DrivesOn, Settles}
 use Rattle.net_drive.specs.Making.{Makes}
 use Rattle.net_drive.proofs.OnTheWay.{few_made, has_room, join, lessens, room_stays, stay}
 use Rattle.net_drive.proofs.Trying.{longer, turn_on}
-use Rattle.role_network.specs.Nets.{bundle_of, network_of}
+use Rattle.role_network.specs.Nets.{network_of}
 use Rattle.net_drive.proofs.traces.settle.Goals as goal
 
 pub turns-init : goal.turns-init
@@ -23,8 +23,8 @@ pub returns-then-not-branch : goal.returns-then-not-branch
 returns-then-not-branch g c =
     let net = c.turns.net in
     let new = c.take_auxiliary.new.net in
-    let rests : Makes (first_auxiliary (setting (bundle_of net)) (network_of net)) net new false =
-    subst (Makes (first_auxiliary (setting (bundle_of net)) (network_of net)) net new) c.if-not-branch.true c.in_ok-take_auxiliary.ensures.makes in
+    let rests : Makes (first_auxiliary (setting net.bundle) (network_of net)) net new false =
+    subst (Makes (first_auxiliary (setting net.bundle) (network_of net)) net new) c.if-not-branch.true c.in_ok-take_auxiliary.ensures.makes in
     subst (Settles c.args.net.now) (sym rests.1) (record { drives = c.turns.invariant.way; rests = rests.0 })
 
 pub turns-preserved : goal.turns-preserved
@@ -33,8 +33,8 @@ turns-preserved g c =
     let known : Known = record { mentions = k.mentions; casts = k.casts; bodies = k.bodies; ends = k.ends; stamps = k.stamps } in
     let net = c.turns.net in
     let new = c.take_auxiliary.new.net in
-    let made : Makes (first_auxiliary (setting (bundle_of net)) (network_of net)) net new true =
-    subst (Makes (first_auxiliary (setting (bundle_of net)) (network_of net)) net new) c.if-not-branch.false c.in_ok-take_auxiliary.ensures.makes in
+    let made : Makes (first_auxiliary (setting net.bundle) (network_of net)) net new true =
+    subst (Makes (first_auxiliary (setting net.bundle) (network_of net)) net new) c.if-not-branch.false c.in_ok-take_auxiliary.ensures.makes in
     let on : DrivesOn net new [] [] = turn_on known k.offered net c.has_run.ensures new made in
     record {
       way = join c.args.net.now net new [] [] [] c.turns.invariant.way on;
@@ -46,6 +46,6 @@ pub turns-smaller : goal.turns-smaller
 turns-smaller g c =
     let net = c.turns.net in
     let new = c.take_auxiliary.new.net in
-    let made : Makes (first_auxiliary (setting (bundle_of net)) (network_of net)) net new true =
-    subst (Makes (first_auxiliary (setting (bundle_of net)) (network_of net)) net new) c.if-not-branch.false c.in_ok-take_auxiliary.ensures.makes in
+    let made : Makes (first_auxiliary (setting net.bundle) (network_of net)) net new true =
+    subst (Makes (first_auxiliary (setting net.bundle) (network_of net)) net new) c.if-not-branch.false c.in_ok-take_auxiliary.ensures.makes in
     lessens net new (made.2).limit (longer net new made.0 made.2) (has_room c.known.ensures.auxiliary net c.has_run.ensures c.turns.invariant.room)

@@ -18,8 +18,8 @@ use Rattle.rule_book.specs.KeptBooks.{book_of}
 use Rattle.scope_leader.specs.Plans.{part_of}
 use Rattle.role_network.proofs.scopes.begin_scope.Goals as goal
 
-pub head_of-head-requires : goal.head_of-head-requires
-head_of-head-requires g c =
+pub into_head-head-requires : goal.into_head-head-requires
+into_head-head-requires g c =
     let lead = lead_there (g.R.Runs.local c.args.state.now) c.args.act.now c.requires.scope c.requires.shown.can_act in
     subst (λ (o : Option ScopeHead). IsSome o) (sym (c.requires.shown.head ∙ ap (option_map lead_head) lead.1)) refl
 
@@ -30,7 +30,7 @@ keep_scope-requires-clause-can g c =
 pub keep_scope-requires-clause-led : goal.keep_scope-requires-clause-led
 keep_scope-requires-clause-led g c =
     let lead = lead_there (g.R.Runs.local c.args.state.now) c.args.act.now c.requires.scope c.requires.shown.can_act in
-    (lead.0, lead.1, some_same (sym (c.requires.shown.head ∙ ap (option_map lead_head) lead.1) ∙ c.head_of-head.ensures))
+    (lead.0, lead.1, some_same (sym (c.requires.shown.head ∙ ap (option_map lead_head) lead.1) ∙ c.into_head-head.ensures))
 
 pub replace_scope-requires-clause-can : goal.replace_scope-requires-clause-can
 replace_scope-requires-clause-can g c =
@@ -39,19 +39,19 @@ replace_scope-requires-clause-can g c =
 pub replace_scope-requires-clause-led : goal.replace_scope-requires-clause-led
 replace_scope-requires-clause-led g c =
     let lead = lead_there (g.R.Runs.local c.args.state.now) c.args.act.now c.requires.scope c.requires.shown.can_act in
-    (lead.0, lead.1, some_same (sym (c.requires.shown.head ∙ ap (option_map lead_head) lead.1) ∙ c.head_of-head.ensures))
+    (lead.0, lead.1, some_same (sym (c.requires.shown.head ∙ ap (option_map lead_head) lead.1) ∙ c.into_head-head.ensures))
 
 pub replace_scope-requires-clause-level : goal.replace_scope-requires-clause-level
 replace_scope-requires-clause-level g c =
     let known = c.requires.known in
-    (answer_of known.rules (book_of c.args.book.now) c.head_of-head.result (store_of c.store.result.now) c.choices_go_on.ensures (body_seen c.in-Some.rule.now)
+    (answer_of known.rules (book_of c.args.book.now) c.into_head-head.result (store_of c.store.result.now) c.choices_go_on.ensures (body_seen c.in-Some.rule.now)
     (ap (λ o. choice_of_body (option_map body_seen (option_copied o))) (sym c.in-Some.is) ∙ c.choice.ensures known.rules known.of known.same)).level
 
 pub replace_scope-requires-clause-body : goal.replace_scope-requires-clause-body
 replace_scope-requires-clause-body g c =
     let known = c.requires.known in
-    body_in_cast c.mentions_are_roles.ensures c.args.cast.now known.rules c.head_of-head.result (body_seen c.in-Some.rule.now) known.sound
-    (answer_of known.rules (book_of c.args.book.now) c.head_of-head.result (store_of c.store.result.now) c.choices_go_on.ensures (body_seen c.in-Some.rule.now)
+    body_in_cast c.mentions_are_roles.ensures c.args.cast.now known.rules c.into_head-head.result (body_seen c.in-Some.rule.now) known.sound
+    (answer_of known.rules (book_of c.args.book.now) c.into_head-head.result (store_of c.store.result.now) c.choices_go_on.ensures (body_seen c.in-Some.rule.now)
     (ap (λ o. choice_of_body (option_map body_seen (option_copied o))) (sym c.in-Some.is) ∙ c.choice.ensures known.rules known.of known.same))
 
 pub returns-in-None-clause-did : goal.returns-in-None-clause-did
@@ -60,9 +60,9 @@ returns-in-None-clause-did g c = λ rules mail of same.
     let a = c.args.act.now in
     let n = c.args.updates.now in
     let book = book_of c.args.book.now in
-    let head = c.head_of-head.result in
+    let head = c.into_head-head.result in
     let lead = lead_there s a c.requires.scope c.requires.shown.can_act in
-    let heads = some_same (sym (c.requires.shown.head ∙ ap (option_map lead_head) lead.1) ∙ c.head_of-head.ensures) in
+    let heads = some_same (sym (c.requires.shown.head ∙ ap (option_map lead_head) lead.1) ∙ c.into_head-head.ensures) in
     let decide : ScopeHead → Decision = λ h. decision c.args.cast.now n h (book_choice rules book h s.store) in
     let decided : decide head ≡ Keeps =
     ap (λ (t : Store). decision c.args.cast.now n head (book_choice rules book head t)) (sym c.store.ensures)
@@ -78,10 +78,10 @@ returns-in-Ok-clause-did g c = λ rules mail of same.
     let a = c.args.act.now in
     let n = c.args.updates.now in
     let book = book_of c.args.book.now in
-    let head = c.head_of-head.result in
+    let head = c.into_head-head.result in
     let rule = c.in-Some.rule.now in
     let lead = lead_there s a c.requires.scope c.requires.shown.can_act in
-    let heads = some_same (sym (c.requires.shown.head ∙ ap (option_map lead_head) lead.1) ∙ c.head_of-head.ensures) in
+    let heads = some_same (sym (c.requires.shown.head ∙ ap (option_map lead_head) lead.1) ∙ c.into_head-head.ensures) in
     let decide : ScopeHead → Decision = λ h. decision c.args.cast.now n h (book_choice rules book h s.store) in
     let what = Replaces rule.name (suc n) (part_of c.args.cast.now head (suc n) (term rule.body)) in
     let decided : decide head ≡ Replaces rule.name (suc n) (part_of c.args.cast.now head (suc n) (term rule.body)) =

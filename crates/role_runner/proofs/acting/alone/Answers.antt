@@ -1,5 +1,6 @@
 -- What a role does alone, prepared, committed and done.
 use Rattle.std.proofs.Common.{refl}
+use Rattle.dioc_terms.specs.Plain.{plain}
 use Rattle.flat_role.specs.FlatStates.{local_of}
 use Rattle.role_runner.proofs.ActLemmas.{alone_can, alone_entry, alone_leaves}
 use Rattle.process_steps.specs.Steps.{Alone}
@@ -12,24 +13,24 @@ use Rattle.role_runner.proofs.acting.alone.Goals as goal
 
 pub shown-entry-requires : goal.shown-entry-requires
 shown-entry-requires g c =
-    alone_entry c.known.ensures c.offers_are_steps.ensures c.steps_show_their_acts.ensures c.args.bundle.now c.requires.sound c.args.role.now (view c.args.seat) (local_of c.args.state.now) c.requires.tied
+    alone_entry c.known.ensures c.offers_are_steps.ensures c.steps_show_their_acts.ensures (plain c.args.bundle.now) c.requires.sound c.args.role.now (view c.args.seat) (local_of c.args.state.now) c.requires.tied
     c.args.act.now c.args.prepared c.requires.shown c.requires.alone
 
 pub commit_alone-seat-requires-clause-shows : goal.commit_alone-seat-requires-clause-shows
 commit_alone-seat-requires-clause-shows g c =
-    (alone_can c.known.ensures c.offers_are_steps.ensures c.steps_show_their_acts.ensures c.args.bundle.now c.requires.sound c.args.role.now (view c.args.seat) (local_of c.args.state.now) c.requires.tied
+    (alone_can c.known.ensures c.offers_are_steps.ensures c.steps_show_their_acts.ensures (plain c.args.bundle.now) c.requires.sound c.args.role.now (view c.args.seat) (local_of c.args.state.now) c.requires.tied
     c.args.act.now c.args.prepared c.requires.shown c.requires.alone c.shown-entry.result c.shown-entry.ensures).0
 
 pub commit_alone-seat-requires-clause-can : goal.commit_alone-seat-requires-clause-can
 commit_alone-seat-requires-clause-can g c =
-    (alone_can c.known.ensures c.offers_are_steps.ensures c.steps_show_their_acts.ensures c.args.bundle.now c.requires.sound c.args.role.now (view c.args.seat) (local_of c.args.state.now) c.requires.tied
+    (alone_can c.known.ensures c.offers_are_steps.ensures c.steps_show_their_acts.ensures (plain c.args.bundle.now) c.requires.sound c.args.role.now (view c.args.seat) (local_of c.args.state.now) c.requires.tied
     c.args.act.now c.args.prepared c.requires.shown c.requires.alone c.shown-entry.result c.shown-entry.ensures).1
 
 pub returns-in-Ok-clause-leaves : goal.returns-in-Ok-clause-leaves
 returns-in-Ok-clause-leaves g c =
     let v = view c.args.seat in
     let w = view c.commit_alone-seat.result.0 in
-    alone_leaves c.known.ensures c.offers_are_steps.ensures c.steps_show_their_acts.ensures c.args.bundle.now c.requires.sound c.args.role.now (view c.args.seat) (local_of c.args.state.now) c.requires.tied
+    alone_leaves c.known.ensures c.offers_are_steps.ensures c.steps_show_their_acts.ensures (plain c.args.bundle.now) c.requires.sound c.args.role.now (view c.args.seat) (local_of c.args.state.now) c.requires.tied
     c.args.act.now c.args.prepared c.requires.shown c.requires.alone c.shown-entry.result c.shown-entry.ensures w
     (if_ok_at (λ _. CommittedOwn role_fault v w c.shown-entry.result) c.commit_alone-seat.result.1 tt c.commit_alone-seat.ensures.done c.in-Ok.is)
     (local_of c.advance.new.self) (c.advance.ensures.steps Alone refl)
@@ -37,6 +38,6 @@ returns-in-Ok-clause-leaves g c =
 pub returns-in-Err-clause-leaves : goal.returns-in-Err-clause-leaves
 returns-in-Err-clause-leaves g c =
     let w = view c.commit_alone-seat.result.0 in
-    refused_leaves c.args.bundle.now c.args.role.now (view c.args.seat) (local_of c.args.state.now) c.requires.tied role_fault w c.in-Err.fault
+    refused_leaves (plain c.args.bundle.now) c.args.role.now (view c.args.seat) (local_of c.args.state.now) c.requires.tied role_fault w c.in-Err.fault
     (goes_on c.offers_are_steps.ensures (local_of c.args.state.now) c.args.act.now c.requires.shown.can_act) role_full
     (if_err_at (RefusedFor role_fault (view c.args.seat) w) c.commit_alone-seat.result.1 c.in-Err.fault c.commit_alone-seat.ensures.refused c.in-Err.is)

@@ -1,5 +1,6 @@
 -- The take that was prepared, committed and done.
 use Rattle.std.proofs.Common.{◌≡◌, refl, sym, subst}
+use Rattle.dioc_terms.specs.Plain.{plain}
 use Rattle.dioc_terms.specs.declared.entries.Act.TheVariants as act
 use Rattle.dioc_terms.specs.Processes.{load}
 use Rattle.dpoc_process.specs.Handed.{IsEnabled, Message}
@@ -27,7 +28,7 @@ commit_take-seat-requires-clause-can g c =
     let key = c.taken-key.result.0 in
     let is : c.args.act.now ≡ act.Take key =
     take_key c.offers_are_steps.ensures c.steps_show_their_acts.ensures s c.args.act.now c.args.prepared c.requires.shown c.requires.take.0 c.requires.take.1 key c.taken-key.result.1 c.taken-key.ensures in
-    take_can c.known.ensures c.offers_are_steps.ensures c.steps_show_their_acts.ensures c.args.bundle.now c.requires.sound c.args.role.now (view c.args.seat) (local_of c.args.state.now) c.requires.tied key c.args.prepared
+    take_can c.known.ensures c.offers_are_steps.ensures c.steps_show_their_acts.ensures (plain c.args.bundle.now) c.requires.sound c.args.role.now (view c.args.seat) (local_of c.args.state.now) c.requires.tied key c.args.prepared
     (subst (λ a. IsPrepared s a c.args.prepared) is c.requires.shown) c.taken-key.result.1 c.taken-key.ensures
 
 pub advance-requires-clause-can : goal.advance-requires-clause-can
@@ -40,7 +41,7 @@ advance-requires-clause-can g c =
     let is : c.args.act.now ≡ act.Take key =
     take_key c.offers_are_steps.ensures c.steps_show_their_acts.ensures s c.args.act.now c.args.prepared c.requires.shown c.requires.take.0 c.requires.take.1 key c.taken-key.result.1 c.taken-key.ensures in
     subst (λ a. IsEnabled s a (Message l)) (sym is)
-    (take_enabled c.known.ensures c.offers_are_steps.ensures c.steps_show_their_acts.ensures c.args.bundle.now c.requires.sound c.args.role.now (view c.args.seat) (local_of c.args.state.now) c.requires.tied key c.args.prepared
+    (take_enabled c.known.ensures c.offers_are_steps.ensures c.steps_show_their_acts.ensures (plain c.args.bundle.now) c.requires.sound c.args.role.now (view c.args.seat) (local_of c.args.state.now) c.requires.tied key c.args.prepared
     (subst (λ a. IsPrepared s a c.args.prepared) is c.requires.shown) (take_fault key) w l c.taken-key.result.1
     (if_ok_at (λ payload. Committed (take_fault key) v w key.to (act.Take key) (Got (load payload)) (Takes key c.taken-key.result.1 (load payload))) c.commit_take-seat.result.1 c.in-Ok.payload
     c.commit_take-seat.ensures.done c.in-Ok.is))
@@ -54,7 +55,7 @@ returns-in-Ok-clause-leaves g c =
     let l = load c.in-Ok.payload in
     let is : c.args.act.now ≡ act.Take key =
     take_key c.offers_are_steps.ensures c.steps_show_their_acts.ensures s c.args.act.now c.args.prepared c.requires.shown c.requires.take.0 c.requires.take.1 key c.taken-key.result.1 c.taken-key.ensures in
-    take_leaves c.known.ensures c.offers_are_steps.ensures c.steps_show_their_acts.ensures c.args.bundle.now c.requires.sound c.args.role.now (view c.args.seat) (local_of c.args.state.now) c.requires.tied key c.args.prepared
+    take_leaves c.known.ensures c.offers_are_steps.ensures c.steps_show_their_acts.ensures (plain c.args.bundle.now) c.requires.sound c.args.role.now (view c.args.seat) (local_of c.args.state.now) c.requires.tied key c.args.prepared
     (subst (λ a. IsPrepared s a c.args.prepared) is c.requires.shown) (take_fault key) w l c.taken-key.result.1
     (if_ok_at (λ payload. Committed (take_fault key) v w key.to (act.Take key) (Got (load payload)) (Takes key c.taken-key.result.1 (load payload))) c.commit_take-seat.result.1 c.in-Ok.payload
     c.commit_take-seat.ensures.done c.in-Ok.is)
@@ -64,6 +65,6 @@ pub returns-in-Err-clause-leaves : goal.returns-in-Err-clause-leaves
 returns-in-Err-clause-leaves g c =
     let key = c.taken-key.result.0 in
     let w = view c.commit_take-seat.result.0 in
-    refused_leaves c.args.bundle.now c.args.role.now (view c.args.seat) (local_of c.args.state.now) c.requires.tied (take_fault key) w c.in-Err.fault
+    refused_leaves (plain c.args.bundle.now) c.args.role.now (view c.args.seat) (local_of c.args.state.now) c.requires.tied (take_fault key) w c.in-Err.fault
     (goes_on c.offers_are_steps.ensures (local_of c.args.state.now) c.args.act.now c.requires.shown.can_act) (take_full key)
     (if_err_at (RefusedFor (take_fault key) (view c.args.seat) w) c.commit_take-seat.result.1 c.in-Err.fault c.commit_take-seat.ensures.refused c.in-Err.is)

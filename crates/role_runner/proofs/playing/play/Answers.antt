@@ -1,6 +1,7 @@
 -- A role begins where the network begins, and is tied to a seat that has seen nothing.
 use Rattle.std.proofs.Common.{◌≡◌, true, sym, ◌∙◌, subst}
 use Rattle.dioc_terms.specs.Equality.{member}
+use Rattle.dioc_terms.specs.Plain.{plain}
 use Rattle.dioc_terms.specs.Terms.{term}
 use Rattle.flat_role.specs.FlatStates.{local_of}
 use Rattle.role_runner.proofs.TieLemmas.{opening_tied}
@@ -13,4 +14,4 @@ opening_state-requires g c = λ q is.
 
 pub play_on-requires-clause-tied : goal.play_on-requires-clause-tied
 play_on-requires-clause-tied g c =
-    opening_tied c.args.bundle.now c.args.role.now (view c.args.seat) (local_of c.in-Ok.state) c.requires.in_cast c.requires.seated c.requires.fresh c.in-Ok.ensures
+    opening_tied (plain c.args.bundle.now) c.args.role.now (view c.args.seat) (local_of c.in-Ok.state) c.requires.in_cast c.requires.seated c.requires.fresh c.in-Ok.ensures

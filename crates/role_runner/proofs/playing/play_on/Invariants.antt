@@ -1,4 +1,5 @@
 -- The seat went on, and the role's state is tied to it.
+use Rattle.dioc_terms.specs.Plain.{plain}
 use Rattle.flat_role.specs.FlatStates.{local_of}
 use Rattle.role_runner.specs.Ties.{IsTied, WentOn}
 use Rattle.stage.specs.Stages.{IsSeatIn}
@@ -9,5 +10,5 @@ abbrev pub invariant-loop : goal.invariant-loop
 invariant-loop g l = record {
   of : IsSeatIn l.stage l.seat;
   went : WentOn (view l.fn.seat) (view l.seat);
-  tied : IsTied l.bundle l.role (view l.seat) (local_of l.state);
+  tied : IsTied (plain l.bundle) l.role (view l.seat) (local_of l.state);
 }

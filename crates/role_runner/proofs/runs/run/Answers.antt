@@ -1,5 +1,6 @@
 -- The seats came back, so the stage closes, and its history is what the seats say of it.
 use Rattle.std.proofs.Common.{◌≢◌, IfSome, length, map, slice_get, subst, sym}
+use Rattle.dioc_terms.specs.Plain.{plain}
 use Rattle.role_runner.proofs.CloseLemmas.{closed_is, closed_prompt, closed_run, distinct_cast, first_knows, none_missing}
 use Rattle.role_runner.proofs.RunLemmas.{run_ended, run_full, run_goes}
 use Rattle.role_runner.proofs.TieLemmas.{if_err_at}
@@ -10,54 +11,54 @@ use Rattle.role_runner.proofs.runs.run.Goals as goal
 pub close-requires-clause-first : goal.close-requires-clause-first
 close-requires-clause-first g c =
     let went = subst (λ vs. AllWent vs (map view c.run_roles-seats.result.0.items)) c.in_ok-stage.ensures.views c.run_roles-seats.ensures.went in
-    λ _. first_knows c.args.bundle.now c.args.limit c.run_roles-seats.result.0.items went
+    λ _. first_knows (plain c.args.bundle.now) c.args.limit c.run_roles-seats.result.0.items went
 
 pub unreachable-requires : goal.unreachable-requires
 unreachable-requires g c =
     let went = subst (λ vs. AllWent vs (map view c.run_roles-seats.result.0.items)) c.in_ok-stage.ensures.views c.run_roles-seats.ensures.went in
-    none_missing c.args.bundle.now c.args.limit c.run_roles-seats.result.0.items went (if_err_at (λ _. IfSome (slice_get c.run_roles-seats.result.0.items 0) (λ s. (view s).made ≢ length c.run_roles-seats.result.0.items)) c.close.result c.in_default.field-0 c.close.ensures.missing c.in_default.is)
+    none_missing (plain c.args.bundle.now) c.args.limit c.run_roles-seats.result.0.items went (if_err_at (λ _. IfSome (slice_get c.run_roles-seats.result.0.items 0) (λ s. (view s).made ≢ length c.run_roles-seats.result.0.items)) c.close.result c.in_default.field-0 c.close.ensures.missing c.in_default.is)
 
 pub returns-in-Ended-clause-run : goal.returns-in-Ended-clause-run
 returns-in-Ended-clause-run g c =
     let went = subst (λ vs. AllWent vs (map view c.run_roles-seats.result.0.items)) c.in_ok-stage.ensures.views c.run_roles-seats.ensures.went in
-    closed_run c.args.bundle.now c.args.limit c.run_roles-seats.result.0.items went c.requires.sound c.in-Ok.history.entries c.in-Ok.ensures.closed c.in-Ok.ensures.begins
+    closed_run (plain c.args.bundle.now) c.args.limit c.run_roles-seats.result.0.items went c.requires.sound c.in-Ok.history.entries c.in-Ok.ensures.closed c.in-Ok.ensures.begins
 
 pub returns-in-Ended-clause-prompt : goal.returns-in-Ended-clause-prompt
 returns-in-Ended-clause-prompt g c =
     let went = subst (λ vs. AllWent vs (map view c.run_roles-seats.result.0.items)) c.in_ok-stage.ensures.views c.run_roles-seats.ensures.went in
-    closed_prompt c.args.bundle.now c.args.limit c.run_roles-seats.result.0.items went c.requires.sound c.in-Ok.history.entries c.in-Ok.ensures.closed c.in-Ok.ensures.begins
+    closed_prompt (plain c.args.bundle.now) c.args.limit c.run_roles-seats.result.0.items went c.requires.sound c.in-Ok.history.entries c.in-Ok.ensures.closed c.in-Ok.ensures.begins
 
 pub returns-in-Ended-clause-within : goal.returns-in-Ended-clause-within
 returns-in-Ended-clause-within g c =
     let went = subst (λ vs. AllWent vs (map view c.run_roles-seats.result.0.items)) c.in_ok-stage.ensures.views c.run_roles-seats.ensures.went in
-    (closed_is c.args.bundle.now c.args.limit c.run_roles-seats.result.0.items went c.requires.sound c.in-Ok.history.entries c.in-Ok.ensures.closed c.in-Ok.ensures.begins).within
+    (closed_is (plain c.args.bundle.now) c.args.limit c.run_roles-seats.result.0.items went c.requires.sound c.in-Ok.history.entries c.in-Ok.ensures.closed c.in-Ok.ensures.begins).within
 
 pub returns-in-Ended-clause-ended : goal.returns-in-Ended-clause-ended
 returns-in-Ended-clause-ended g c =
     let went = subst (λ vs. AllWent vs (map view c.run_roles-seats.result.0.items)) c.in_ok-stage.ensures.views c.run_roles-seats.ensures.went in
-    sym (run_ended c.others_leave_alone.ensures (distinct_cast c.casts_are_roles.ensures) c.args.bundle.now c.args.limit (map view c.run_roles-seats.result.0.items) c.in-Ok.history.entries (closed_is c.args.bundle.now c.args.limit c.run_roles-seats.result.0.items went c.requires.sound c.in-Ok.history.entries c.in-Ok.ensures.closed c.in-Ok.ensures.begins) c.nothing_left.ensures ((c.run_roles-seats.ensures.ended (λ is. cc)).0 c.in-Ended.is))
+    sym (run_ended c.others_leave_alone.ensures (distinct_cast c.casts_are_roles.ensures) (plain c.args.bundle.now) c.args.limit (map view c.run_roles-seats.result.0.items) c.in-Ok.history.entries (closed_is (plain c.args.bundle.now) c.args.limit c.run_roles-seats.result.0.items went c.requires.sound c.in-Ok.history.entries c.in-Ok.ensures.closed c.in-Ok.ensures.begins) c.nothing_left.ensures ((c.run_roles-seats.ensures.ended (λ is. cc)).0 c.in-Ended.is))
 
 pub returns-in-Limit-clause-run : goal.returns-in-Limit-clause-run
 returns-in-Limit-clause-run g c =
     let went = subst (λ vs. AllWent vs (map view c.run_roles-seats.result.0.items)) c.in_ok-stage.ensures.views c.run_roles-seats.ensures.went in
-    closed_run c.args.bundle.now c.args.limit c.run_roles-seats.result.0.items went c.requires.sound c.in-Ok.history.entries c.in-Ok.ensures.closed c.in-Ok.ensures.begins
+    closed_run (plain c.args.bundle.now) c.args.limit c.run_roles-seats.result.0.items went c.requires.sound c.in-Ok.history.entries c.in-Ok.ensures.closed c.in-Ok.ensures.begins
 
 pub returns-in-Limit-clause-prompt : goal.returns-in-Limit-clause-prompt
 returns-in-Limit-clause-prompt g c =
     let went = subst (λ vs. AllWent vs (map view c.run_roles-seats.result.0.items)) c.in_ok-stage.ensures.views c.run_roles-seats.ensures.went in
-    closed_prompt c.args.bundle.now c.args.limit c.run_roles-seats.result.0.items went c.requires.sound c.in-Ok.history.entries c.in-Ok.ensures.closed c.in-Ok.ensures.begins
+    closed_prompt (plain c.args.bundle.now) c.args.limit c.run_roles-seats.result.0.items went c.requires.sound c.in-Ok.history.entries c.in-Ok.ensures.closed c.in-Ok.ensures.begins
 
 pub returns-in-Limit-clause-within : goal.returns-in-Limit-clause-within
 returns-in-Limit-clause-within g c =
     let went = subst (λ vs. AllWent vs (map view c.run_roles-seats.result.0.items)) c.in_ok-stage.ensures.views c.run_roles-seats.ensures.went in
-    (closed_is c.args.bundle.now c.args.limit c.run_roles-seats.result.0.items went c.requires.sound c.in-Ok.history.entries c.in-Ok.ensures.closed c.in-Ok.ensures.begins).within
+    (closed_is (plain c.args.bundle.now) c.args.limit c.run_roles-seats.result.0.items went c.requires.sound c.in-Ok.history.entries c.in-Ok.ensures.closed c.in-Ok.ensures.begins).within
 
 pub returns-in-Limit-clause-ended : goal.returns-in-Limit-clause-ended
 returns-in-Limit-clause-ended g c =
     let went = subst (λ vs. AllWent vs (map view c.run_roles-seats.result.0.items)) c.in_ok-stage.ensures.views c.run_roles-seats.ensures.went in
-    sym (run_goes c.others_leave_alone.ensures (distinct_cast c.casts_are_roles.ensures) c.args.bundle.now c.args.limit (map view c.run_roles-seats.result.0.items) c.in-Ok.history.entries (closed_is c.args.bundle.now c.args.limit c.run_roles-seats.result.0.items went c.requires.sound c.in-Ok.history.entries c.in-Ok.ensures.closed c.in-Ok.ensures.begins) ((c.run_roles-seats.ensures.limit (λ is. cc)).0 c.in-Limit.is))
+    sym (run_goes c.others_leave_alone.ensures (distinct_cast c.casts_are_roles.ensures) (plain c.args.bundle.now) c.args.limit (map view c.run_roles-seats.result.0.items) c.in-Ok.history.entries (closed_is (plain c.args.bundle.now) c.args.limit c.run_roles-seats.result.0.items went c.requires.sound c.in-Ok.history.entries c.in-Ok.ensures.closed c.in-Ok.ensures.begins) ((c.run_roles-seats.ensures.limit (λ is. cc)).0 c.in-Limit.is))
 
 pub returns-in-Limit-clause-full : goal.returns-in-Limit-clause-full
 returns-in-Limit-clause-full g c =
     let went = subst (λ vs. AllWent vs (map view c.run_roles-seats.result.0.items)) c.in_ok-stage.ensures.views c.run_roles-seats.ensures.went in
-    λ _. run_full c.others_leave_alone.ensures (distinct_cast c.casts_are_roles.ensures) c.args.bundle.now c.args.limit (map view c.run_roles-seats.result.0.items) c.in-Ok.history.entries (closed_is c.args.bundle.now c.args.limit c.run_roles-seats.result.0.items went c.requires.sound c.in-Ok.history.entries c.in-Ok.ensures.closed c.in-Ok.ensures.begins) ((c.run_roles-seats.ensures.limit (λ is. cc)).0 c.in-Limit.is)
+    λ _. run_full c.others_leave_alone.ensures (distinct_cast c.casts_are_roles.ensures) (plain c.args.bundle.now) c.args.limit (map view c.run_roles-seats.result.0.items) c.in-Ok.history.entries (closed_is (plain c.args.bundle.now) c.args.limit c.run_roles-seats.result.0.items went c.requires.sound c.in-Ok.history.entries c.in-Ok.ensures.closed c.in-Ok.ensures.begins) ((c.run_roles-seats.ensures.limit (λ is. cc)).0 c.in-Limit.is)

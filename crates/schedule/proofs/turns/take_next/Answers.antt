@@ -4,7 +4,7 @@ use Rattle.std.specs.Prelude.{map}
 use Rattle.dioc_terms.specs.Plain.{setting}
 use Rattle.marked_laws.proofs.Premise.{Known}
 use Rattle.net_core.specs.Schedule.{move_place, moves}
-use Rattle.role_network.specs.Nets.{bundle_of, network_of}
+use Rattle.role_network.specs.Nets.{network_of}
 use Rattle.schedule.proofs.AgendaLemmas.{stale_after}
 use Rattle.schedule.proofs.MoveLemmas.{can_make, some_move}
 use Rattle.schedule.proofs.TurnLemmas.{advances}
@@ -26,7 +26,7 @@ next_move-requires-clause-some g c =
 pub make-requires-clause-can : goal.make-requires-clause-can
 make-requires-clause-can g c =
     can_make c.args.net.now c.requires.goes c.requires.room
-    (move_place c.args.seed (length (moves (setting (bundle_of c.args.net.now)) (network_of c.args.net.now)))) c.in_ok-next.next c.in_ok-next.ensures
+    (move_place c.args.seed (length (moves (setting c.args.net.now.bundle) (network_of c.args.net.now)))) c.in_ok-next.next c.in_ok-next.ensures
 
 pub make-requires-clause-few : goal.make-requires-clause-few
 make-requires-clause-few g c = few_updates c.args.net.now c.requires.run c.requires.room c.requires.limit

@@ -14,9 +14,9 @@ returns c =
     let new = c.run_seeded.new.net in
     let ran = c.in_ok-run_seeded.ensures in
     let began = c.in_ok-net.ensures in
-    let owner : new.bundle ≡ c.args.bundle.now = ran.same_bundle ∙ began.bundle in
+    let owner : new.bundle ≡ b = ran.same_bundle ∙ began.bundle in
     let same : new.history ≡ sched b c.args.seed c.args.limit =
-    ran.history ∙ (λ j. sched_from (plain (began.bundle j)) (began.history j) c.args.seed (began.limit j)) in
+    ran.history ∙ (λ j. sched_from (began.bundle j) (began.history j) c.args.seed (began.limit j)) in
     let entries = c.into_history-history.ensures ∙ same in
-    let ended = c.is_ended-ended.ensures ∙ (λ j. ended_after (plain (owner j)) (same j)) in
+    let ended = c.is_ended-ended.ensures ∙ (λ j. ended_after (owner j) (same j)) in
     (λ j. Ok (entries j, ended j)) ∙ sym (ap (answered b c.args.seed c.args.limit) c.requires.accepted.no_refusal)

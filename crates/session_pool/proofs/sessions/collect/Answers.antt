@@ -3,7 +3,7 @@ use Rattle.std.proofs.Common.{rules, ◌≡◌, ◌+◌, ◌∷◌, ◌++◌, []
 use Rattle.std.specs.List.{AllByRecursion}
 use Rattle.std.proofs.lemmas.Iterator.Adapters.{YieldsList-from_vec}
 use Rattle.std.proofs.lemmas.Iterator.Consumers.{YieldsList-end}
-use Rattle.session_pool.specs.Jobs.{IsDone, expected}
+use Rattle.session_pool.specs.Jobs.{IsWorkDone, expected}
 use Rattle.session_pool.proofs.Lists.{ok_then}
 use Rattle.session_pool.proofs.Placing.{places_right}
 use Rattle.session_pool.proofs.Gathering.{Gathered, one_gathered, all_answered, right_within}
@@ -11,12 +11,12 @@ use Rattle.session_pool.proofs.sessions.collect.Goals as goal
 
 pub place_all-requires : goal.place_all-requires
 place_all-requires c =
-    let all = subst (AllByRecursion (IsDone c.args.tickets (expected c.args.order.now))) c.in-Some.ensures.steps.0 c.loop-job.invariant.1 in
+    let all = subst (AllByRecursion (IsWorkDone c.args.tickets (expected c.args.order.now))) c.in-Some.ensures.steps.0 c.loop-job.invariant.1 in
     right_within (expected c.args.order.now) (length c.loop-job.places.items) c.in-Some.job.answers.items (sym c.loop-job.invariant.0.fits.as_many) all.0.worked.right
 
 pub loop-job-preserved : goal.loop-job-preserved
 loop-job-preserved c =
-    let all = subst (AllByRecursion (IsDone c.args.tickets (expected c.args.order.now))) c.in-Some.ensures.steps.0 c.loop-job.invariant.1 in
+    let all = subst (AllByRecursion (IsWorkDone c.args.tickets (expected c.args.order.now))) c.in-Some.ensures.steps.0 c.loop-job.invariant.1 in
     let more : length c.loop-job.yielded + 1 ≡ length (c.loop-job.yielded ++ c.in-Some.job ∷ []) = omega (arith, length-append c.loop-job.yielded (c.in-Some.job ∷ [])) in (
       subst (λ n. Gathered c.args.tickets (expected c.args.order.now) n c.join.new.drawer c.place_all.new.places.items) more
           (subst (Gathered c.args.tickets (expected c.args.order.now) (length c.loop-job.yielded + 1) c.join.new.drawer) (sym c.place_all.ensures)

@@ -1,9 +1,8 @@
 -- What was driven is the driven history of the visible entries of the section.
 use Rattle.std.proofs.Common.{◌≡◌, Some, not, sym, ap, ◌∙◌, subst}
 use Rattle.std.specs.List.{list_all}
-use Rattle.dioc_terms.specs.declared.bundles.Bundle.{Bundle}
 use Rattle.dioc_terms.specs.Messages.{is_aux, visible}
-use Rattle.dioc_terms.specs.Plain.{plain}
+use Rattle.dioc_terms.specs.Plain.{PlainBundle, plain}
 use Rattle.marked_laws.specs.Laws.{IsSound}
 use Rattle.net_drive.specs.Driven.{driven}
 use Rattle.aioc_top.specs.Replies.{driven_or_no, driven_reply, trace_stray}
@@ -21,7 +20,7 @@ returns-in-Ok c =
     let net = c.in-Ok.net in
     let trace : c.as_slice.result.now ≡ visible b.trace.entries = c.as_slice.ensures.value ∙ c.in_ok-trace.ensures ∙ ap visible c.as_slice-entries.ensures in
     let drives : driven b (visible b.trace.entries) ≡ Some net.history = ap (driven b) (sym trace) ∙ c.in-Ok.ensures.driven in
-    let sound : IsSound b = subst (λ (B : Bundle). IsSound (plain B)) c.in-Ok.ensures.bundle c.in-Ok.ensures.run.sound in
+    let sound : IsSound b = subst IsSound c.in-Ok.ensures.bundle c.in-Ok.ensures.run.sound in
     let same : driven_or_no b (trace_stray b) ≡ driven_reply b net.history = driven_is c.drive_strays_are_exact.ensures b sound net.history drives in
-    let of_bundle : driven_reply (plain net.bundle) net.history ≡ driven_reply b net.history = ap (λ (B : Bundle). driven_reply (plain B) net.history) c.in-Ok.ensures.bundle in
-    with_reply c.say_driven.result (driven_reply (plain net.bundle) net.history) (driven_or_no b (trace_stray b)) (of_bundle ∙ sym same) c.say_driven.ensures
+    let of_bundle : driven_reply net.bundle net.history ≡ driven_reply b net.history = ap (λ (B : PlainBundle). driven_reply B net.history) c.in-Ok.ensures.bundle in
+    with_reply c.say_driven.result (driven_reply net.bundle net.history) (driven_or_no b (trace_stray b)) (of_bundle ∙ sym same) c.say_driven.ensures

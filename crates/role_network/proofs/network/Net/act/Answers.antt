@@ -8,7 +8,7 @@ use Rattle.marked_laws.specs.Network.{network_ended}
 use Rattle.role_network.proofs.ActLemmas.{did_here, few_updates, known_rules, role_tells, locals_long}
 use Rattle.role_network.proofs.NetLemmas.{Laws, can_step, stands_after, stands_same, step_made, step_refused}
 use Rattle.role_network.specs.KeptParts.{body_seen, due_seen}
-use Rattle.role_network.specs.Nets.{NetState, bundle_of, network_of}
+use Rattle.role_network.specs.Nets.{NetState, network_of}
 use Rattle.role_network.specs.Standing.{Parts}
 use Rattle.role_network.proofs.network.Net.act.Goals as goal
 use Rattle.role_network.proofs.network.Net.act.Goals.{in-Ok, in-Err}
@@ -56,7 +56,7 @@ invariant_of-self g c =
     let i = c.self.inside in
     let b = plain i.of.value in
     let laws : Laws = record { steps = c.steps_run.ensures; keys = c.unique_keys.ensures; maps = c.mail_is_a_map.ensures; casts = c.casts_are_roles.ensures } in
-    let goes = subst (λ (net : NetState). network_ended (bundle_of net).cast (network_of net) ≡ false) (sym c.self.view_is) c.requires.goes in
+    let goes = subst (λ (net : NetState). network_ended net.bundle.cast (network_of net) ≡ false) (sym c.self.view_is) c.requires.goes in
     let room = subst (λ (net : NetState). length net.history < net.limit) (sym c.self.view_is) c.requires.room in
     elim c.match-step_role.branch [
       | in-Ok w ↦ stands_after b i.limit i.cast (map g.R.Runs.local i.roles.items) i.mail i.book (map body_seen i.bodies) (map due_seen i.coming.items) i.updates i.history.entries c.self.invariant laws c.args.role.now c.args.act.now
@@ -75,13 +75,13 @@ returns-clause-stepped g c =
     let i = c.self.inside in
     let b = plain i.of.value in
     let laws : Laws = record { steps = c.steps_run.ensures; keys = c.unique_keys.ensures; maps = c.mail_is_a_map.ensures; casts = c.casts_are_roles.ensures } in
-    let goes = subst (λ (net : NetState). network_ended (bundle_of net).cast (network_of net) ≡ false) (sym c.self.view_is) c.requires.goes in
+    let goes = subst (λ (net : NetState). network_ended net.bundle.cast (network_of net) ≡ false) (sym c.self.view_is) c.requires.goes in
     let room = subst (λ (net : NetState). length net.history < net.limit) (sym c.self.view_is) c.requires.room in
-    let new : NetState = record { bundle = i.of.value; history = c.step_role.new.history.entries; limit = i.limit } in
+    let new : NetState = record { bundle = b; history = c.step_role.new.history.entries; limit = i.limit } in
     elim c.match-step_role.branch [
       | in-Ok w ↦ subst (λ r. OnOk r (IsStepOf c.args.self.now c.args.role.now c.args.act.now new)) (sym w.result-is)
           (subst (λ old. IsStepOf old c.args.role.now c.args.act.now new) c.self.view_is
-          (step_made i.of.value i.limit i.cast (map g.R.Runs.local i.roles.items) i.mail i.book (map body_seen i.bodies) (map due_seen i.coming.items) i.updates i.history.entries c.self.invariant goes room c.args.role.now c.args.act.now laws
+          (step_made b i.limit i.cast (map g.R.Runs.local i.roles.items) i.mail i.book (map body_seen i.bodies) (map due_seen i.coming.items) i.updates i.history.entries c.self.invariant goes room c.args.role.now c.args.act.now laws
           (map g.R.Runs.local c.step_role.new.roles.items) c.step_role.new.mail c.step_role.new.updates c.step_role.new.history.entries
           (did_here i.cast b.cast c.args.role.now c.args.act.now b.rules i.mail (book_of i.book) i.updates (map g.R.Runs.local i.roles.items) i.history.entries
           (map g.R.Runs.local c.step_role.new.roles.items) c.step_role.new.mail c.step_role.new.updates c.step_role.new.history.entries c.self.invariant.cast
@@ -92,11 +92,11 @@ returns-clause-stepped g c =
 pub returns-clause-refused : goal.returns-clause-refused
 returns-clause-refused g c =
     let i = c.self.inside in
-    let goes = subst (λ (net : NetState). network_ended (bundle_of net).cast (network_of net) ≡ false) (sym c.self.view_is) c.requires.goes in
+    let goes = subst (λ (net : NetState). network_ended net.bundle.cast (network_of net) ≡ false) (sym c.self.view_is) c.requires.goes in
     let room = subst (λ (net : NetState). length net.history < net.limit) (sym c.self.view_is) c.requires.room in
     elim c.match-step_role.branch [
       | in-Ok w ↦ subst (λ r. IfErr r (λ f. f ≢ fault.Memory → fault_of c.args.self.now c.args.role.now c.args.act.now ≡ Some f)) (sym w.result-is) tt
       | in-Err w ↦ subst (λ r. IfErr r (λ f. f ≢ fault.Memory → fault_of c.args.self.now c.args.role.now c.args.act.now ≡ Some f)) (sym w.result-is)
           (subst (λ old. w.in-Err.fault ≢ fault.Memory → fault_of old c.args.role.now c.args.act.now ≡ Some w.in-Err.fault) c.self.view_is
-          (step_refused i.of.value i.limit i.cast (map g.R.Runs.local i.roles.items) i.mail i.book (map body_seen i.bodies) (map due_seen i.coming.items) i.updates i.history.entries c.self.invariant goes room c.args.role.now c.args.act.now w.in-Err.fault w.in-Err.ensures.refused))
+          (step_refused (plain i.of.value) i.limit i.cast (map g.R.Runs.local i.roles.items) i.mail i.book (map body_seen i.bodies) (map due_seen i.coming.items) i.updates i.history.entries c.self.invariant goes room c.args.role.now c.args.act.now w.in-Err.fault w.in-Err.ensures.refused))
     ]

@@ -8,7 +8,7 @@ use Rattle.net_core.specs.Schedule.{change_due}
 use Rattle.role_network.proofs.ListLemmas.{due_listed}
 use Rattle.role_network.specs.KeptParts.{body_seen, due_seen}
 use Rattle.role_network.specs.MovesIn.{is_first_due}
-use Rattle.role_network.specs.Nets.{NetState, bundle_of, network_of}
+use Rattle.role_network.specs.Nets.{NetState, network_of}
 use Rattle.role_network.specs.Standing.{Parts}
 use Rattle.role_network.proofs.network.Net.is_change_due.Goals as goal
 
@@ -18,12 +18,12 @@ returns-then-due g c =
     let parts : Parts = record { cast = i.cast; locals = map g.R.Runs.local i.roles.items; mail = i.mail; book = i.book; bodies = map body_seen i.bodies; coming = map due_seen i.coming.items; updates = i.updates; history = i.history.entries } in
     let first : c.is_first_due-due.result ≡ is_first_due (map due_seen i.coming.items) (length (visible i.history.entries)) =
     c.is_first_due-due.ensures ∙ ap (is_first_due (map due_seen i.coming.items)) c.visible_len.ensures in
-    let ends : c.is_ended-ended.result ≡ network_ended (bundle_of c.args.self.now).cast (network_of c.args.self.now) = c.is_ended-ended.ensures in
+    let ends : c.is_ended-ended.result ≡ network_ended c.args.self.now.bundle.cast (network_of c.args.self.now) = c.is_ended-ended.ensures in
     sym (ap (λ t. t && not c.is_ended-ended.result) c.if-due.true)
     ∙ (λ j. first j && not (ends j))
-    ∙ ap (λ (net : NetState). is_first_due (map due_seen i.coming.items) (length (visible i.history.entries)) && not (network_ended (bundle_of net).cast (network_of net))) (sym c.self.view_is)
+    ∙ ap (λ (net : NetState). is_first_due (map due_seen i.coming.items) (length (visible i.history.entries)) && not (network_ended net.bundle.cast (network_of net))) (sym c.self.view_is)
     ∙ due_listed (plain i.of.value) i.limit parts c.self.invariant
-    ∙ ap (λ (net : NetState). change_due (bundle_of net).script (network_of net).changes (network_of net).visible && not (network_ended (bundle_of net).cast (network_of net))) c.self.view_is
+    ∙ ap (λ (net : NetState). change_due net.bundle.script (network_of net).changes (network_of net).visible && not (network_ended net.bundle.cast (network_of net))) c.self.view_is
 
 pub returns-else-due : goal.returns-else-due
 returns-else-due g c =
@@ -31,9 +31,9 @@ returns-else-due g c =
     let parts : Parts = record { cast = i.cast; locals = map g.R.Runs.local i.roles.items; mail = i.mail; book = i.book; bodies = map body_seen i.bodies; coming = map due_seen i.coming.items; updates = i.updates; history = i.history.entries } in
     let first : c.is_first_due-due.result ≡ is_first_due (map due_seen i.coming.items) (length (visible i.history.entries)) =
     c.is_first_due-due.ensures ∙ ap (is_first_due (map due_seen i.coming.items)) c.visible_len.ensures in
-    let ends : c.is_ended-ended.result ≡ network_ended (bundle_of c.args.self.now).cast (network_of c.args.self.now) = c.is_ended-ended.ensures in
+    let ends : c.is_ended-ended.result ≡ network_ended c.args.self.now.bundle.cast (network_of c.args.self.now) = c.is_ended-ended.ensures in
     c.if-due.false ∙ sym (ap (λ t. t && not c.is_ended-ended.result) c.if-due.false)
     ∙ (λ j. first j && not (ends j))
-    ∙ ap (λ (net : NetState). is_first_due (map due_seen i.coming.items) (length (visible i.history.entries)) && not (network_ended (bundle_of net).cast (network_of net))) (sym c.self.view_is)
+    ∙ ap (λ (net : NetState). is_first_due (map due_seen i.coming.items) (length (visible i.history.entries)) && not (network_ended net.bundle.cast (network_of net))) (sym c.self.view_is)
     ∙ due_listed (plain i.of.value) i.limit parts c.self.invariant
-    ∙ ap (λ (net : NetState). change_due (bundle_of net).script (network_of net).changes (network_of net).visible && not (network_ended (bundle_of net).cast (network_of net))) c.self.view_is
+    ∙ ap (λ (net : NetState). change_due net.bundle.script (network_of net).changes (network_of net).visible && not (network_ended net.bundle.cast (network_of net))) c.self.view_is

@@ -8,7 +8,7 @@ use Rattle.process_steps.specs.Steps.{ended}
 use Rattle.role_network.proofs.ActLemmas.{done_is, locals_long}
 use Rattle.role_network.specs.Deeds.{DoneAt}
 use Rattle.role_network.specs.KeptParts.{body_seen, due_seen}
-use Rattle.role_network.specs.Nets.{NetState, bundle_of, network_of}
+use Rattle.role_network.specs.Nets.{NetState, network_of}
 use Rattle.role_network.specs.Standing.{Parts}
 use Rattle.role_network.proofs.network.Net.is_done.Goals as goal
 
@@ -21,7 +21,7 @@ is_done_at-requires-clause-lengths g c =
 pub is_done_at-requires-clause-member : goal.is_done_at-requires-clause-member
 is_done_at-requires-clause-member g c =
     ap (member c.args.role.now) (c.as_slice.ensures ∙ c.self.invariant.cast)
-    ∙ ap (λ (net : NetState). member c.args.role.now (bundle_of net).cast) c.self.view_is
+    ∙ ap (λ (net : NetState). member c.args.role.now net.bundle.cast) c.self.view_is
     ∙ c.requires
 
 pub returns : goal.returns

@@ -6,7 +6,7 @@ use Rattle.marked_laws.specs.Network.{network_ended}
 use Rattle.net_core.specs.Schedule.{change_due, moves}
 use Rattle.role_network.proofs.ListLemmas.{moves_listed}
 use Rattle.role_network.specs.KeptParts.{body_seen, due_seen}
-use Rattle.role_network.specs.Nets.{NetState, bundle_of, network_of}
+use Rattle.role_network.specs.Nets.{NetState, network_of}
 use Rattle.role_network.specs.Standing.{Parts}
 use Rattle.role_network.proofs.network.Net.moves.Goals as goal
 
@@ -17,5 +17,5 @@ returns-in-Ok g c =
     c.in-Ok.ensures
     ∙ moves_listed (plain i.of.value) i.limit parts c.self.invariant c.is_change_due-due.result
     (c.is_change_due-due.ensures
-    ∙ ap (λ (net : NetState). change_due (bundle_of net).script (network_of net).changes (network_of net).visible && not (network_ended (bundle_of net).cast (network_of net))) (sym c.self.view_is))
-    ∙ ap (λ (net : NetState). moves (setting (bundle_of net)) (network_of net)) c.self.view_is
+    ∙ ap (λ (net : NetState). change_due net.bundle.script (network_of net).changes (network_of net).visible && not (network_ended net.bundle.cast (network_of net))) (sym c.self.view_is))
+    ∙ ap (λ (net : NetState). moves (setting net.bundle) (network_of net)) c.self.view_is

@@ -29,11 +29,11 @@ returns-clause-changed g c =
     let i = c.self.inside in
     let b = plain i.of.value in
     let room = subst (λ (net : NetState). length net.history < net.limit) (sym c.self.view_is) c.requires in
-    let new : NetState = record { bundle = i.of.value; history = c.make_change.new.history.entries; limit = i.limit } in
+    let new : NetState = record { bundle = b; history = c.make_change.new.history.entries; limit = i.limit } in
     elim c.match-make_change.branch [
       | in-Ok w ↦ subst (λ r. OnOk r (IsChangeOf c.args.self.now new)) (sym w.result-is)
           (subst (λ old. IsChangeOf old new) c.self.view_is
-          (change_made i.of.value i.limit i.cast (map g.R.Runs.local i.roles.items) i.mail i.book (map body_seen i.bodies) (map due_seen i.coming.items) i.updates i.history.entries c.self.invariant room c.steps_run.ensures
+          (change_made b i.limit i.cast (map g.R.Runs.local i.roles.items) i.mail i.book (map body_seen i.bodies) (map due_seen i.coming.items) i.updates i.history.entries c.self.invariant room c.steps_run.ensures
           (map due_seen c.make_change.new.script.items) c.make_change.new.book c.make_change.new.history.entries (w.in-Ok.ensures.made b.rules c.self.invariant.of)))
       | in-Err w ↦ subst (λ r. OnOk r (IsChangeOf c.args.self.now new)) (sym w.result-is) tt
     ]
@@ -46,5 +46,5 @@ returns-clause-refused g c =
       | in-Ok w ↦ subst (λ r. IfErr r (λ f. f ≢ fault.Memory → change_fault c.args.self.now ≡ Some f)) (sym w.result-is) tt
       | in-Err w ↦ subst (λ r. IfErr r (λ f. f ≢ fault.Memory → change_fault c.args.self.now ≡ Some f)) (sym w.result-is)
           (subst (λ old. w.in-Err.fault ≢ fault.Memory → change_fault old ≡ Some w.in-Err.fault) c.self.view_is
-          (change_refused i.of.value i.limit i.cast (map g.R.Runs.local i.roles.items) i.mail i.book (map body_seen i.bodies) (map due_seen i.coming.items) i.updates i.history.entries c.self.invariant room w.in-Err.fault w.in-Err.ensures.refused))
+          (change_refused (plain i.of.value) i.limit i.cast (map g.R.Runs.local i.roles.items) i.mail i.book (map body_seen i.bodies) (map due_seen i.coming.items) i.updates i.history.entries c.self.invariant room w.in-Err.fault w.in-Err.ensures.refused))
     ]

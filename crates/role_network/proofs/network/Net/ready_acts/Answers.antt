@@ -8,7 +8,7 @@ use Rattle.role_network.proofs.ActLemmas.{locals_long}
 use Rattle.role_network.proofs.ListLemmas.{ready_is_of}
 use Rattle.role_network.specs.KeptParts.{body_seen, due_seen}
 use Rattle.role_network.specs.MovesIn.{ReadyAt, ready_of}
-use Rattle.role_network.specs.Nets.{NetState, bundle_of, network_of}
+use Rattle.role_network.specs.Nets.{NetState, network_of}
 use Rattle.role_network.specs.Standing.{Parts}
 use Rattle.role_network.proofs.network.Net.ready_acts.Goals as goal
 
@@ -21,7 +21,7 @@ ready_at-requires-clause-lengths g c =
 pub ready_at-requires-clause-member : goal.ready_at-requires-clause-member
 ready_at-requires-clause-member g c =
     ap (member c.args.role.now) (c.as_slice-cast.ensures ∙ c.self.invariant.cast)
-    ∙ ap (λ (net : NetState). member c.args.role.now (bundle_of net).cast) c.self.view_is
+    ∙ ap (λ (net : NetState). member c.args.role.now net.bundle.cast) c.self.view_is
     ∙ c.requires
 
 pub returns-in-Ok : goal.returns-in-Ok

@@ -17,7 +17,7 @@ pub put_message-requires : goal.put_message-requires
 put_message-requires c =
     let i = c.self.inside in
     let laws : Laws = record { steps = c.steps_run.ensures; keys = c.unique_keys.ensures; maps = c.mail_is_a_map.ensures; offers = c.offers_are_steps.ensures } in
-    let can = subst (λ (h : HomeState). CanDo (plain h.bundle) h.history c.args.key.from (acts.Put c.args.key) Alone (Puts c.args.key (load c.args.payload))) (sym c.self.view_is) c.requires.can in
+    let can = subst (λ (h : HomeState). CanDo h.bundle h.history c.args.key.from (acts.Put c.args.key) Alone (Puts c.args.key (load c.args.payload))) (sym c.self.view_is) c.requires.can in
     record {
       free = is_free (plain i.of.value) i.limit i.history.entries i.mail i.book (map due_seen i.coming.items) i.updates c.self.invariant.shared laws
           c.args.key.from c.args.key (load c.args.payload) can;
@@ -27,12 +27,12 @@ pub invariant_of-self : goal.invariant_of-self
 invariant_of-self c =
     let i = c.self.inside in
     let laws : Laws = record { steps = c.steps_run.ensures; keys = c.unique_keys.ensures; maps = c.mail_is_a_map.ensures; offers = c.offers_are_steps.ensures } in
-    let can = subst (λ (h : HomeState). CanDo (plain h.bundle) h.history c.args.key.from (acts.Put c.args.key) Alone (Puts c.args.key (load c.args.payload))) (sym c.self.view_is) c.requires.can in
+    let can = subst (λ (h : HomeState). CanDo h.bundle h.history c.args.key.from (acts.Put c.args.key) Alone (Puts c.args.key (load c.args.payload))) (sym c.self.view_is) c.requires.can in
     let free = subst (λ (h : HomeState). role_fault h ≡ None) (sym c.self.view_is) c.requires.free in
     elim c.match-put_message.branch [
-      | in-Ok w ↦ home_did i.of.value i.limit i.history.entries i.cast i.names.items i.mail i.book (map due_seen i.coming.items) i.updates i.finished.items i.stopped c.self.invariant laws
+      | in-Ok w ↦ home_did (plain i.of.value) i.limit i.history.entries i.cast i.names.items i.mail i.book (map due_seen i.coming.items) i.updates i.finished.items i.stopped c.self.invariant laws
           c.args.key.from (acts.Put c.args.key) Alone (Puts c.args.key (load c.args.payload)) can refl refl free
           c.put_message.new.mail i.updates c.put_message.new.history.entries w.in-Ok.ensures.put refl w.in-Ok.ensures.pushed
-      | in-Err w ↦ home_same i.of.value i.limit i.history.entries i.cast i.names.items i.mail i.book (map due_seen i.coming.items) i.updates i.finished.items i.stopped c.self.invariant
+      | in-Err w ↦ home_same (plain i.of.value) i.limit i.history.entries i.cast i.names.items i.mail i.book (map due_seen i.coming.items) i.updates i.finished.items i.stopped c.self.invariant
           c.put_message.new.mail c.put_message.new.history.entries w.in-Err.ensures.same_mail w.in-Err.ensures.same_history
     ]

@@ -12,19 +12,19 @@ use Rattle.stage.proofs.home.Home.finish.Goals as goal
 pub mark-requires : goal.mark-requires
 mark-requires c =
     let i = c.self.inside in
-    marks_fit i.of.value i.limit i.history.entries i.cast i.names.items i.mail i.book (map due_seen i.coming.items) i.updates i.finished.items i.stopped c.self.invariant
+    marks_fit (plain i.of.value) i.limit i.history.entries i.cast i.names.items i.mail i.book (map due_seen i.coming.items) i.updates i.finished.items i.stopped c.self.invariant
     ∙ ap length (sym c.as_slice.ensures)
 
 pub invariant_of-self : goal.invariant_of-self
 invariant_of-self c =
     let i = c.self.inside in
-    let done = subst (λ (h : HomeState). HasEnded (plain h.bundle) h.history c.args.role.now) (sym c.self.view_is) c.requires in
-    home_finished i.of.value i.limit i.history.entries i.cast i.names.items i.mail i.book (map due_seen i.coming.items) i.updates i.finished.items i.stopped c.self.invariant
+    let done = subst (λ (h : HomeState). HasEnded h.bundle h.history c.args.role.now) (sym c.self.view_is) c.requires in
+    home_finished (plain i.of.value) i.limit i.history.entries i.cast i.names.items i.mail i.book (map due_seen i.coming.items) i.updates i.finished.items i.stopped c.self.invariant
     c.args.role.now done c.mark.new.finished.items (c.mark.ensures ∙ ap (λ l. slice_set i.finished.items (cast_place l c.args.role.now) true) c.as_slice.ensures)
 
 pub returns : goal.returns
 returns c =
     let i = c.self.inside in
-    shows_finished i.of.value i.limit i.history.entries i.cast i.names.items i.mail i.book (map due_seen i.coming.items) i.updates i.finished.items i.stopped c.self.invariant
+    shows_finished (plain i.of.value) i.limit i.history.entries i.cast i.names.items i.mail i.book (map due_seen i.coming.items) i.updates i.finished.items i.stopped c.self.invariant
     c.args.role.now c.mark.new.finished.items (c.mark.ensures ∙ ap (λ l. slice_set i.finished.items (cast_place l c.args.role.now) true) c.as_slice.ensures)
     ∙ ap (λ (h : HomeState). with_finished h c.args.role.now) c.self.view_is

@@ -14,4 +14,4 @@ returns c =
     let i = c.self.inside in
     c.is_first_due.ensures ∙ ap (is_first_due (map due_seen i.coming.items)) c.visible_len.ensures
     ∙ due_is (plain i.of.value) i.limit i.history.entries i.mail i.book (map due_seen i.coming.items) i.updates c.self.invariant.shared
-    ∙ ap (λ (home : HomeState). change_is_due (plain home.bundle) home.history) c.self.view_is
+    ∙ ap (λ (home : HomeState). change_is_due home.bundle home.history) c.self.view_is

@@ -12,14 +12,14 @@ use Rattle.stage.proofs.home.Home.next_fault.Goals as goal
 pub returns-in-None : goal.returns-in-None
 returns-in-None c =
     let i = c.self.inside in
-    let home : HomeState = record { bundle = i.of.value; limit = i.limit; history = i.history.entries; finished = i.finished.items; stopped = i.stopped } in
-    subst (λ (h : HomeState). fault_after h None ≡ next_fault h (slice_get (plain h.bundle).script (changes_in h.history))) c.self.view_is
+    let home : HomeState = record { bundle = plain i.of.value; limit = i.limit; history = i.history.entries; finished = i.finished.items; stopped = i.stopped } in
+    subst (λ (h : HomeState). fault_after h None ≡ next_fault h (slice_get h.bundle.script (changes_in h.history))) c.self.view_is
     (next_is home i.limit i.mail i.book (map due_seen i.coming.items) i.updates c.self.invariant.shared None (sym c.in-None.is ∙ c.first_after.ensures))
 
 pub returns-in-Some : goal.returns-in-Some
 returns-in-Some c =
     let i = c.self.inside in
-    let home : HomeState = record { bundle = i.of.value; limit = i.limit; history = i.history.entries; finished = i.finished.items; stopped = i.stopped } in
+    let home : HomeState = record { bundle = plain i.of.value; limit = i.limit; history = i.history.entries; finished = i.finished.items; stopped = i.stopped } in
     c.fault_before.ensures
-    ∙ subst (λ (h : HomeState). fault_after h (Some c.in-Some.after) ≡ next_fault h (slice_get (plain h.bundle).script (changes_in h.history))) c.self.view_is
+    ∙ subst (λ (h : HomeState). fault_after h (Some c.in-Some.after) ≡ next_fault h (slice_get h.bundle.script (changes_in h.history))) c.self.view_is
     (next_is home i.limit i.mail i.book (map due_seen i.coming.items) i.updates c.self.invariant.shared (Some c.in-Some.after) (sym c.in-Some.is ∙ c.first_after.ensures))

@@ -1,6 +1,5 @@
 -- What a role can do alone, done in a hold.
 use Rattle.std.proofs.Common.{◌≡◌, ◌≢◌, None, Some, sym, ◌∙◌, subst}
-use Rattle.dioc_terms.specs.Plain.{plain}
 use Rattle.stage.proofs.HoldLemmas.{did_own, grown_by, left_same, own_entry, own_item}
 use Rattle.stage.proofs.SeatLemmas.{can_add_now, refused}
 use Rattle.stage.specs.declared.faults.CommitFault.TheVariants as fault
@@ -14,7 +13,7 @@ pub add-requires : goal.add-requires
 add-requires g c =
     let found = c.enter-turn.ensures in
     record {
-      can = subst (λ (h : HomeState). CanAdd (plain h.bundle) h.history c.args.entry) (sym c.home.ensures.value)
+      can = subst (λ (h : HomeState). CanAdd h.bundle h.history c.args.entry) (sym c.home.ensures.value)
           (can_add_now (view c.args.seat) c.enter-turn.result.home found.base found.still c.args.entry c.requires.can);
     }
 

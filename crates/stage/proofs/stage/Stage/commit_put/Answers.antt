@@ -2,7 +2,6 @@
 use Rattle.std.proofs.Common.{◌≡◌, None, refl, sym, ◌∙◌, subst}
 use Rattle.dioc_terms.specs.declared.entries.Act.TheVariants as acts
 use Rattle.dioc_terms.specs.declared.entries.Entry.TheVariants as entry
-use Rattle.dioc_terms.specs.Plain.{plain}
 use Rattle.dioc_terms.specs.Processes.{load, noted}
 use Rattle.process_steps.specs.Steps.{Alone, Puts}
 use Rattle.stage.proofs.HoldLemmas.{did_alone, grown_by, own_item, place_of}
@@ -19,7 +18,7 @@ put-requires g c =
     let l = load c.args.payload in
     let found = c.enter-turn.ensures in
     record {
-      can = subst (λ (h : HomeState). CanDo (plain h.bundle) h.history k.from (acts.Put k) Alone (Puts k l)) (sym c.home.ensures.value)
+      can = subst (λ (h : HomeState). CanDo h.bundle h.history k.from (acts.Put k) Alone (Puts k l)) (sym c.home.ensures.value)
           (can_now (view c.args.seat) c.enter-turn.result.home found.base found.still k.from (acts.Put k) Alone (Puts k l) c.requires.can);
     }
 

@@ -1,7 +1,6 @@
 -- A scope that its leader can begin, begun in a hold.
 use Rattle.std.proofs.Common.{◌≡◌, None, sym, ap, ◌∙◌, subst}
 use Rattle.dioc_terms.specs.KeptStores.{store_of}
-use Rattle.dioc_terms.specs.Plain.{plain}
 use Rattle.stage.proofs.HoldLemmas.{Grown, grown_by, own_item}
 use Rattle.stage.proofs.MarkLemmas.{begin_now, did_begin, owns_begin}
 use Rattle.stage.specs.Begins.{CanBegin, begin_in, update_in}
@@ -15,7 +14,7 @@ scope-requires g c =
     let s = store_of c.args.store.now in
     let found = c.enter-turn.ensures in
     record {
-      can = subst (λ (h : HomeState). CanBegin (plain h.bundle) h.history c.args.head.now s) (sym c.home.ensures.value)
+      can = subst (λ (h : HomeState). CanBegin h.bundle h.history c.args.head.now s) (sym c.home.ensures.value)
           (begin_now (view c.args.seat) c.enter-turn.result.home found.base found.still c.args.head.now s c.requires.can);
     }
 

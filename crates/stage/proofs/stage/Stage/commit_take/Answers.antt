@@ -1,7 +1,6 @@
 -- A take whose message is there, done in a hold.
 use Rattle.std.proofs.Common.{◌≡◌, ◌≢◌, None, Some, sym, ◌∙◌, subst}
 use Rattle.dioc_terms.specs.declared.entries.Entry.TheVariants as entry
-use Rattle.dioc_terms.specs.Plain.{plain}
 use Rattle.dioc_terms.specs.Processes.{load}
 use Rattle.marked_laws.specs.Network.{pending_at}
 use Rattle.role_network.specs.Nets.{network_at}
@@ -20,7 +19,7 @@ take-requires g c =
     let k = c.args.key.now in
     let found = c.enter-turn.ensures in
     record {
-      can = subst (λ (h : HomeState). CanTake (plain h.bundle) h.history k.to k c.args.var) (sym c.home.ensures.value)
+      can = subst (λ (h : HomeState). CanTake h.bundle h.history k.to k c.args.var) (sym c.home.ensures.value)
           (take_now (view c.args.seat) c.enter-turn.result.home found.base found.still k.to k c.args.var c.requires.can);
     }
 
@@ -45,7 +44,7 @@ returns-in-Ok-clause-done g c =
     did_take v u (view c.leave_with-seat.result) home c.home-in-Ok.result.now c.enter-turn.ensures.base c.enter-turn.ensures.still c.enter-turn.ensures.sound
     (take_fault k) (subst (λ (h : HomeState). take_fault k h ≡ None) c.home.ensures.value c.in-Ok.ensures.free) c.deeds_move.ensures c.is_sound.ensures
     laws k c.args.var (load c.in-Ok.payload) c.requires.can
-    (subst (λ (h : HomeState). pending_at k (network_at (plain h.bundle) h.history).pending ≡ Some (load c.in-Ok.payload)) c.home.ensures.value c.in-Ok.ensures.taken)
+    (subst (λ (h : HomeState). pending_at k (network_at h.bundle h.history).pending ≡ Some (load c.in-Ok.payload)) c.home.ensures.value c.in-Ok.ensures.taken)
     (grown_by v u home c.home.result.now c.home-in-Ok.result.now e c.enter-turn.ensures.view c.home.ensures.value (c.home-in-Ok.ensures.value ∙ c.in-Ok.ensures.added))
     (record { view = c.leave_with-seat.ensures.view; own = c.leave_with-seat.ensures.met })
 
