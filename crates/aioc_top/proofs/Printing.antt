@@ -1,4 +1,4 @@
--- The text of a run that has finished is that of the schedule's run, or of the threads'.
+-- What is printed of a run that has finished is that of the threads' run, or of a made bundle's.
 use Rattle.std.proofs.Common.{◌≡◌, ◌≤◌, ◌⊎◌, inl, inr, ◌↔◌, ℕ, List, [], length, Bool, true, false, Some, refl, sym, ap, ◌∙◌, arith, None}
 use Rattle.std.specs.Prelude.{unwrap_or, if◌then◌else◌}
 use Rattle.std.specs.Option.{option_map_or}
@@ -20,8 +20,8 @@ use Rattle.command_words.specs.declared.commands.Verb.TheVariants.{Gen}
 use Rattle.load_gen.specs.Made.{made}
 use Rattle.aioc_top.specs.declared.replies.End.TheVariants as end
 use Rattle.aioc_top.specs.declared.replies.Written.{Written}
-use Rattle.aioc_top.specs.Replies.{IsThreadRun, Replies, gen_history, gen_line, gen_reply, line_of_text, updates_of, reply_of, run_reply, last_of, is_finished, step_history}
-use Rattle.aioc_top.specs.Endings.{end_of, last_for}
+use Rattle.aioc_top.specs.Replies.{IsThreadRun, Replies, gen_history, gen_line, gen_reply, line_of_text, updates_of, reply_of, last_of, is_finished, step_history}
+use Rattle.aioc_top.specs.Endings.{end_of}
 
 abbrev is_end : Finish → Bool
 is_end finish.Ended = true
@@ -30,10 +30,6 @@ is_end finish.Limit = false
 end_by : (how : Finish) → end_of how ≡ (if is_end how then end.Done else end.Limit)
 end_by finish.Ended = refl
 end_by finish.Limit = refl
-
-last_by : (how : Finish) (n : ℕ) → last_for how n ≡ last_of (is_end how) n
-last_by finish.Ended n = refl
-last_by finish.Limit n = refl
 
 -- how the run finished is how its network stands
 ended_by : (how : Finish) (t : Bool) {A : Type 0} → (how ≡ finish.Ended) ↔ (t ≡ true) → (how ≡ finish.Limit) ↔ (A × (t ≡ false)) → t ≡ is_end how
@@ -50,22 +46,6 @@ module _ (options : Options) (b : PlainBundle) (is : IsAccepted b) (sound : Runs
       let runs : network_run b H ≡ Some arrives.network = ap (network_run b) same ∙ arrives.runs in
       ap (λ o. option_map_or (network_ended b.cast) o false) runs
       ∙ sym (ap (λ o. network_ended b.cast (unwrap_or o (network_start b))) runs)
-
-  pub replied : (H : List Entry) (how : Finish) (written : Written) {A : Type 0} → H ≡ step_history options b
-      → (how ≡ finish.Ended) ↔ (network_ended b.cast (network_at b H) ≡ true)
-      → (how ≡ finish.Limit) ↔ (A × (network_ended b.cast (network_at b H) ≡ false))
-      → written.end ≡ end_of how
-      → written.text.items ≡ run_text options.aux options.json H (last_for how (length H))
-      → reply_of written ≡ run_reply options b (step_history options b)
-  replied H how written same ended limit ends wrote =
-      let over : is_end how ≡ is_finished b (step_history options b) =
-      sym (ended_by how (network_ended b.cast (network_at b H)) ended limit) ∙ sym (finished_by H same) ∙ ap (is_finished b) same in
-      let end_is : written.end ≡ (if is_finished b (step_history options b) then end.Done else end.Limit) =
-      ends ∙ end_by how ∙ ap (λ t. if t then end.Done else end.Limit) over in
-      let text_is : written.text.items ≡ run_text options.aux options.json (step_history options b) (last_of (is_finished b (step_history options b)) (length (step_history options b))) =
-      wrote ∙ (λ j. run_text options.aux options.json (same j) (last_for how (length (same j))))
-      ∙ ap (run_text options.aux options.json (step_history options b)) (last_by how (length (step_history options b)) ∙ ap (λ t. last_of t (length (step_history options b))) over) in
-      λ j. record { end = end_is j; text = text_is j }
 
 -- ---- the run of the threads
 

@@ -45,7 +45,11 @@ pub fn judge(alloc: Global, command: &Command, bytes: &[u8]) -> Result<Written, 
     ensures fault { IfErr result (IsJudgedSo command.now bytes.now) }
 {
     match read_bundle(alloc, bytes) {
-        Ok(mut bundle) => reply_to(alloc, command, &mut bundle),
+        Ok(mut bundle) => {
+            let judged = reply_to(alloc, command, &mut bundle);
+            drop(bundle);
+            judged
+        }
         Err(SyntaxFault::Syntax(byte)) => Err(syntax_fault(alloc, byte)),
         Err(SyntaxFault::Memory) => Err(Fault::Memory),
     }
@@ -66,7 +70,11 @@ pub fn judge_run<R: Threads + Wait + Sync, G: Gate + Sync>(
     ensures fault { IfErr result (IsJudgedSo (command.Run options.now) bytes.now) }
 {
     match read_bundle(alloc, bytes) {
-        Ok(bundle) => reply_run(rt, alloc, options, &bundle, gate),
+        Ok(bundle) => {
+            let judged = reply_run(rt, alloc, options, &bundle, gate);
+            drop(bundle);
+            judged
+        }
         Err(SyntaxFault::Syntax(byte)) => Err(syntax_fault(alloc, byte)),
         Err(SyntaxFault::Memory) => Err(Fault::Memory),
     }

@@ -42,8 +42,8 @@ use std::thread::Threads;
 /// Does what the words after the program's name say: reads a bundle from the source, or many of
 /// them, and writes the text of the command to `out`. Where it can't, it writes one line to `err`,
 /// and nothing to `out`; only a fault of `out` leaves a part of the text there. With `run` and
-/// `sessions` it starts threads and waits for them; all that is said of it then holds if it returns.
-/// The threads of `run` pass the gate.
+/// `sessions` it starts threads and waits for them; all that is said of it then holds if it
+/// returns. The threads of `run` pass the gate.
 ///
 /// Its status tells how it went. What a clause says of the source's bytes holds where the source
 /// tells them, and what it says of bytes that were taken holds where the sink tells them; that what

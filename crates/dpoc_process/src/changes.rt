@@ -124,7 +124,7 @@ pub(crate) fn closed(hole: Box<Proc>, proc: Proc) -> Box<Proc>
     ensures { result.value ≡ proc }
 {
     let mut filled = hole;
-    *filled = proc;
+    drop(mem::replace(&mut *filled, proc));
     filled
 }
 

@@ -1,5 +1,7 @@
 //! A role that runs, act by act.
 
+ghost use Rattle.std.specs.Prelude.{◌≡◌, IsSome, Some};
+
 use dioc_terms::{Act, Entry, Memory, Parts, Payload, ScopeHead, Store};
 use std::alloc::Global;
 use thiserror::Error;
@@ -28,6 +30,31 @@ pub struct Prepared {
     pub head: Option<ScopeHead>,
     /// A copy of the message, there exactly for a put.
     pub payload: Option<Payload>,
+}
+
+impl Prepared {
+    /// What the book sees of the scope for which the role was made ready; the rest is let go.
+    pub fn into_head(self) -> ScopeHead
+        requires { IsSome self.head }
+        ensures { self.head ≡ Some result }
+    {
+        let Prepared {
+            act,
+            entry,
+            head,
+            payload,
+        } = self;
+        drop((act, entry, payload));
+        known_head(head)
+    }
+}
+
+// (Apart, since letting go of the rest beside an `unwrap` makes for large goals.)
+fn known_head(head: Option<ScopeHead>) -> ScopeHead
+    requires { IsSome head }
+    ensures { head ≡ Some result }
+{
+    head.unwrap()
 }
 
 /// Why an act is not prepared.

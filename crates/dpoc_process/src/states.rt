@@ -66,7 +66,8 @@ impl Runs for RoleState {
     fn advance(&mut self, act: &Act, got: Got) {
         let ready = self.ready.take().unwrap();
         let proc = mem::replace(&mut self.proc, Proc::Skip);
-        self.proc = advanced(&self.role, act, proc, &mut self.store, ready, got);
+        let after = advanced(&self.role, act, proc, &mut self.store, ready, got);
+        drop(mem::replace(&mut self.proc, after));
     }
 
     fn is_done(&self) -> bool {

@@ -6,7 +6,7 @@ ghost use Rattle.dioc_terms.specs.Processes.{Process, Tell, Gather, letters};
 ghost use Rattle.dpoc_process.specs.Acting.{acting};
 ghost use Rattle.dpoc_process.specs.Changes.{changed, replaced, rest_of};
 ghost use Rattle.flat_code.specs.Places.{processes};
-ghost use Rattle.flat_role.specs.Frames.{frame_process, is_open, is_placed, marked};
+ghost use Rattle.flat_role.specs.Frames.{frame_process, is_open, is_placed, marked_over};
 ghost use Rattle.flat_role.specs.Growths.{is_change_placed, part_change};
 
 use crate::frames::{Frame, gathering, is_ended, put, telling};
@@ -70,7 +70,7 @@ pub(crate) fn replace(me: &Role, act: &Act, code: &Code, frame: &mut Frame, by: 
 fn acts_in(me: &Role, act: &Act, code: &Code, over: bool, part: &Frame) -> bool
     requires { is_placed (length code.now.ops.items) part.now ≡ true }
     ensures { result ≡ is_some (acting me.now act.now
-        (marked over (frame_process (processes code.now.ops.items) part.now))) }
+        (marked_over over (frame_process (processes code.now.ops.items) part.now))) }
 {
     !over && can_act(me, act, code, part)
 }

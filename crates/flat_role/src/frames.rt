@@ -3,7 +3,7 @@
 ghost use Rattle.std.specs.Prelude.{◌≡◌, ◌&&◌, ◌||◌, ℕ, List, true, IfOk, if◌then◌else◌, length};
 ghost use Rattle.dioc_terms.specs.Processes.{Process, Seq, letters};
 ghost use Rattle.flat_code.specs.Places.{processes};
-ghost use Rattle.flat_role.specs.Frames.{frame_process, is_open, is_placed, marked};
+ghost use Rattle.flat_role.specs.Frames.{frame_process, is_open, is_placed, marked_over};
 ghost use Rattle.process_steps.specs.Steps.{after, ended, gathering, telling};
 
 use crate::places::is_ended_at;
@@ -129,7 +129,7 @@ pub(crate) fn in_order(
     second: Frame,
 ) -> Result<Frame, Memory>
     ensures stands { IfOk result (λ frame. (done : List Process) → frame_process done frame
-        ≡ Seq (marked first_over (frame_process done first)) (frame_process done second)) }
+        ≡ Seq (marked_over first_over (frame_process done first)) (frame_process done second)) }
     ensures placed { IfOk result (λ frame. (n : ℕ) →
         is_placed n frame ≡ (is_placed n first && is_placed n second)) }
     ensures opened { IfOk result (λ frame. (done : List Process) → is_open done frame

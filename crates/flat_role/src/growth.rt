@@ -434,11 +434,11 @@ fn by_flag(on_true: Frame, on_false: Frame, got: Got) -> Change
 {
     match got {
         Got::Payload(Payload::Flag(true)) => {
-            drop(on_false);
+            drop((on_false, got));
             Change::Becomes(on_true)
         }
         Got::Payload(Payload::Flag(false)) => {
-            drop(on_true);
+            drop((on_true, got));
             Change::Becomes(on_false)
         }
         other => {

@@ -63,7 +63,13 @@ fn make_ready<R: Runs>(
 {
     match role.prepare(alloc, act) {
         Ok(prepared) => {
-            let Prepared { entry, .. } = prepared;
+            let Prepared {
+                act,
+                entry,
+                head,
+                payload,
+            } = prepared;
+            drop(((act, head), payload));
             entries.push(entry)?;
             Ok(())
         }

@@ -1,14 +1,20 @@
 //! Messages to the role, as other roles' entries show them.
 
-ghost use Rattle.std.specs.Prelude.{◌≡◌, List, IfOk, OnErr, OnOk, option_map};
+ghost use Rattle.std.specs.Prelude.{◌≡◌, List, true, IfOk, OnErr, OnOk, option_map};
+ghost use Rattle.dioc_terms.specs.declared.names.Role.{Role as OneRole};
 ghost use Rattle.dioc_terms.specs.declared.processes.Key.{Key as OneKey};
+ghost use Rattle.dioc_terms.specs.Equality.{member};
 ghost use Rattle.dioc_terms.specs.Plain.{plain, setting};
-ghost use Rattle.dioc_terms.specs.Processes.{load, Load, Part};
+ghost use Rattle.dioc_terms.specs.Processes.{load, process, Load, Part};
+ghost use Rattle.dioc_terms.specs.Terms.{is_in, term};
+ghost use Rattle.projection.specs.Projection.{projected};
 ghost use Rattle.role_monitor.specs.Judging.{HoldsMail, RulesInCast, SameMessages};
 ghost use Rattle.role_monitor.specs.Monitoring.{mail_with_some, noted_load, rule_part, update_part};
 
 use crate::updates::{Update, update_numbered};
-use dioc_terms::{Bundle, Key, Memory, Note, Payload, Role, stamped, stamped_bodies};
+use dioc_terms::{
+    Bundle, Choreo, Key, Memory, Note, Payload, Proc, Role, give_up, stamped, stamped_bodies,
+};
 use marked_laws::mail_is_a_map;
 use projection::project;
 use role_mailbox::Mail;
@@ -37,11 +43,16 @@ pub(crate) fn receive(
     if mail.holds(key) {
         return Ok(());
     }
-    if let Some(payload) = noted_payload(alloc, bundle, &key.to, updates, note)? {
-        let key = key.copy(alloc)?;
-        mail.put(key, payload);
+    match noted_payload(alloc, bundle, &key.to, updates, note)? {
+        None => Ok(()),
+        Some(payload) => match key.copy(alloc) {
+            Ok(key) => {
+                mail.put(key, payload);
+                Ok(())
+            }
+            Err(fault) => give_up(payload, fault),
+        },
     }
-    Ok(())
 }
 
 /// What a message to a role carries whose entry has this note, `None` where it is a part of an
@@ -104,9 +115,19 @@ fn rule_part(
         return Ok(None);
     };
     let body = stamped(alloc, &rule.body, update.epoch, update.level)?;
-    let proc = project(alloc, &body, role, bundle.cast.as_slice())?;
+    let proc = project_last(alloc, body, role, bundle.cast.as_slice())?;
     Ok(Some(Payload::Part {
         epoch: update.epoch,
         proc,
     }))
+}
+
+/// A role's process of a choreography that is let go then.
+fn project_last(alloc: Global, choreo: Choreo, role: &Role, cast: &[Role]) -> Result<Proc, Memory>
+    requires { (q : OneRole) → is_in q (term choreo) ≡ true → member q cast.now ≡ true }
+    ensures { IfOk result (λ proc. process proc ≡ projected cast.now (term choreo) role.now) }
+{
+    let made = project(alloc, &choreo, role, cast);
+    drop(choreo);
+    made
 }

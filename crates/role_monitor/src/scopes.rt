@@ -1,6 +1,6 @@
 //! Entries of the role that begin scopes.
 
-ghost use Rattle.std.specs.Prelude.{◌≡◌, ◌<◌, ◌++◌, [], ◌∷◌, suc, length, true, false, Some, IsSome, IfNone, IfOk, IfSome, OnErr, slice_get};
+ghost use Rattle.std.specs.Prelude.{◌≡◌, ◌<◌, ◌++◌, [], ◌∷◌, suc, length, true, false, Some, IfNone, IfOk, IfSome, OnErr, slice_get};
 ghost use Rattle.std.specs.Bool.{OnFalse, OnTrue};
 ghost use Rattle.dioc_terms.specs.declared.entries.Chosen.TheVariants as chosen;
 ghost use Rattle.dioc_terms.specs.declared.entries.Entry.TheVariants as entries;
@@ -63,7 +63,7 @@ pub(crate) fn judge_scope<R: Runs>(
     process_steps::steps_show_their_acts();
     dioc_terms::choices_go_on();
     dioc_terms::mentions_are_roles();
-    let head = head_of(prepared);
+    let head = prepared.into_head();
     match book.choose(&head, state.store()) {
         None => Ok(keep(state, entry, act, head)),
         Some(number) => {
@@ -76,14 +76,6 @@ pub(crate) fn judge_scope<R: Runs>(
             }
         }
     }
-}
-
-/// What the book sees of the scope.
-fn head_of(prepared: Prepared) -> ScopeHead
-    requires { IsSome prepared.head }
-    ensures { prepared.head ≡ Some result }
-{
-    prepared.head.unwrap()
 }
 
 /// The rule of that number.

@@ -9,7 +9,7 @@ ghost use Rattle.dpoc_process.specs.KeptStates.{local_of};
 ghost use Rattle.global_steps.specs.Follow.{inputs_of};
 ghost use Rattle.role_monitor.specs.Monitoring.{mon_start};
 
-use dioc_terms::{Bundle, Items, Memory, Role, Store, Value, Values};
+use dioc_terms::{Bundle, Items, Memory, Role, Store, Value, Values, give_up};
 use dpoc_process::RoleState;
 use projection::project;
 use std::alloc::Global;
@@ -25,12 +25,24 @@ pub(crate) fn opening_state(
     ensures { IfOk result (λ state. local_of state
         ≡ (mon_start (plain bundle.now) role.now).local) }
 {
-    let mut inputs = Vec::new(alloc);
-    take_inputs(alloc, bundle.inputs.as_slice(), role, &mut inputs)?;
+    let me = role.copy(alloc)?;
+    let inputs = inputs_for(alloc, bundle.inputs.as_slice(), role)?;
     let store = Store::new(alloc, Items::new(inputs));
-    let proc = project(alloc, &bundle.choreo, role, bundle.cast.as_slice())?;
-    let role = role.copy(alloc)?;
-    Ok(RoleState::new(role, proc, store))
+    match project(alloc, &bundle.choreo, role, bundle.cast.as_slice()) {
+        Ok(proc) => Ok(RoleState::new(me, proc, store)),
+        Err(fault) => give_up((me, store), fault),
+    }
+}
+
+/// Copies of all that is given for the role, in its order.
+fn inputs_for(alloc: Global, inputs: &[(Role, Values)], role: &Role) -> Result<Vec<Value>, Memory>
+    ensures { IfOk result (λ values. values.items ≡ inputs_of inputs.now role.now) }
+{
+    let mut values = Vec::new(alloc);
+    match take_inputs(alloc, inputs, role, &mut values) {
+        Ok(()) => Ok(values),
+        Err(fault) => give_up(values, fault),
+    }
 }
 
 /// Adds copies of all that is given for the role, in its order.

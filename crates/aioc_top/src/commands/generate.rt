@@ -10,7 +10,7 @@ ghost use Rattle.aioc_top.specs.Replies.{gen_line, gen_reply, line_of_text, repl
 
 use crate::commands::step::end_of;
 use crate::replies::Written;
-use dioc_terms::{Bundle, Memory};
+use dioc_terms::{Bundle, Memory, give_up};
 use flat_role::FlatRole;
 use index_marks::nodes;
 use load_gen::make;
@@ -46,12 +46,17 @@ fn run_made(alloc: Global, number: u64, size: u32, bundle: &Bundle) -> Result<Wr
     accepted_is_sound();
     runs_are_sound();
     let mut net: Net<FlatRole> = Net::start(alloc, bundle, USUAL_STEPS)?;
-    let finish = run_seeded(&mut net, None)?;
-    let text = make_line(alloc, number, size, bundle, &net)?;
-    Ok(Written {
-        end: end_of(finish),
-        text,
-    })
+    match run_seeded(&mut net, None) {
+        Ok(finish) => {
+            let line = make_line(alloc, number, size, bundle, &net);
+            drop(net);
+            Ok(Written {
+                end: end_of(finish),
+                text: line?,
+            })
+        }
+        Err(fault) => give_up(net, fault),
+    }
 }
 
 // The line of a made bundle and its run.

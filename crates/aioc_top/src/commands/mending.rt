@@ -21,5 +21,7 @@ pub fn mend(alloc: Global, bundle: &Bundle) -> Result<Written, MendRefusal>
     ensures refused { IfErr result (IsMendRefusalOf (mend_refusal (plain bundle.now))) }
 {
     let made = mend_bundle(alloc, bundle)?;
-    Ok(bundle_written(alloc, &made)?)
+    let written = bundle_written(alloc, &made);
+    drop(made);
+    Ok(written?)
 }

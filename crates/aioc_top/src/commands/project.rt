@@ -61,7 +61,9 @@ fn write_role(
         ≡ out.old.items ++ role_line cast.now (term choreo.now) role.now) }
 {
     let proc = projection::project(alloc, choreo, role, cast)?;
-    write_line(role, &proc, out)
+    let written = write_line(role, &proc, out);
+    drop(proc);
+    written
 }
 
 // Appends the line of a role with its process.

@@ -3,7 +3,7 @@
 ghost use Rattle.std.specs.Prelude.{◌≡◌, ◌≤◌, IfOk};
 ghost use Rattle.dioc_terms.specs.Plain.{plain};
 ghost use Rattle.net_core.specs.Schedule.{sched_from};
-ghost use Rattle.role_network.specs.Nets.{IsSoundRun, bundle_of};
+ghost use Rattle.role_network.specs.Nets.{IsSoundRun};
 ghost use Rattle.rule_checks.specs.Refusals.{IsAccepted};
 ghost use Rattle.command_words.specs.Commands.{most_steps};
 ghost use Rattle.command_words.specs.declared.commands.Verb.{Verb};
@@ -11,7 +11,7 @@ ghost use Rattle.aioc_top.specs.Replies.{reply_of, resume_reply, run_reply};
 
 use crate::replies::{End, Written, last_line, say_no};
 use command_words::Options;
-use dioc_terms::{Bundle, Memory};
+use dioc_terms::{Bundle, Memory, give_up};
 use flat_role::FlatRole;
 use net_drive::{ResumeFault, run_strays_are_exact};
 use role_network::Net;
@@ -40,21 +40,27 @@ pub fn resume(alloc: Global, options: &Options, bundle: &Bundle) -> Result<Writt
 }
 
 // The text of the run that goes on from a net by the schedule.
-fn go_on(alloc: Global, options: &Options, net: Net<FlatRole>) -> Result<Written, Memory>
+pub(crate) fn go_on(alloc: Global, options: &Options, net: Net<FlatRole>) -> Result<Written, Memory>
     requires limit { net.limit ≤ 4294967295 }
-    ensures { IfOk result (λ written. reply_of written ≡ run_reply options.now (bundle_of net)
-        (sched_from (bundle_of net) net.history options.now.seed net.limit)) }
+    ensures { IfOk result (λ written. reply_of written ≡ run_reply options.now net.bundle
+        (sched_from net.bundle net.history options.now.seed net.limit)) }
 {
     let mut going = net;
-    run_seeded(&mut going, options.seed)?;
-    say_run(alloc, options, &going)
+    match run_seeded(&mut going, options.seed) {
+        Ok(_) => {
+            let said = say_run(alloc, options, &going);
+            drop(going);
+            said
+        }
+        Err(fault) => give_up(going, fault),
+    }
 }
 
 // The text of the run that a net has made, and whether it has ended.
 fn say_run(alloc: Global, options: &Options, net: &Net<FlatRole>) -> Result<Written, Memory>
     requires run { IsSoundRun net.now }
     ensures { IfOk result (λ written. reply_of written
-        ≡ run_reply options.now (bundle_of net.now) net.now.history) }
+        ≡ run_reply options.now net.now.bundle net.now.history) }
 {
     let is_over = net.is_ended();
     let last = last_line(is_over, net.history().len());

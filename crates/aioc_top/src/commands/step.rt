@@ -2,22 +2,21 @@
 
 ghost use Rattle.std.specs.Prelude.{◌≡◌, ◌≤◌, IfOk};
 ghost use Rattle.dioc_terms.specs.Plain.{plain};
-ghost use Rattle.net_core.specs.Laws.{RunsAreSound};
 ghost use Rattle.rule_checks.specs.Refusals.{IsAccepted};
 ghost use Rattle.command_words.specs.Commands.{most_steps};
 ghost use Rattle.command_words.specs.declared.commands.Verb.{Verb};
 ghost use Rattle.aioc_top.specs.Replies.{reply_of, run_reply, step_history};
-ghost use Rattle.aioc_top.specs.Endings.{end_of, last_for};
+ghost use Rattle.aioc_top.specs.Endings.{end_of};
 
+use crate::commands::resume::go_on;
 use crate::replies::{End, Written};
 use command_words::Options;
-use dioc_terms::{Bundle, Last, Memory};
+use dioc_terms::{Bundle, Memory};
 use flat_role::FlatRole;
-use net_core::{accepted_is_sound, runs_are_sound};
+use net_core::accepted_is_sound;
 use role_network::Net;
-use schedule::{Finish, run_seeded};
+use schedule::Finish;
 use std::alloc::Global;
-use trace_text::write_text;
 
 /// The text of the run that the schedule takes from the start of the bundle's network, to at most
 /// as many entries as the options say, and how it ended. Auxiliary entries are printed with `--aux`
@@ -29,22 +28,8 @@ pub fn step(alloc: Global, options: &Options, bundle: &Bundle) -> Result<Written
         ≡ run_reply options.now (plain bundle.now) (step_history options.now (plain bundle.now))) }
 {
     accepted_is_sound();
-    runs_are_sound();
-    let mut net: Net<FlatRole> = Net::start(alloc, bundle, options.steps)?;
-    let finish = run_seeded(&mut net, options.seed)?;
-    let mut text = Vec::new(alloc);
-    let last = last_of(finish, net.history().len());
-    write_text(
-        net.history().as_slice(),
-        options.aux,
-        &last,
-        options.json,
-        &mut text,
-    )?;
-    Ok(Written {
-        end: end_of(finish),
-        text,
-    })
+    let net: Net<FlatRole> = Net::start(alloc, bundle, options.steps)?;
+    go_on(alloc, options, net)
 }
 
 pub(crate) fn end_of(finish: Finish) -> End
@@ -53,14 +38,5 @@ pub(crate) fn end_of(finish: Finish) -> End
     match finish {
         Finish::Ended => End::Done,
         Finish::Limit => End::Limit,
-    }
-}
-
-fn last_of(finish: Finish, entries: u64) -> Last
-    ensures { result ≡ last_for finish entries }
-{
-    match finish {
-        Finish::Ended => Last::Ended(entries),
-        Finish::Limit => Last::Stopped(entries),
     }
 }

@@ -15,25 +15,25 @@ returns-then-holds-clause-received c = λ pending held.
     some_there pending c.reserve.new.self c.args.key.now (noted_load (setting (plain c.args.bundle.now)) c.args.key.now.to c.args.updates.now c.args.note.now)
     (held_same pending c.args.mail.now c.reserve.new.self c.reserve.ensures.same held) (sym c.holds.ensures.holds ∙ c.if-holds.true)
 
-pub returns-in_ok-key-clause-received : goal.returns-in_ok-key-clause-received
-returns-in_ok-key-clause-received c = λ pending held.
+pub returns-in-Ok-clause-received : goal.returns-in-Ok-clause-received
+returns-in-Ok-clause-received c = λ pending held.
     let k = c.args.key.now in
     let l = load c.in-Some.payload in
-    let told = sym (sym (ap (option_map load) c.in-Some.is) ∙ c.in_ok-payload.ensures) in
+    let told = sym (sym (ap (option_map load) c.in-Some.is) ∙ c.in_ok-noted_payload.ensures) in
     subst (λ o. HoldsMail (mail_with_some k o pending) c.put.new.self) (sym told)
     (appended_holds c.mail_is_a_map.ensures pending c.reserve.new.self c.put.new.self k l (held_same pending c.args.mail.now c.reserve.new.self c.reserve.ensures.same held) c.if-holds.ensures.free
-    (subst (λ j. ChangesOnly c.reserve.new.self c.put.new.self j (Some l)) c.in_ok-key.ensures c.put.ensures.put))
+    (subst (λ j. ChangesOnly c.reserve.new.self c.put.new.self j (Some l)) c.in-Ok.ensures c.put.ensures.put))
 
-pub returns-in_default-clause-received : goal.returns-in_default-clause-received
-returns-in_default-clause-received c = λ pending held.
-    let told = sym (sym (ap (option_map load) c.in_default.is) ∙ c.in_ok-payload.ensures) in
+pub returns-in-None-clause-received : goal.returns-in-None-clause-received
+returns-in-None-clause-received c = λ pending held.
+    let told = sym (sym (ap (option_map load) c.in-None.is) ∙ c.in_ok-noted_payload.ensures) in
     subst (λ o. HoldsMail (mail_with_some c.args.key.now o pending) c.reserve.new.self) (sym told) (held_same pending c.args.mail.now c.reserve.new.self c.reserve.ensures.same held)
 
 pub returns-in_err-reserve-clause-same : goal.returns-in_err-reserve-clause-same
 returns-in_err-reserve-clause-same c = any_err c.from_residual.result (same_messages c.args.mail.now c.reserve.new.self c.reserve.ensures.same)
 
-pub returns-in_err-payload-clause-same : goal.returns-in_err-payload-clause-same
-returns-in_err-payload-clause-same c = any_err c.from_residual-in_err-payload.result (same_messages c.args.mail.now c.reserve.new.self c.reserve.ensures.same)
+pub returns-in_err-noted_payload-clause-same : goal.returns-in_err-noted_payload-clause-same
+returns-in_err-noted_payload-clause-same c = any_err c.from_residual-in_err-noted_payload.result (same_messages c.args.mail.now c.reserve.new.self c.reserve.ensures.same)
 
-pub returns-in_err-key-clause-same : goal.returns-in_err-key-clause-same
-returns-in_err-key-clause-same c = any_err c.from_residual-in_err-key.result (same_messages c.args.mail.now c.reserve.new.self c.reserve.ensures.same)
+pub returns-in-Err-clause-same : goal.returns-in-Err-clause-same
+returns-in-Err-clause-same c = any_err c.give_up.result (same_messages c.args.mail.now c.reserve.new.self c.reserve.ensures.same)

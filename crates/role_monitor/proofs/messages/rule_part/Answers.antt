@@ -9,8 +9,8 @@ use Rattle.projection.specs.Projection.{projected}
 use Rattle.role_monitor.proofs.Begins.{rule_found}
 use Rattle.role_monitor.proofs.messages.rule_part.Goals as goal
 
-pub project-requires : goal.project-requires
-project-requires c = λ q named.
+pub project_last-requires : goal.project_last-requires
+project_last-requires c = λ q named.
     let rule = c.in-Some.rule.now in
     let found = c.in-Some.ensures.lookup in
     let at = rule_found c.args.bundle.now.rules c.as_slice.result.now c.args.update.rule rule c.as_slice.ensures found.3.0 found.1 in

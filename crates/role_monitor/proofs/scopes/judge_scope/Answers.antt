@@ -18,8 +18,8 @@ use Rattle.rule_book.specs.KeptBooks.{book_of}
 use Rattle.scope_leader.specs.Plans.{part_of}
 use Rattle.role_monitor.proofs.scopes.judge_scope.Goals as goal
 
-pub head_of-head-requires : goal.head_of-head-requires
-head_of-head-requires g c =
+pub into_head-head-requires : goal.into_head-head-requires
+into_head-head-requires g c =
     let lead = lead_there (g.R.Runs.local c.args.state.now) c.args.act.now c.requires.scope c.requires.shown.can_act in
     subst (λ (o : Option ScopeHead). IsSome o) (sym (c.requires.shown.head ∙ ap (option_map lead_head) lead.1)) refl
 
@@ -30,7 +30,7 @@ keep-requires-clause-can g c =
 pub keep-requires-clause-led : goal.keep-requires-clause-led
 keep-requires-clause-led g c =
     let lead = lead_there (g.R.Runs.local c.args.state.now) c.args.act.now c.requires.scope c.requires.shown.can_act in
-    (lead.0, lead.1, some_same (sym (c.requires.shown.head ∙ ap (option_map lead_head) lead.1) ∙ c.head_of-head.ensures))
+    (lead.0, lead.1, some_same (sym (c.requires.shown.head ∙ ap (option_map lead_head) lead.1) ∙ c.into_head-head.ensures))
 
 pub replace-requires-clause-can : goal.replace-requires-clause-can
 replace-requires-clause-can g c =
@@ -39,27 +39,27 @@ replace-requires-clause-can g c =
 pub replace-requires-clause-led : goal.replace-requires-clause-led
 replace-requires-clause-led g c =
     let lead = lead_there (g.R.Runs.local c.args.state.now) c.args.act.now c.requires.scope c.requires.shown.can_act in
-    (lead.0, lead.1, some_same (sym (c.requires.shown.head ∙ ap (option_map lead_head) lead.1) ∙ c.head_of-head.ensures))
+    (lead.0, lead.1, some_same (sym (c.requires.shown.head ∙ ap (option_map lead_head) lead.1) ∙ c.into_head-head.ensures))
 
 pub rule_at-rule-requires : goal.rule_at-rule-requires
 rule_at-rule-requires g c =
     let b = plain c.args.bundle.now in
     subst (λ n. c.in-Some.number < n) (length-map c.args.bundle.now.rules plain_rule)
-    (chosen_there b.rules (book_of c.args.book.now) c.head_of-head.result (store_of c.store.result.now) c.choices_go_on.ensures c.in-Some.number
+    (chosen_there b.rules (book_of c.args.book.now) c.into_head-head.result (store_of c.store.result.now) c.choices_go_on.ensures c.in-Some.number
     (sym (c.choose.ensures b.rules c.requires.book) ∙ c.in-Some.is))
 
 pub replace-requires-clause-level : goal.replace-requires-clause-level
 replace-requires-clause-level g c =
     let b = plain c.args.bundle.now in
-    (rule_answers b.rules (book_of c.args.book.now) c.head_of-head.result (store_of c.store.result.now) c.choices_go_on.ensures c.in-Some.number (plain_rule c.rule_at-rule.result.now)
+    (rule_answers b.rules (book_of c.args.book.now) c.into_head-head.result (store_of c.store.result.now) c.choices_go_on.ensures c.in-Some.number (plain_rule c.rule_at-rule.result.now)
     (sym (c.choose.ensures b.rules c.requires.book) ∙ c.in-Some.is) (rule_stands c.args.bundle.now.rules c.in-Some.number c.rule_at-rule.result.now c.rule_at-rule.ensures)).level
 
 pub replace-requires-clause-body : goal.replace-requires-clause-body
 replace-requires-clause-body g c =
     let b = plain c.args.bundle.now in
     let rule = plain_rule c.rule_at-rule.result.now in
-    body_in_cast c.mentions_are_roles.ensures b.cast b.rules c.head_of-head.result (body_of rule) c.requires.sound.rules
-    (rule_answers b.rules (book_of c.args.book.now) c.head_of-head.result (store_of c.store.result.now) c.choices_go_on.ensures c.in-Some.number rule
+    body_in_cast c.mentions_are_roles.ensures b.cast b.rules c.into_head-head.result (body_of rule) c.requires.sound.rules
+    (rule_answers b.rules (book_of c.args.book.now) c.into_head-head.result (store_of c.store.result.now) c.choices_go_on.ensures c.in-Some.number rule
     (sym (c.choose.ensures b.rules c.requires.book) ∙ c.in-Some.is) (rule_stands c.args.bundle.now.rules c.in-Some.number c.rule_at-rule.result.now c.rule_at-rule.ensures))
 
 pub returns-in-None-clause-kept : goal.returns-in-None-clause-kept
@@ -69,9 +69,9 @@ returns-in-None-clause-kept g c =
     let a = c.args.act.now in
     let us = c.args.updates.now.items in
     let book = book_of c.args.book.now in
-    let head = c.head_of-head.result in
+    let head = c.into_head-head.result in
     let lead = lead_there s a c.requires.scope c.requires.shown.can_act in
-    let heads = some_same (sym (c.requires.shown.head ∙ ap (option_map lead_head) lead.1) ∙ c.head_of-head.ensures) in
+    let heads = some_same (sym (c.requires.shown.head ∙ ap (option_map lead_head) lead.1) ∙ c.into_head-head.ensures) in
     let picked : choose b.rules book head s.store ≡ None = ap (choose b.rules book head) (sym c.store.ensures) ∙ sym (c.choose.ensures b.rules c.requires.book) ∙ c.in-None.is in
     let decided : decides (setting b) s book us head ≡ Keeps = ap (decision b.cast (length us) head) (sym (choice_none b.rules book head s.store picked)) in
     keep_kept (setting b) s book us c.args.entry.now a c.requires.scope lead.0 lead.1 (c.requires.tells lead.0 lead.1).leads head heads decided c.keep.result c.keep.ensures.shows
@@ -84,9 +84,9 @@ returns-in-None-clause-refused g c =
     let a = c.args.act.now in
     let us = c.args.updates.now.items in
     let book = book_of c.args.book.now in
-    let head = c.head_of-head.result in
+    let head = c.into_head-head.result in
     let lead = lead_there s a c.requires.scope c.requires.shown.can_act in
-    let heads = some_same (sym (c.requires.shown.head ∙ ap (option_map lead_head) lead.1) ∙ c.head_of-head.ensures) in
+    let heads = some_same (sym (c.requires.shown.head ∙ ap (option_map lead_head) lead.1) ∙ c.into_head-head.ensures) in
     let picked : choose b.rules book head s.store ≡ None = ap (choose b.rules book head) (sym c.store.ensures) ∙ sym (c.choose.ensures b.rules c.requires.book) ∙ c.in-None.is in
     let decided : decides (setting b) s book us head ≡ Keeps = ap (decision b.cast (length us) head) (sym (choice_none b.rules book head s.store picked)) in
     keep_refused (setting b) s book us c.args.entry.now a c.requires.scope lead.0 lead.1 (c.requires.tells lead.0 lead.1).leads head heads decided c.keep.result c.keep.ensures.shows
@@ -98,9 +98,9 @@ returns-in-Ok-clause-kept g c =
     let a = c.args.act.now in
     let us = c.args.updates.now.items in
     let book = book_of c.args.book.now in
-    let head = c.head_of-head.result in
+    let head = c.into_head-head.result in
     let lead = lead_there s a c.requires.scope c.requires.shown.can_act in
-    let heads = some_same (sym (c.requires.shown.head ∙ ap (option_map lead_head) lead.1) ∙ c.head_of-head.ensures) in
+    let heads = some_same (sym (c.requires.shown.head ∙ ap (option_map lead_head) lead.1) ∙ c.into_head-head.ensures) in
     let m = c.in-Some.number in
     let rule = plain_rule c.rule_at-rule.result.now in
     let n = suc (length us) in
@@ -120,9 +120,9 @@ returns-in-Ok-clause-refused g c =
     let a = c.args.act.now in
     let us = c.args.updates.now.items in
     let book = book_of c.args.book.now in
-    let head = c.head_of-head.result in
+    let head = c.into_head-head.result in
     let lead = lead_there s a c.requires.scope c.requires.shown.can_act in
-    let heads = some_same (sym (c.requires.shown.head ∙ ap (option_map lead_head) lead.1) ∙ c.head_of-head.ensures) in
+    let heads = some_same (sym (c.requires.shown.head ∙ ap (option_map lead_head) lead.1) ∙ c.into_head-head.ensures) in
     let m = c.in-Some.number in
     let rule = plain_rule c.rule_at-rule.result.now in
     let n = suc (length us) in

@@ -15,23 +15,23 @@ use Rattle.aioc_top.proofs.commands.generate.run_made.Goals as goal
 pub start-requires : goal.start-requires
 start-requires c = c.accepted_is_sound.ensures (plain c.args.bundle.now) c.requires.accepted
 
-pub make_line-requires : goal.make_line-requires
-make_line-requires c = omega (arith, few_nodes (plain c.args.bundle.now) c.requires.accepted)
+pub make_line-line-requires : goal.make_line-line-requires
+make_line-line-requires c = omega (arith, few_nodes (plain c.args.bundle.now) c.requires.accepted)
 
-pub returns : goal.returns
-returns c =
+pub returns-in_ok-line : goal.returns-in_ok-line
+returns-in_ok-line c =
     let b = made c.args.number c.args.size in
     let new = c.run_seeded.new.net in
-    let how = c.in_ok-finish.finish in
-    let ran = c.in_ok-finish.ensures in
+    let how = c.in-Ok.finish in
+    let ran = c.in-Ok.ensures in
     let began = c.in_ok-net.ensures in
-    let owner : plain new.bundle ≡ b = ap plain (ran.same_bundle ∙ began.bundle) ∙ c.requires.made in
+    let owner : new.bundle ≡ b = ran.same_bundle ∙ began.bundle ∙ c.requires.made in
     let same : new.history ≡ gen_history c.args.number c.args.size =
-    ran.history ∙ (λ j. sched_from ((ap plain began.bundle ∙ c.requires.made) j) (began.history j) None (began.limit j)) in
+    ran.history ∙ (λ j. sched_from ((began.bundle ∙ c.requires.made) j) (began.history j) None (began.limit j)) in
     let ended : (how ≡ finish.Ended) ↔ (network_ended b.cast (network_at b new.history) ≡ true) =
     subst (λ (of : PlainBundle). (how ≡ finish.Ended) ↔ (network_ended of.cast (network_at of new.history) ≡ true)) owner ran.ended in
     let limit : (how ≡ finish.Limit) ↔ ((length new.history ≡ new.limit) × (network_ended b.cast (network_at b new.history) ≡ false)) =
     subst (λ (of : PlainBundle). (how ≡ finish.Limit) ↔ ((length new.history ≡ new.limit) × (network_ended of.cast (network_at of new.history) ≡ false))) owner ran.limit in
-    let written = c.in_ok-text.ensures ∙ (λ j. line_of_text (gen_line c.args.number c.args.size (c.requires.made j) new.history (network_at (owner j) new.history).updates)) in
+    let written = c.in_ok-line.ensures ∙ (λ j. line_of_text (gen_line c.args.number c.args.size (c.requires.made j) new.history (network_at (owner j) new.history).updates)) in
     gen_replied c.args.number c.args.size (subst IsAccepted c.requires.made c.requires.accepted) c.runs_are_sound.ensures new.history how
-    (record { end = c.end_of.result; text = c.in_ok-text.text }) same ended limit c.end_of.ensures written
+    (record { end = c.end_of.result; text = c.in_ok-line.line }) same ended limit c.end_of.ensures written

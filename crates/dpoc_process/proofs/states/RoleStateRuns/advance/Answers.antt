@@ -26,13 +26,13 @@ returns-clause-steps c = λ given brings.
     let is_write : write_of c.unwrap-ready.result.write
     ≡ write_at (value_at s ready.part) ready.part =
     ap (λ r. write_of r.write) used ∙ ready.made.write in
-    let changed : process c.advanced.result ≡ replaced me a P
+    let changed : process c.advanced-after.result ≡ replaced me a P
     (grown (growth_of c.unwrap-ready.result.growth) h) =
-    c.advanced.ensures.changed
+    c.advanced-after.ensures.changed
     ∙ ap (λ p. replaced me a (process p) (grown (growth_of c.unwrap-ready.result.growth) h))
     c.replace-proc.ensures.value in
-    subst (IsStep (local me P s) a given) (ap₂ (local me) (sym changed)
-    (sym c.advanced.ensures.stored))
+    subst (IsStep (local me P s) a given) (ap₂ (local me)
+    (sym (ap process c.replace.ensures.after ∙ changed)) (sym c.advanced-after.ensures.stored))
     (state-steps me s a P ready.acts h (growth_of c.unwrap-ready.result.growth)
     (write_of c.unwrap-ready.result.write) c.requires.can
     is_growth is_write given brings)
