@@ -24,7 +24,7 @@ use Rattle.dioc_syntax.proofs.RoundTrip.{both_true}
 use Rattle.rule_syntax.specs.Grammar.{PlainChange}
 use Rattle.rule_syntax.specs.Laws.{FitsVersion}
 use Rattle.trace_text.proofs.Standing.{behind}
-use Rattle.bundle_text.specs.Grammar.{Section, Aioc, Rules, Environment, Inputs, Script, Joined, with_first, joined, added_rules, numbered, IsOnly, IsMadeOf, HasVersion, first_version, second_version, ReadsAs, Spells}
+use Rattle.bundle_text.specs.Grammar.{Section, Aioc, Rules, Environment, Inputs, Script, Joined, with_first, joined_sections, added_rules, numbered, IsOnly, IsMadeOf, HasVersion, first_version, second_version, ReadsAs, Spells}
 use Rattle.bundle_text.specs.Writing.{written_all, written_section, section_text, added_by, changes_of, timed_of, script_of, some, script_section, traced, sections_of, bundle_text}
 use Rattle.bundle_text.proofs.FormedParts.{IsRuleOf, IsFormedTimed, IsFormedTrace, IsFormedSection, all_both, all_first, all_mapped}
 use Rattle.bundle_text.proofs.RoundTrip.{many_written, from_test, section_stands, sections_show, written_version, version_shows}
@@ -104,11 +104,11 @@ sections_formed b formed =
     )
 
 -- what they have, joined
-some_joined : {A : Type 0} (make : List A → Section) (items : List A) (others : List Section) → ((found : Joined) → with_first (make []) found ≡ found) → joined (some make items ++ others) ≡ with_first (make items) (joined others)
-some_joined make [] others nothing = sym (nothing (joined others))
+some_joined : {A : Type 0} (make : List A → Section) (items : List A) (others : List Section) → ((found : Joined) → with_first (make []) found ≡ found) → joined_sections (some make items ++ others) ≡ with_first (make items) (joined_sections others)
+some_joined make [] others nothing = sym (nothing (joined_sections others))
 some_joined make (first ∷ rest) others nothing = refl
 
-script_joined : (rules : List PlainRule) (script : List Timed) (others : List Section) → joined (script_section rules script ++ others) ≡ with_first (Script (script_of rules script)) (joined others)
+script_joined : (rules : List PlainRule) (script : List Timed) (others : List Section) → joined_sections (script_section rules script ++ others) ≡ with_first (Script (script_of rules script)) (joined_sections others)
 script_joined rules [] others = refl
 script_joined rules (first ∷ rest) others = refl
 
@@ -121,13 +121,13 @@ record TraceAlone (found : Joined) (trace : Trace) : Type 0 where
   script : found.script ≡ []
   only : IsOnly found.traces trace
 
-traced_alone : (entries : List Entry) (end : Option Last) → TraceAlone (joined (traced entries end)) (record { entries = entries; last = end })
+traced_alone : (entries : List Entry) (end : Option Last) → TraceAlone (joined_sections (traced entries end)) (record { entries = entries; last = end })
 traced_alone [] None = record { choreos = refl; rules = refl; env = refl; inputs = refl; script = refl; only = refl }
 traced_alone [] (Some end) = record { choreos = refl; rules = refl; env = refl; inputs = refl; script = refl; only = refl }
 traced_alone (first ∷ rest) end = record { choreos = refl; rules = refl; env = refl; inputs = refl; script = refl; only = refl }
 
-all_joined : (b : PlainBundle) → joined (sections_of b)
-    ≡ with_first (Aioc b.choreo) (with_first (Rules (take b.opening b.rules)) (with_first (Environment b.env) (with_first (Inputs b.inputs) (with_first (Script (script_of b.rules b.script)) (joined (traced b.trace.entries b.trace.last))))))
+all_joined : (b : PlainBundle) → joined_sections (sections_of b)
+    ≡ with_first (Aioc b.choreo) (with_first (Rules (take b.opening b.rules)) (with_first (Environment b.env) (with_first (Inputs b.inputs) (with_first (Script (script_of b.rules b.script)) (joined_sections (traced b.trace.entries b.trace.last))))))
 all_joined b =
     let last = traced b.trace.entries b.trace.last in
     let script = script_section b.rules b.script ++ last in
@@ -141,9 +141,9 @@ all_joined b =
     (some_joined Inputs b.inputs script (λ found. refl)
     ∙ ap (with_first (Inputs b.inputs)) (script_joined b.rules b.script last))))
 
-pub made_again : (b : PlainBundle) → IsFormed b → IsMadeOf (joined (sections_of b)) b
+pub made_again : (b : PlainBundle) → IsFormed b → IsMadeOf (joined_sections (sections_of b)) b
 made_again b formed =
-    let last = joined (traced b.trace.entries b.trace.last) in
+    let last = joined_sections (traced b.trace.entries b.trace.last) in
     let alone = traced_alone b.trace.entries b.trace.last in
     let front = take b.opening b.rules in
     let changes = script_of b.rules b.script in

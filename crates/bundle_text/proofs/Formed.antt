@@ -24,7 +24,7 @@ use Rattle.rule_syntax.specs.Laws.{FitsVersion}
 use Rattle.rule_syntax.proofs.Formed.{rule_valid}
 use Rattle.trace_syntax.proofs.ReadFormed.{trace_formed}
 use Rattle.bundle_text.specs.Many.{Many, no_more, one_more}
-use Rattle.bundle_text.specs.Grammar.{inside_limit, IsBound, IsNextValue, IsInput, PlainTimed, IsTimed, Section, Aioc, Rules, Environment, Inputs, Script, Traced, IsSection, aioc, rules, environment, inputs, script, trace, Joined, joined, added_rules, count_added, numbered_change, numbered, IsOnly, HasVersion, first_version, second_version, IsBundle, Spells}
+use Rattle.bundle_text.specs.Grammar.{inside_limit, IsBound, IsNextValue, IsInput, PlainTimed, IsTimed, Section, Aioc, Rules, Environment, Inputs, Script, Traced, IsSection, aioc, rules, environment, inputs, script, trace, Joined, joined_sections, added_rules, count_added, numbered_change, numbered, IsOnly, HasVersion, first_version, second_version, IsBundle, Spells}
 use Rattle.bundle_text.proofs.FormedParts.{IsRuleOf, IsFormedChange, IsFormedTimed, IsFormedTrace, IsFormedSection, all_both, all_mapped, to_test}
 
 -- each lexeme can be written
@@ -118,11 +118,11 @@ record IsFormedJoined (version : ℕ) (found : Joined) : Type 0 where
   script : AllByRecursion (IsFormedTimed version) found.script
   traces : AllByRecursion IsFormedTrace found.traces
 
-with_formed : (version : ℕ) (section : Section) (others : List Section) → IsFormedSection version section → IsFormedJoined version (joined others) → IsFormedJoined version (joined (section ∷ others))
+with_formed : (version : ℕ) (section : Section) (others : List Section) → IsFormedSection version section → IsFormedJoined version (joined_sections others) → IsFormedJoined version (joined_sections (section ∷ others))
 with_formed version (Aioc whole) others one more = record { choreos = (one, more.choreos); rules = more.rules; env = more.env; inputs = more.inputs; script = more.script; traces = more.traces }
 with_formed version (Rules items) others one more = record {
   choreos = more.choreos;
-  rules = all_both (IsRuleOf version) items (joined others).rules one more.rules;
+  rules = all_both (IsRuleOf version) items (joined_sections others).rules one more.rules;
   env = more.env;
   inputs = more.inputs;
   script = more.script;
@@ -131,7 +131,7 @@ with_formed version (Rules items) others one more = record {
 with_formed version (Environment items) others one more = record {
   choreos = more.choreos;
   rules = more.rules;
-  env = all_both (λ bound. is_formed_binding bound ≡ true) items (joined others).env one more.env;
+  env = all_both (λ bound. is_formed_binding bound ≡ true) items (joined_sections others).env one more.env;
   inputs = more.inputs;
   script = more.script;
   traces = more.traces;
@@ -140,7 +140,7 @@ with_formed version (Inputs items) others one more = record {
   choreos = more.choreos;
   rules = more.rules;
   env = more.env;
-  inputs = all_both (λ input. is_formed_inputs input ≡ true) items (joined others).inputs one more.inputs;
+  inputs = all_both (λ input. is_formed_inputs input ≡ true) items (joined_sections others).inputs one more.inputs;
   script = more.script;
   traces = more.traces;
 }
@@ -149,12 +149,12 @@ with_formed version (Script items) others one more = record {
   rules = more.rules;
   env = more.env;
   inputs = more.inputs;
-  script = all_both (IsFormedTimed version) items (joined others).script one more.script;
+  script = all_both (IsFormedTimed version) items (joined_sections others).script one more.script;
   traces = more.traces;
 }
 with_formed version (Traced found) others one more = record { choreos = more.choreos; rules = more.rules; env = more.env; inputs = more.inputs; script = more.script; traces = (one, more.traces) }
 
-joined_formed : {version : ℕ} {from to : List Lexeme} {sections : List Section} → Many (IsSection version) from sections to → AllWritten from → IsFormedJoined version (joined sections)
+joined_formed : {version : ℕ} {from to : List Lexeme} {sections : List Section} → Many (IsSection version) from sections to → AllWritten from → IsFormedJoined version (joined_sections sections)
 joined_formed no_more valid = record { choreos = tt; rules = tt; env = tt; inputs = tt; script = tt; traces = tt }
 joined_formed {version} (one_more {first = first} {rest = rest} r s) valid =
     let one = section_formed r valid in with_formed version first rest one.0 (joined_formed s one.1)
@@ -216,7 +216,7 @@ pub bundle_formed : (from to : List Lexeme) (b : PlainBundle) → IsBundle from 
 bundle_formed from to b is valid =
     let inside = version_left is.version valid in
     let all = joined_formed is.stand inside in
-    let found = joined is.sections in
+    let found = joined_sections is.sections in
     let choreo = (subst (AllByRecursion (λ whole. IsFormedTerm whole × BodyFits b.version whole)) is.made.choreo all.choreos).0 in
     let rules = subst (AllByRecursion (IsRuleOf b.version)) (sym is.made.rules) (all_both (IsRuleOf b.version) found.rules (added_rules found.script) all.rules (rules_added b.version found.script all.script)) in
     let counts = ap length is.made.rules ∙ length-append found.rules (added_rules found.script) in

@@ -5,7 +5,7 @@ use Rattle.dioc_terms.specs.Terms.{Term}
 use Rattle.aioc_tokens.specs.Lexemes.{Lexeme}
 use Rattle.dioc_syntax.specs.Choreographies.{IsChoreography}
 use Rattle.bundle_text.specs.Many.{Many}
-use Rattle.bundle_text.specs.Grammar.{Section, Aioc, Traced, inside_limit, closed_before, IsSection, Joined, joined, IsOnly}
+use Rattle.bundle_text.specs.Grammar.{Section, Aioc, Traced, inside_limit, closed_before, IsSection, Joined, joined_sections, IsOnly}
 
 -- no items stand up to a `}`
 abbrev pub NoItems : {A : Type 0} → (List Lexeme → A → List Lexeme → Type 0) → List Lexeme → Type 0
@@ -32,5 +32,5 @@ NoChoreography version from = (whole : Term) (to : List Lexeme)
 -- it isn't that of sections with one choreography and at most one trace
 abbrev pub NoSections : ℕ → List Lexeme → Type 0
 NoSections version from = (sections : List Section) (choreo : Term) (found : Trace)
-    → Many (IsSection version) from sections [] → (joined sections).choreos ≡ choreo ∷ []
-    → IsOnly (joined sections).traces found → ⊥
+    → Many (IsSection version) from sections [] → (joined_sections sections).choreos ≡ choreo ∷ []
+    → IsOnly (joined_sections sections).traces found → ⊥

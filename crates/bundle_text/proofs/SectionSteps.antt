@@ -6,7 +6,7 @@ use Rattle.dioc_terms.specs.declared.bundles.Trace.{Trace}
 use Rattle.dioc_terms.specs.Terms.{term}
 use Rattle.aioc_tokens.specs.Lexemes.{Lexeme}
 use Rattle.bundle_text.specs.Many.{Many, no_more, one_more}
-use Rattle.bundle_text.specs.Grammar.{Section, Aioc, Traced, IsSection, Joined, nothing_joined, joined, IsOnly}
+use Rattle.bundle_text.specs.Grammar.{Section, Aioc, Traced, IsSection, Joined, nothing_joined, joined_sections, IsOnly}
 use Rattle.bundle_text.specs.Readers.{listed, listed_trace, with_last, TakesSection, TakesSections}
 use Rattle.bundle_text.specs.Stops.{EndsInSection, EndsAmongSections}
 use Rattle.bundle_text.proofs.Missing.{NoSections}
@@ -19,7 +19,7 @@ use Rattle.bundle_text.proofs.Joins.{joined_last, no_second}
 pub record SectionsSoFar (version : ℕ) (text : List Lexeme) (at : ℕ) (found : Joined) (next : ℕ) : Type 0 where
   pub sections : List Section
   pub stand : Many (IsSection version) (drop at text) sections (drop next text)
-  pub joins : found ≡ joined sections
+  pub joins : found ≡ joined_sections sections
 
 module _ (version : ℕ) (text : List Lexeme) (at : ℕ) where
   pub no_section_yet : (found : Joined) → found ≡ nothing_joined → SectionsSoFar version text at found at
@@ -54,8 +54,8 @@ module _ (version : ℕ) (text : List Lexeme) (at : ℕ) where
       by_rest : (rest : List Section) → sections ≡ ended_there.sections ++ rest → Many (IsSection version) (drop next text) rest [] → ⊥
       by_rest [] are s = let inside = ended_there.inside in omega (arith, length-drop next text, ap length (ended s refl))
       by_rest (first ∷ rest) are (one_more {middle = middle} r s) =
-          no_second first ended_there.sections rest choreo only (section_none version text next (joined ended_there.sections) place ended_there.ends first middle r) (sym (ap (λ all. (joined all).choreos) are) ∙ one)
-          (subst (λ all. IsOnly (joined all).traces only) are last)
+          no_second first ended_there.sections rest choreo only (section_none version text next (joined_sections ended_there.sections) place ended_there.ends first middle r) (sym (ap (λ all. (joined_sections all).choreos) are) ∙ one)
+          (subst (λ all. IsOnly (joined_sections all).traces only) are last)
 
 -- a choreography that was read before
 pub listed_some : (choreo : Option Choreo) → is_some choreo ≡ true → 0 < length (listed choreo)

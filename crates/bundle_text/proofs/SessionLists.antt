@@ -16,7 +16,7 @@ use Rattle.aioc_tokens.proofs.Readings.{one_reading}
 use Rattle.aioc_tokens.proofs.Unique.{tokens_or_bad_byte}
 use Rattle.expr_syntax.proofs.ReadFormed.{all_valid}
 use Rattle.bundle_text.specs.Many.{Many, one_more}
-use Rattle.bundle_text.specs.Grammar.{closed_before, Section, IsSection, aioc, rules, environment, inputs, script, trace, joined, IsOnly, IsMadeOf, HasVersion, first_version, second_version, IsBundle}
+use Rattle.bundle_text.specs.Grammar.{closed_before, Section, IsSection, aioc, rules, environment, inputs, script, trace, joined_sections, IsOnly, IsMadeOf, HasVersion, first_version, second_version, IsBundle}
 use Rattle.bundle_text.specs.Sessions.{IsSession, SpellsSessions, SpellsNoSessions, EndsInBrackets, before_close, at_close, EndsInSession, no_session, in_bundle, EndsAmongSessions, SessionsEndAtByte, too_long, bad_byte, at_token}
 use Rattle.bundle_text.proofs.FormedParts.{IsFormedSection}
 use Rattle.bundle_text.proofs.Formed.{AllWritten, Forms, many_formed, section_formed, bundle_formed}
@@ -45,7 +45,7 @@ bundles_same from b other to end is is2 =
     let begins = one_version refl is.version is2.version first.reads second.reads in
     let stand = subst (λ n. Many (IsSection n) is.inside is.sections (closed_before to)) begins.0 is.stand in
     let all = many_same sections_each (closed_section refl) (closed_section refl) begins.1 stand is2.stand in
-    (made_same (joined is2.sections) b other begins.0 (subst (λ sections. IsMadeOf (joined sections) b) all.0 is.made) is2.made, ap (drop 1) all.1)
+    (made_same (joined_sections is2.sections) b other begins.0 (subst (λ sections. IsMadeOf (joined_sections sections) b) all.0 is.made) is2.made, ap (drop 1) all.1)
 
 sessions_each : OneEach IsSession
 sessions_each from from2 to end b other froms is is2 =
@@ -80,7 +80,7 @@ sessions_formed bytes found bundles lexemes stand =
 
 -- where the reading of a bundle in brackets ends, none stands
 no_sections : {version : ℕ} {text : List Lexeme} {at place : ℕ} → EndsInBrackets version text at place → (sections : List Section) (choreo : Term) (only : Trace) (to : List Lexeme) → Many (IsSection version) (drop at text) sections (closed_before to)
-    → (joined sections).choreos ≡ choreo ∷ [] → IsOnly (joined sections).traces only → ⊥
+    → (joined_sections sections).choreos ≡ choreo ∷ [] → IsOnly (joined_sections sections).traces only → ⊥
 no_sections {version} {text} {at} {place} (before_close e) sections choreo only to stand one last = by_rest more.rest more.are more.stand
   where
     more : Behind (IsSection version) e.sections sections (drop e.next text) (closed_before to)
@@ -89,11 +89,11 @@ no_sections {version} {text} {at} {place} (before_close e) sections choreo only 
     by_rest : (rest : List Section) → sections ≡ e.sections ++ rest → Many (IsSection version) (drop e.next text) rest (closed_before to) → ⊥
     by_rest [] are s = e.no_close (ap sort_of (ended s refl))
     by_rest (first ∷ rest) are (one_more {middle = middle} r s) =
-        no_second first e.sections rest choreo only (section_none version text e.next (joined e.sections) place e.ends first middle r) (sym (ap (λ all. (joined all).choreos) are) ∙ one)
-        (subst (λ all. IsOnly (joined all).traces only) are last)
+        no_second first e.sections rest choreo only (section_none version text e.next (joined_sections e.sections) place e.ends first middle r) (sym (ap (λ all. (joined_sections all).choreos) are) ∙ one)
+        (subst (λ all. IsOnly (joined_sections all).traces only) are last)
 no_sections (at_close stand closed none) sections choreo only to stand2 one last =
     let all = many_same sections_each (closed_section closed) (closed_section refl) refl stand stand2 in
-    let same : [] ≡ choreo ∷ [] = sym none ∙ ap (λ list. (joined list).choreos) all.0 ∙ one in
+    let same : [] ≡ choreo ∷ [] = sym none ∙ ap (λ list. (joined_sections list).choreos) all.0 ∙ one in
     cc
 
 session_none : {text : List Lexeme} {at place : ℕ} → EndsInSession text at place → (b : PlainBundle) (to : List Lexeme) → IsSession (drop at text) b to → ⊥

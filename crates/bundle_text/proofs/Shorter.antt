@@ -9,7 +9,7 @@ use Rattle.dioc_syntax.proofs.Shorter.{stands_shorter}
 use Rattle.rule_syntax.specs.Grammar.{IsRule}
 use Rattle.rule_syntax.proofs.Shorter.{rule_shorter, binding_shorter, change_shorter}
 use Rattle.bundle_text.specs.Many.{Many, no_more, one_more}
-use Rattle.bundle_text.specs.Grammar.{inside_limit, IsBound, IsNextValue, IsInput, PlainTimed, IsTimed, Section, Aioc, Rules, Environment, Inputs, Script, Traced, IsSection, aioc, rules, environment, inputs, script, trace, joined}
+use Rattle.bundle_text.specs.Grammar.{inside_limit, IsBound, IsNextValue, IsInput, PlainTimed, IsTimed, Section, Aioc, Rules, Environment, Inputs, Script, Traced, IsSection, aioc, rules, environment, inputs, script, trace, joined_sections}
 use Rattle.bundle_text.proofs.TraceShorter.{trace_shorter}
 use Rattle.bundle_text.proofs.Repeated.{many_shorter}
 
@@ -32,7 +32,7 @@ timed_less : {version : ℕ} (from to : List Lexeme) (timed : PlainTimed) → Is
 timed_less from to timed is = let less = change_shorter is.change in omega (arith, ap length is.begins)
 
 -- so many rules and changes have a token each
-section_few : {version : ℕ} {from to : List Lexeme} {section : Section} → IsSection version from section to → (length (joined (section ∷ [])).rules + length (joined (section ∷ [])).script + length to ≤ length from) × (length to < length from)
+section_few : {version : ℕ} {from to : List Lexeme} {section : Section} → IsSection version from section to → (length (joined_sections (section ∷ [])).rules + length (joined_sections (section ∷ [])).script + length to ≤ length from) × (length to < length from)
 section_few (aioc begins is closes) = let less = stands_shorter is.stands in (omega (arith, ap length begins, ap length closes), omega (arith, ap length begins, ap length closes))
 section_few (rules {items = items} begins stand closes) =
     let less = many_shorter rule_less stand in
@@ -45,14 +45,14 @@ section_few (script {items = items} begins stand closes) =
 section_few (trace begins stand closes) = let less = trace_shorter stand in (omega (arith, ap length begins, ap length closes), omega (arith, ap length begins, ap length closes))
 
 -- and those of a section in front of others
-joined_few : (section : Section) (others : List Section) → (length (joined (section ∷ others)).rules + length (joined (section ∷ others)).script) ≡ length (joined (section ∷ [])).rules + length (joined (section ∷ [])).script + (length (joined others).rules + length (joined others).script)
+joined_few : (section : Section) (others : List Section) → (length (joined_sections (section ∷ others)).rules + length (joined_sections (section ∷ others)).script) ≡ length (joined_sections (section ∷ [])).rules + length (joined_sections (section ∷ [])).script + (length (joined_sections others).rules + length (joined_sections others).script)
 joined_few (Aioc whole) others = omega arith
-joined_few (Rules items) others = omega (arith, length-append items (joined others).rules, length-append items [])
+joined_few (Rules items) others = omega (arith, length-append items (joined_sections others).rules, length-append items [])
 joined_few (Environment items) others = omega arith
 joined_few (Inputs items) others = omega arith
-joined_few (Script items) others = omega (arith, length-append items (joined others).script, length-append items [])
+joined_few (Script items) others = omega (arith, length-append items (joined_sections others).script, length-append items [])
 joined_few (Traced found) others = omega arith
 
-pub sections_few : {version : ℕ} {from to : List Lexeme} {sections : List Section} → Many (IsSection version) from sections to → length (joined sections).rules + length (joined sections).script + length to ≤ length from
+pub sections_few : {version : ℕ} {from to : List Lexeme} {sections : List Section} → Many (IsSection version) from sections to → length (joined_sections sections).rules + length (joined_sections sections).script + length to ≤ length from
 sections_few no_more = omega arith
 sections_few (one_more {first = first} {rest = rest} r s) = let few = (section_few r).0 in let more = sections_few s in omega (arith, joined_few first rest)

@@ -1,20 +1,18 @@
 -- The bytes of a bundle are the text of its sections.
-use Rattle.std.proofs.Common.{◌≡◌, ℕ, ◌<◌, List, [], ◌∷◌, ◌++◌, length, map, take, Option, Some, None, codes, decimal, refl, ap, sym, ◌∙◌, append_assoc, append-nil}
+use Rattle.std.proofs.Common.{◌≡◌, ℕ, ◌<◌, List, [], ◌∷◌, ◌++◌, length, map, min, take, Option, Some, None, codes, decimal, refl, ap, sym, ◌∙◌, append_assoc, append-nil}
 use Rattle.std.specs.List.{flat_map}
-use Rattle.std.specs.Prelude.{slice_get, option_map}
+use Rattle.std.specs.Prelude.{slice_get}
 use Rattle.std.proofs.lemmas.Grind.{flat_map-append}
-use Rattle.std.proofs.lemmas.List.{take-map}
-use Rattle.std.proofs.lemmas.Option.{slice_get-map}
+use Rattle.std.proofs.lemmas.List.{take-map, take_min}
 use Rattle.dioc_terms.specs.declared.names.Role.{Role}
 use Rattle.dioc_terms.specs.declared.values.Value.{Value}
-use Rattle.dioc_terms.specs.declared.bundles.Rule.{Rule}
 use Rattle.dioc_terms.specs.declared.bundles.Change.{Change}
 use Rattle.dioc_terms.specs.declared.bundles.Change.TheVariants as change
 use Rattle.dioc_terms.specs.declared.bundles.Timed.{Timed}
-use Rattle.dioc_terms.specs.declared.bundles.Bundle.{Bundle}
+use Rattle.dioc_terms.specs.declared.bundles.Rule.{Rule}
 use Rattle.dioc_terms.specs.Expressions.{Const}
-use Rattle.dioc_terms.specs.Terms.{Term, term}
-use Rattle.dioc_terms.specs.Plain.{PlainRule, plain_rule, plain}
+use Rattle.dioc_terms.specs.Terms.{Term}
+use Rattle.dioc_terms.specs.Plain.{PlainBundle, PlainRule, plain_rule}
 use Rattle.aioc_tokens.specs.declared.words.Punctuator.TheVariants as punctuator
 use Rattle.aioc_tokens.specs.Lexemes.{Lexeme, Name, Symbol}
 use Rattle.aioc_tokens.specs.Spelling.{spelling, spelled}
@@ -54,8 +52,8 @@ all_behind seen write text each [] others = refl
 all_behind seen write text each (first ∷ rest) others =
     each first (written_all write (map seen rest) others) ∙ ap (λ more. text first ++ more) (all_behind seen write text each rest others) ∙ sym (append_assoc (text first) (flat_map text rest) (behind others))
 
-rule_behind : Behind plain_rule written_rule rule_text
-rule_behind rule others = ap (λ rest. 32 ∷ rest) (rule_before (plain_rule rule) others)
+rule_behind : Behind (λ (rule : PlainRule). rule) written_rule rule_text
+rule_behind rule others = ap (λ rest. 32 ∷ rest) (rule_before rule others)
 
 bound_behind : Behind (λ (bound : List ℕ × Value). bound) written_bound bound_text
 bound_behind bound others =
@@ -92,10 +90,10 @@ input_behind input others =
 
 -- a change of a script
 module _ (after : ℕ) where
-  added_behind : (rule : Rule) (others : List Lexeme) → behind (written_timed (record { after = after; change = Add (plain_rule rule) }) others) ≡ added_text after rule ++ behind others
+  added_behind : (rule : PlainRule) (others : List Lexeme) → behind (written_timed (record { after = after; change = Add rule }) others) ≡ added_text after rule ++ behind others
   added_behind rule others =
-      let text = spelled (written_rule (plain_rule rule) []) in
-      ap (λ rest. codes " after " ++ (decimal after ++ (codes " add " ++ rest))) (rule_before (plain_rule rule) others) ∙ regrouped (decimal after) text (behind others)
+      let text = spelled (written_rule rule []) in
+      ap (λ rest. codes " after " ++ (decimal after ++ (codes " add " ++ rest))) (rule_before rule others) ∙ regrouped (decimal after) text (behind others)
     where
       regrouped : (digits text rest : List ℕ) → codes " after " ++ (digits ++ (codes " add " ++ (text ++ rest))) ≡ ((codes " after " ++ (digits ++ codes " add ")) ++ text) ++ rest
       regrouped digits text rest = simp append_assoc
@@ -114,18 +112,18 @@ module _ (after : ℕ) where
       regrouped : (digits name text rest : List ℕ) → codes " after " ++ (digits ++ (codes " env " ++ (name ++ (codes " = " ++ (text ++ rest))))) ≡ ((codes " after " ++ digits ++ codes " env ") ++ name ++ codes " = " ++ text) ++ rest
       regrouped digits name text rest = simp append_assoc
 
-timed_behind : (rules : List Rule) (timed : Timed) (others : List Lexeme) → behind (written_all written_timed (timed_of (map plain_rule rules) timed) others) ≡ timed_text rules timed ++ behind others
+timed_behind : (rules : List PlainRule) (timed : Timed) (others : List Lexeme) → behind (written_all written_timed (timed_of rules timed) others) ≡ timed_text rules timed ++ behind others
 timed_behind rules timed others = by_change timed.change
   where
     made : List PlainChange → List PlainTimed
     made changes = map (λ (found : PlainChange). record { after = timed.after; change = found }) changes
 
-    by_rule : (found : Option Rule) → behind (written_all written_timed (made (added_by (option_map plain_rule found))) others) ≡ found_text timed.after found ++ behind others
+    by_rule : (found : Option PlainRule) → behind (written_all written_timed (made (added_by found)) others) ≡ found_text timed.after found ++ behind others
     by_rule None = refl
     by_rule (Some rule) = added_behind timed.after rule others
 
-    by_change : (found : Change) → behind (written_all written_timed (made (changes_of (map plain_rule rules) found)) others) ≡ change_text rules timed.after found ++ behind others
-    by_change (change.Add n) = ap (λ found. behind (written_all written_timed (made (added_by found)) others)) (slice_get-map plain_rule rules n) ∙ by_rule (slice_get rules n)
+    by_change : (found : Change) → behind (written_all written_timed (made (changes_of rules found)) others) ≡ change_text rules timed.after found ++ behind others
+    by_change (change.Add n) = by_rule (slice_get rules n)
     by_change (change.Drop name) = dropped_behind timed.after name others
     by_change (change.Env key value) = set_behind timed.after key value others
 
@@ -133,11 +131,11 @@ written_all-append : {A : Type 0} (write : A → List Lexeme → List Lexeme) (i
 written_all-append write [] more others = refl
 written_all-append write (first ∷ rest) more others = ap (write first) (written_all-append write rest more others)
 
-script_behind : (rules : List Rule) (script : List Timed) (others : List Lexeme) → behind (written_all written_timed (script_of (map plain_rule rules) script) others) ≡ flat_map (timed_text rules) script ++ behind others
+script_behind : (rules : List PlainRule) (script : List Timed) (others : List Lexeme) → behind (written_all written_timed (script_of rules script) others) ≡ flat_map (timed_text rules) script ++ behind others
 script_behind rules [] others = refl
 script_behind rules (first ∷ rest) others =
-    ap behind (written_all-append written_timed (timed_of (map plain_rule rules) first) (script_of (map plain_rule rules) rest) others)
-    ∙ timed_behind rules first (written_all written_timed (script_of (map plain_rule rules) rest) others) ∙ ap (λ more. timed_text rules first ++ more) (script_behind rules rest others)
+    ap behind (written_all-append written_timed (timed_of rules first) (script_of rules rest) others)
+    ∙ timed_behind rules first (written_all written_timed (script_of rules rest) others) ∙ ap (λ more. timed_text rules first ++ more) (script_behind rules rest others)
     ∙ sym (append_assoc (timed_text rules first) (flat_map (timed_text rules) rest) (behind others))
 
 -- the line of a section
@@ -162,11 +160,11 @@ map_same : {A : Type 0} (items : List A) → map (λ item. item) items ≡ items
 map_same [] = refl
 map_same (first ∷ rest) = ap (λ list. first ∷ list) (map_same rest)
 
-script_are : (rules : List Rule) (script : List Timed) → items_text (codes "script {") (timed_text rules) script ≡ flat_map section_text (script_section (map plain_rule rules) script)
+script_are : (rules : List PlainRule) (script : List Timed) → items_text (codes "script {") (timed_text rules) script ≡ flat_map section_text (script_section rules script)
 script_are rules [] = refl
 script_are rules (first ∷ rest) =
-    sym (append-nil (section_text (Script (script_of (map plain_rule rules) (first ∷ rest))))
-    ∙ line_of (codes "script") (written_all written_timed (script_of (map plain_rule rules) (first ∷ rest)) (closed_before [])) (flat_map (timed_text rules) (first ∷ rest)) (script_behind rules (first ∷ rest) (closed_before [])))
+    sym (append-nil (section_text (Script (script_of rules (first ∷ rest))))
+    ∙ line_of (codes "script") (written_all written_timed (script_of rules (first ∷ rest)) (closed_before [])) (flat_map (timed_text rules) (first ∷ rest)) (script_behind rules (first ∷ rest) (closed_before [])))
 
 choreography_is : (whole : Term) → choreography_text whole ≡ section_text (Aioc whole)
 choreography_is whole =
@@ -177,16 +175,15 @@ choreography_is whole =
     regrouped : (text : List ℕ) → (codes "aioc { " ++ (text ++ codes " }")) ++ 10 ∷ [] ≡ codes "aioc { " ++ (text ++ (codes " }" ++ 10 ∷ []))
     regrouped text = simp append_assoc
 
-pub text_is : (b : Bundle) → pieces_text b ≡ bundle_text (plain b)
+pub text_is : (b : PlainBundle) → pieces_text b ≡ bundle_text b
 text_is b =
-    let rules : List PlainRule = map plain_rule b.rules in
-    let opening = some Rules (take b.opening rules) in
+    let opening = some Rules (take b.opening b.rules) in
     let env = some Environment b.env in
     let inputs = some Inputs b.inputs in
-    let script = script_section rules b.script in
+    let script = script_section b.rules b.script in
     let last = traced b.trace.entries b.trace.last in
     let opening_is : items_text (codes "rules {") rule_text (take b.opening b.rules) ≡ flat_map section_text opening =
-    items_are Rules plain_rule written_rule (codes "rules") rule_text (λ items. refl) rule_behind (take b.opening b.rules) ∙ ap (λ list. flat_map section_text (some Rules list)) (sym (take-map plain_rule b.opening b.rules)) in
+    items_are Rules (λ item. item) written_rule (codes "rules") rule_text (λ items. refl) rule_behind (take b.opening b.rules) ∙ ap (λ list. flat_map section_text (some Rules list)) (map_same (take b.opening b.rules)) in
     let env_is : items_text (codes "env {") bound_text b.env ≡ flat_map section_text env =
     items_are Environment (λ item. item) written_bound (codes "env") bound_text (λ items. refl) bound_behind b.env ∙ ap (λ list. flat_map section_text (some Environment list)) (map_same b.env) in
     let inputs_is : items_text (codes "inputs {") input_text b.inputs ≡ flat_map section_text inputs =
@@ -201,12 +198,16 @@ text_is b =
     let pieces : sections_text b ++ f last ≡ f opening ++ (f env ++ (f inputs ++ (f script ++ f last))) =
     (λ j. (opening_is j ++ env_is j ++ inputs_is j ++ script_is j) ++ f last)
     ∙ regrouped (f opening) (f env) (f inputs) (f script) (f last) in
-    four (version_text b.version) (choreography_text (term b.choreo)) (sections_text b) (f last)
-    ∙ ap (λ more. version_text b.version ++ (choreography_text (term b.choreo) ++ more)) (pieces ∙ sym all)
-    ∙ ap (λ first. version_text b.version ++ (first ++ f (opening ++ (env ++ (inputs ++ (script ++ last)))))) (choreography_is (term b.choreo))
+    four (version_text b.version) (choreography_text b.choreo) (sections_text b) (f last)
+    ∙ ap (λ more. version_text b.version ++ (choreography_text b.choreo ++ more)) (pieces ∙ sym all)
+    ∙ ap (λ first. version_text b.version ++ (first ++ f (opening ++ (env ++ (inputs ++ (script ++ last)))))) (choreography_is b.choreo)
   where
     four : (a b c d : List ℕ) → a ++ b ++ c ++ d ≡ a ++ (b ++ (c ++ d))
     four a b c d = simp append_assoc
 
     regrouped : (a b c d e : List ℕ) → (a ++ b ++ c ++ d) ++ e ≡ a ++ (b ++ (c ++ (d ++ e)))
     regrouped a b c d e = simp append_assoc
+
+-- the rules that are written
+pub opening_rules : (opening : ℕ) (rules : List Rule) → map plain_rule (take (min opening (length rules)) rules) ≡ take opening (map plain_rule rules)
+opening_rules opening rules = ap (map plain_rule) (take_min opening rules) ∙ sym (take-map plain_rule opening rules)

@@ -18,7 +18,7 @@ use Rattle.rule_syntax.proofs.Unique.{some_same, rules_same, bindings_same, chan
 use Rattle.trace_syntax.specs.Grammar.{IsTrace}
 use Rattle.trace_syntax.proofs.TraceLaws.{one_trace}
 use Rattle.bundle_text.specs.Many.{Many, no_more, one_more}
-use Rattle.bundle_text.specs.Grammar.{inside_limit, IsBound, IsNextValue, AreValues, IsInput, PlainTimed, IsTimed, Section, Aioc, Rules, Environment, Inputs, Script, closed_before, IsSection, aioc, rules, environment, inputs, script, trace, Joined, joined, IsOnly, IsMadeOf, HasVersion, first_version, second_version, IsBundle, Spells, Traced}
+use Rattle.bundle_text.specs.Grammar.{inside_limit, IsBound, IsNextValue, AreValues, IsInput, PlainTimed, IsTimed, Section, Aioc, Rules, Environment, Inputs, Script, closed_before, IsSection, aioc, rules, environment, inputs, script, trace, Joined, joined_sections, IsOnly, IsMadeOf, HasVersion, first_version, second_version, IsBundle, Spells, Traced}
 use Rattle.bundle_text.proofs.Repeated.{OneEach, NoneAt, many_same}
 
 pub rules_each : {version : ℕ} → OneEach (IsRule version inside_limit)
@@ -234,7 +234,7 @@ pub record FirstSection (version : ℕ) (from : List Lexeme) : Type 0 where
   pub to : List Lexeme
   pub reads : IsSection version from section to
 
-pub first_section : {version : ℕ} {from to : List Lexeme} {sections : List Section} {choreo : Term} → Many (IsSection version) from sections to → (joined sections).choreos ≡ choreo ∷ [] → FirstSection version from
+pub first_section : {version : ℕ} {from to : List Lexeme} {sections : List Section} {choreo : Term} → Many (IsSection version) from sections to → (joined_sections sections).choreos ≡ choreo ∷ [] → FirstSection version from
 first_section no_more made = absurd (let lengths = ap length made in omega arith)
 first_section (one_more {middle = middle} {first = first} r s) made = record { section = first; to = middle; reads = r }
 
@@ -245,7 +245,7 @@ one_bundle_at from b other is is2 =
     let begins = one_version refl is.version is2.version first.reads second.reads in
     let stand = subst (λ n. Many (IsSection n) is.inside is.sections []) begins.0 is.stand in
     let all = many_same sections_each no_section no_section begins.1 stand is2.stand in
-    made_same (joined is2.sections) b other begins.0 (subst (λ sections. IsMadeOf (joined sections) b) all.0 is.made) is2.made
+    made_same (joined_sections is2.sections) b other begins.0 (subst (λ sections. IsMadeOf (joined_sections sections) b) all.0 is.made) is2.made
 
 pub one_bundle : (bytes : List ℕ) (b other : PlainBundle) → Spells bytes b → Spells bytes other → b ≡ other
 one_bundle bytes b other is is2 =

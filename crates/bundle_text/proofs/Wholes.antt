@@ -7,7 +7,7 @@ use Rattle.aioc_tokens.specs.Lexemes.{Lexeme, lexemes}
 use Rattle.aioc_tokens.proofs.Readings.{one_reading}
 use Rattle.aioc_tokens.proofs.Unique.{tokens_or_bad_byte}
 use Rattle.bundle_text.specs.Many.{Many}
-use Rattle.bundle_text.specs.Grammar.{IsSection, Joined, joined, IsBundle, SpellsNone}
+use Rattle.bundle_text.specs.Grammar.{IsSection, Joined, joined_sections, IsBundle, SpellsNone}
 use Rattle.bundle_text.specs.Readers.{FindsVersion, TakesSections}
 use Rattle.bundle_text.specs.Stops.{EndsBehind, in_section, over, EndsAt, EndsAtByte, too_long, bad_byte, at_token}
 use Rattle.bundle_text.proofs.Missing.{NoSections}
@@ -32,13 +32,13 @@ module _ (text : List Lexeme) (version at : ℕ) where
   pub no_choreography : (found : Joined) → TakesSections version (drop at text) found → found.choreos ≡ [] → NoSections version (drop at text)
   no_choreography found taken none sections choreo only stand one last =
       let all = many_same sections_each no_section no_section refl taken.stand stand in
-      let same : [] ≡ choreo ∷ [] = sym none ∙ ap (λ found. found.choreos) taken.joins ∙ ap (λ list. (joined list).choreos) all.0 ∙ one in
+      let same : [] ≡ choreo ∷ [] = sym none ∙ ap (λ found. found.choreos) taken.joins ∙ ap (λ list. (joined_sections list).choreos) all.0 ∙ one in
       cc
 
 -- where the reading ends, no bundle stands
 behind_none : {version : ℕ} {text : List Lexeme} {at place : ℕ} → EndsBehind version text at place → NoSections version (drop at text)
 behind_none {version} {text} {at} {place} (in_section ends) = sections_none version text at place ends
-behind_none {version} {text} {at} (over {sections = sections} here stand none) = no_choreography text version at (joined sections) (record { sections = sections; stand = stand; joins = refl }) none
+behind_none {version} {text} {at} (over {sections = sections} here stand none) = no_choreography text version at (joined_sections sections) (record { sections = sections; stand = stand; joins = refl }) none
 
 pub none_whole : (text : List Lexeme) (place : ℕ) → EndsAt text place → (b : PlainBundle) → IsBundle text b [] → ⊥
 none_whole text place ends = no_whole text ends.version ends.at ends.begins (behind_none ends.ends)

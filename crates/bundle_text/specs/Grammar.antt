@@ -150,9 +150,9 @@ abbrev pub nothing_joined : Joined
 nothing_joined =
     record { choreos = []; rules = []; env = []; inputs = []; script = []; traces = [] }
 
-abbrev pub joined : List Section → Joined
-joined [] = nothing_joined
-joined (first ∷ rest) = with_first first (joined rest)
+abbrev pub joined_sections : List Section → Joined
+joined_sections [] = nothing_joined
+joined_sections (first ∷ rest) = with_first first (joined_sections rest)
 
 -- the rules that a script adds, in its order
 abbrev pub with_added : PlainChange → List PlainRule → List PlainRule
@@ -219,7 +219,7 @@ pub record IsBundle (from : List Lexeme) (b : PlainBundle) (to : List Lexeme) : 
   pub version : HasVersion from b.version inside
   pub sections : List Section
   pub stand : Many (IsSection b.version) inside sections to
-  pub made : IsMadeOf (joined sections) b
+  pub made : IsMadeOf (joined_sections sections) b
 
 -- the bytes read as the bundle: their lexemes are those of the bundle
 pub record ReadsAs (bytes : List ℕ) (b : PlainBundle) : Type 0 where

@@ -13,7 +13,7 @@ use Rattle.rule_syntax.specs.Grammar.{plain_change}
 use Rattle.rule_syntax.specs.Readers.{StandsAt}
 use Rattle.trace_syntax.specs.Grammar.{IsTrace}
 use Rattle.bundle_text.specs.Many.{Many}
-use Rattle.bundle_text.specs.Grammar.{AreValues, PlainTimed, IsTimed, Section, Aioc, Rules, Environment, Inputs, Script, Traced, inside_limit, closed_before, IsSection, Joined, joined, HasVersion}
+use Rattle.bundle_text.specs.Grammar.{AreValues, PlainTimed, IsTimed, Section, Aioc, Rules, Environment, Inputs, Script, Traced, inside_limit, closed_before, IsSection, Joined, joined_sections, HasVersion}
 use Rattle.bundle_text.specs.declared.parts.ReadTimed.{ReadTimed}
 use Rattle.bundle_text.specs.declared.parts.Parts.{Parts}
 
@@ -130,4 +130,4 @@ NoTrace from = (found : Trace) (to : List Lexeme)
 pub record TakesSections (version : ℕ) (from : List Lexeme) (found : Joined) : Type 0 where
   pub sections : List Section
   pub stand : Many (IsSection version) from sections []
-  pub joins : found ≡ joined sections
+  pub joins : found ≡ joined_sections sections

@@ -5,7 +5,7 @@ use Rattle.aioc_tokens.specs.declared.words.Punctuator.TheVariants as punctuator
 use Rattle.aioc_tokens.specs.declared.words.Sort.TheVariants as sorts
 use Rattle.aioc_tokens.specs.Lexemes.{Lexeme, sort_of}
 use Rattle.bundle_text.specs.Many.{Many}
-use Rattle.bundle_text.specs.Grammar.{closed_before, Section, IsSection, Joined, joined, IsMadeOf}
+use Rattle.bundle_text.specs.Grammar.{closed_before, Section, IsSection, Joined, joined_sections, IsMadeOf}
 use Rattle.bundle_text.specs.Sessions.{IsSession}
 
 -- sections stand from one place of the text up to the other, at which a `}` stands, and this is
@@ -14,7 +14,7 @@ pub record TakesClosed (version : ℕ) (text : List Lexeme) (at : ℕ) (found : 
     Type 0 where
   pub sections : List Section
   pub stand : Many (IsSection version) (drop at text) sections (drop closes text)
-  pub joins : found ≡ joined sections
+  pub joins : found ≡ joined_sections sections
   pub closed : sort_of (drop closes text) ≡ sorts.Symbol punctuator.RightBrace
   pub after : at ≤ closes
 
@@ -24,7 +24,7 @@ pub record TakesBundle (version : ℕ) (text : List Lexeme) (at : ℕ) (b : Plai
     Type 0 where
   pub sections : List Section
   pub stand : Many (IsSection version) (drop at text) sections (closed_before (drop next text))
-  pub made : IsMadeOf (joined sections) b
+  pub made : IsMadeOf (joined_sections sections) b
   pub same_version : b.version ≡ version
   pub after : at < next
   pub within : next ≤ length text

@@ -10,7 +10,7 @@ use Rattle.aioc_tokens.specs.Lexing.{Lexes, Breaks, place_of}
 use Rattle.aioc_tokens.specs.Lexemes.{Lexeme, sort_of, lexemes, HasLexemes}
 use Rattle.wanted_tokens.specs.declared.goals.Goal.TheVariants as goal
 use Rattle.bundle_text.specs.Many.{Many}
-use Rattle.bundle_text.specs.Grammar.{opened_by, closed_before, Section, IsSection, joined, IsBundle}
+use Rattle.bundle_text.specs.Grammar.{opened_by, closed_before, Section, IsSection, joined_sections, IsBundle}
 use Rattle.bundle_text.specs.Readers.{FindsVersion}
 use Rattle.bundle_text.specs.Stops.{EndsInSection, named_place}
 
@@ -49,7 +49,7 @@ pub record EndsBeforeClose (version : ℕ) (text : List Lexeme) (at place : ℕ)
   pub next : ℕ
   pub stand : Many (IsSection version) (drop at text) sections (drop next text)
   pub no_close : sort_of (drop next text) ≢ sorts.Symbol punctuator.RightBrace
-  pub ends : EndsInSection version text next (joined sections) place
+  pub ends : EndsInSection version text next (joined_sections sections) place
 
 -- The reading of a bundle of this version from one place on up to a `}` ends at the other: in a
 -- section, or at the `}`, where no section has a choreography.
@@ -58,7 +58,7 @@ pub data EndsInBrackets (version : ℕ) (text : List Lexeme) (at place : ℕ) : 
   at_close : {sections : List Section}
       → Many (IsSection version) (drop at text) sections (drop place text)
       → sort_of (drop place text) ≡ sorts.Symbol punctuator.RightBrace
-      → (joined sections).choreos ≡ []
+      → (joined_sections sections).choreos ≡ []
       → EndsInBrackets version text at place
 
 -- the reading of a session from one place of the text on ends at the other: no session begins
@@ -82,8 +82,8 @@ pub record EndsAmongSessions (text : List Lexeme) (place : ℕ) : Type 0 where
   pub more : (next < length text) ⊎ (sessions ≡ [])
   pub ends : EndsInSession text next place ⊎ ((place ≡ next) × (most_sessions ≤ length sessions))
 
--- A fault names this byte of a text that spells no sessions: that of the limit of a text which is too
--- long, the first that is in no token, or the first of a token, or the end of the text.
+-- A fault names this byte of a text that spells no sessions: that of the limit of a text which is
+-- too long, the first that is in no token, or the first of a token, or the end of the text.
 pub data SessionsEndAtByte (bytes : List ℕ) (byte : ℕ) : Type 0 where
   too_long : most_bytes < length bytes → byte ≡ most_bytes → SessionsEndAtByte bytes byte
   bad_byte : length bytes ≤ most_bytes → Breaks 0 bytes byte → SessionsEndAtByte bytes byte

@@ -17,7 +17,7 @@ use Rattle.rule_syntax.specs.Grammar.{IsRule}
 use Rattle.bundle_text.specs.declared.stops.Stop.{Stop}
 use Rattle.bundle_text.specs.declared.stops.Stop.TheVariants as stop
 use Rattle.bundle_text.specs.Many.{Many}
-use Rattle.bundle_text.specs.Grammar.{inside_limit, opened_by, IsBound, IsInput, IsTimed, Section, IsSection, Joined, joined}
+use Rattle.bundle_text.specs.Grammar.{inside_limit, opened_by, IsBound, IsInput, IsTimed, Section, IsSection, Joined, joined_sections}
 use Rattle.bundle_text.specs.Readers.{NoTrace, FindsVersion}
 
 -- the place among the tokens at which a reader stopped
@@ -116,7 +116,7 @@ pub record EndsAmongSections (version : ℕ) (text : List Lexeme) (at place : �
   pub next : ℕ
   pub stand : Many (IsSection version) (drop at text) sections (drop next text)
   pub inside : next < length text
-  pub ends : EndsInSection version text next (joined sections) place
+  pub ends : EndsInSection version text next (joined_sections sections) place
 
 -- The reading of a text of this version from one place on ends at the other: in a section, or at
 -- the end of the text, where no section has a choreography.
@@ -125,7 +125,7 @@ pub data EndsBehind (version : ℕ) (text : List Lexeme) (at place : ℕ) : Type
   over : {sections : List Section}
       → place ≡ length text
       → Many (IsSection version) (drop at text) sections []
-      → (joined sections).choreos ≡ []
+      → (joined_sections sections).choreos ≡ []
       → EndsBehind version text at place
 
 -- the reading of a list of lexemes ends at this place
@@ -136,8 +136,8 @@ pub record EndsAt (text : List Lexeme) (place : ℕ) : Type 0 where
   pub ends : EndsBehind version text at place
 
 -- The token of a text that a fault names: the first one that may not stand there, or the end where
--- more is wanted. Where each token may stand, brackets or depths pass a limit, or there are too many
--- sessions; then it is the place at which the reading ended.
+-- more is wanted. Where each token may stand, brackets or depths pass a limit, or there are too
+-- many sessions; then it is the place at which the reading ended.
 abbrev pub or_else : Option ℕ → ℕ → ℕ
 or_else (Some first) place = first
 or_else None place = place

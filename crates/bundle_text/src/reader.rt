@@ -22,9 +22,10 @@ use wanted_tokens::Goal;
 ///
 /// The error is `Syntax` exactly where they spell none. Its number is a byte: the limit of bytes
 /// where there are more, the first byte that is in no token, or the first of the token that may not
-/// stand where it does, however deep inside, or the end of the text where more is wanted. Where each
-/// token may stand and a limit of brackets or depths is passed, it is that of the item inside which
-/// it is, or the token behind the longest choreography. The error is `Memory` where memory runs out.
+/// stand where it does, however deep inside, or the end of the text where more is wanted. Where
+/// each token may stand and a limit of brackets or depths is passed, it is that of the item inside
+/// which it is, or the token behind the longest choreography. The error is `Memory` where memory
+/// runs out.
 pub fn read_bundle(alloc: Global, bytes: &[u8]) -> Result<Bundle, SyntaxFault>
     ensures found { IfOk result (λ b. Spells bytes.now (plain b)) }
     ensures syntax { IfErr result (λ fault. fault ≢ SyntaxFault.Memory → SpellsNone bytes.now) }

@@ -1,8 +1,8 @@
 //! Bundles as they are written.
 
-ghost use Rattle.std.specs.Prelude.{◌≡◌, ◌++◌, [], ◌∷◌, codes, OnOk, OnErr};
+ghost use Rattle.std.specs.Prelude.{◌≡◌, ◌++◌, [], ◌∷◌, codes, map, take, OnOk, OnErr};
 ghost use Rattle.std.specs.List.{flat_map};
-ghost use Rattle.dioc_terms.specs.Plain.{plain};
+ghost use Rattle.dioc_terms.specs.Plain.{plain, plain_rule};
 ghost use Rattle.dioc_terms.specs.Terms.{term};
 ghost use Rattle.text_pieces.specs.Pieces.{KeepsFront};
 ghost use Rattle.bundle_text.specs.Writing.{entry_text, end_text, version_text, bundle_text};
@@ -33,7 +33,7 @@ pub fn write_bundle(bundle: &Bundle, out: &mut Vec<u8>) -> Result<(), Memory>
 }
 
 fn write_pieces(bundle: &Bundle, out: &mut Vec<u8>) -> Result<(), Memory>
-    ensures ok { OnOk result (out.new.items ≡ out.old.items ++ pieces_text bundle.now) }
+    ensures ok { OnOk result (out.new.items ≡ out.old.items ++ pieces_text (plain bundle.now)) }
     ensures memory { OnErr result (KeepsFront out.old.items out.new.items) }
 {
     write_version(bundle.version, out)?;
@@ -43,17 +43,27 @@ fn write_pieces(bundle: &Bundle, out: &mut Vec<u8>) -> Result<(), Memory>
 }
 
 /// The sections between the choreography and the trace.
-#[tactic(auto, using(std::proofs::lemmas::List::take_min))]
 fn write_sections(bundle: &Bundle, out: &mut Vec<u8>) -> Result<(), Memory>
-    ensures ok { OnOk result (out.new.items ≡ out.old.items ++ sections_text bundle.now) }
+    ensures ok { OnOk result (out.new.items ≡ out.old.items
+        ++ sections_text (plain bundle.now)) }
+    ensures memory { OnErr result (KeepsFront out.old.items out.new.items) }
+{
+    write_opening(bundle, out)?;
+    write_environment(bundle.env.as_slice(), out)?;
+    write_inputs(bundle.inputs.as_slice(), out)?;
+    write_script(bundle.rules.as_slice(), bundle.script.as_slice(), out)
+}
+
+/// The section of the rules that are in the book from the start.
+#[tactic(auto, using(crate::proofs::Spells::opening_rules))]
+fn write_opening(bundle: &Bundle, out: &mut Vec<u8>) -> Result<(), Memory>
+    ensures ok { OnOk result (out.new.items ≡ out.old.items ++ items_text (codes "rules {")
+        rule_text (take bundle.now.opening (map plain_rule bundle.now.rules))) }
     ensures memory { OnErr result (KeepsFront out.old.items out.new.items) }
 {
     let rules = bundle.rules.as_slice();
     let opening = (bundle.opening as usize).min(rules.len());
-    write_rules(&rules[..opening], out)?;
-    write_environment(bundle.env.as_slice(), out)?;
-    write_inputs(bundle.inputs.as_slice(), out)?;
-    write_script(rules, bundle.script.as_slice(), out)
+    write_rules(&rules[..opening], out)
 }
 
 fn write_version(version: u32, out: &mut Vec<u8>) -> Result<(), Memory>
@@ -79,7 +89,7 @@ fn write_choreography(choreo: &Choreo, out: &mut Vec<u8>) -> Result<(), Memory>
 
 fn write_rules(rules: &[Rule], out: &mut Vec<u8>) -> Result<(), Memory>
     ensures ok { OnOk result (out.new.items ≡
-        out.old.items ++ items_text (codes "rules {") rule_text rules.now) }
+        out.old.items ++ items_text (codes "rules {") rule_text (map plain_rule rules.now)) }
     ensures memory { OnErr result (KeepsFront out.old.items out.new.items) }
 {
     if rules.is_empty() {
@@ -92,7 +102,8 @@ fn write_rules(rules: &[Rule], out: &mut Vec<u8>) -> Result<(), Memory>
 
 #[tactic(auto, using(text_pieces::proofs::KeptFronts::front_of_front))]
 fn write_each_rule(rules: &[Rule], out: &mut Vec<u8>) -> Result<(), Memory>
-    ensures ok { OnOk result (out.new.items ≡ out.old.items ++ flat_map rule_text rules.now) }
+    ensures ok { OnOk result (out.new.items ≡ out.old.items
+        ++ flat_map rule_text (map plain_rule rules.now)) }
     ensures memory { OnErr result (KeepsFront out.old.items out.new.items) }
 {
     for rule in rules {
@@ -103,7 +114,7 @@ fn write_each_rule(rules: &[Rule], out: &mut Vec<u8>) -> Result<(), Memory>
 
 /// A rule with a space before it.
 fn write_spaced_rule(rule: &Rule, out: &mut Vec<u8>) -> Result<(), Memory>
-    ensures ok { OnOk result (out.new.items ≡ out.old.items ++ rule_text rule.now) }
+    ensures ok { OnOk result (out.new.items ≡ out.old.items ++ rule_text (plain_rule rule.now)) }
     ensures memory { OnErr result (KeepsFront out.old.items out.new.items) }
 {
     write_bytes(b" ", out)?;
@@ -218,7 +229,8 @@ fn write_next_value(next: &Value, out: &mut Vec<u8>) -> Result<(), Memory>
 
 fn write_script(rules: &[Rule], script: &[Timed], out: &mut Vec<u8>) -> Result<(), Memory>
     ensures ok { OnOk result (out.new.items ≡
-        out.old.items ++ items_text (codes "script {") (timed_text rules.now) script.now) }
+        out.old.items
+        ++ items_text (codes "script {") (timed_text (map plain_rule rules.now)) script.now) }
     ensures memory { OnErr result (KeepsFront out.old.items out.new.items) }
 {
     if script.is_empty() {
@@ -232,7 +244,7 @@ fn write_script(rules: &[Rule], script: &[Timed], out: &mut Vec<u8>) -> Result<(
 #[tactic(auto, using(text_pieces::proofs::KeptFronts::front_of_front))]
 fn write_each_timed(rules: &[Rule], script: &[Timed], out: &mut Vec<u8>) -> Result<(), Memory>
     ensures ok { OnOk result (out.new.items ≡
-        out.old.items ++ flat_map (timed_text rules.now) script.now) }
+        out.old.items ++ flat_map (timed_text (map plain_rule rules.now)) script.now) }
     ensures memory { OnErr result (KeepsFront out.old.items out.new.items) }
 {
     for timed in script {
@@ -243,7 +255,8 @@ fn write_each_timed(rules: &[Rule], script: &[Timed], out: &mut Vec<u8>) -> Resu
 
 /// A change of the script with a space before it.
 fn write_timed(rules: &[Rule], timed: &Timed, out: &mut Vec<u8>) -> Result<(), Memory>
-    ensures ok { OnOk result (out.new.items ≡ out.old.items ++ timed_text rules.now timed.now) }
+    ensures ok { OnOk result (out.new.items ≡ out.old.items
+        ++ timed_text (map plain_rule rules.now) timed.now) }
     ensures memory { OnErr result (KeepsFront out.old.items out.new.items) }
 {
     match &timed.change {
@@ -276,7 +289,8 @@ fn write_after(after: u64, word: &[u8], out: &mut Vec<u8>) -> Result<(), Memory>
 }
 
 fn write_added(after: u64, rule: &Rule, out: &mut Vec<u8>) -> Result<(), Memory>
-    ensures ok { OnOk result (out.new.items ≡ out.old.items ++ added_text after rule.now) }
+    ensures ok { OnOk result (out.new.items ≡ out.old.items
+        ++ added_text after (plain_rule rule.now)) }
     ensures memory { OnErr result (KeepsFront out.old.items out.new.items) }
 {
     write_after(after, b" add ", out)?;

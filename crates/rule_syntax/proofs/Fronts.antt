@@ -361,7 +361,7 @@ module _ (text : List Lexeme) (at : ℕ) where
 
   -- a change
   module _ (version room : ℕ) where
-    pub rule_added : (rule : Rule) (next : ℕ) → drop at text ≡ Name (codes "add") ∷ drop (at + 1) text → RuleAt version room text (at + 1) (Some (rule, next)) → StandsAt (IsChange version room) text at (Add (plain_rule rule)) next
+    pub rule_added : (rule : Rule) (next : ℕ) → drop at text ≡ Name (codes "add") ∷ drop (at + 1) text → RuleAt version room text (at + 1) (Some (plain_rule rule, next)) → StandsAt (IsChange version room) text at (Add (plain_rule rule)) next
     rule_added rule next begins found =
         let reads : IsChange version room (drop at text) (Add (plain_rule rule)) (drop next text) = adds begins found.front.reads in
         let after = found.after in

@@ -6,7 +6,7 @@ use Rattle.dioc_terms.specs.declared.expressions.Expr.{Expr}
 use Rattle.dioc_terms.specs.declared.choreographies.Choreo.{Choreo}
 use Rattle.dioc_terms.specs.Expressions.{Expression, expression}
 use Rattle.dioc_terms.specs.Terms.{Term, term}
-use Rattle.dioc_terms.specs.Plain.{plain_rule}
+use Rattle.dioc_terms.specs.Plain.{PlainRule, plain_rule}
 use Rattle.aioc_tokens.specs.declared.words.Sort.{Sort}
 use Rattle.aioc_tokens.specs.declared.words.Sort.TheVariants as sorts
 use Rattle.aioc_tokens.specs.declared.words.Punctuator.TheVariants as punctuator
@@ -28,15 +28,20 @@ pub record StandsAt {A : Type 0} (Reads : List Lexeme → A → List Lexeme →
 
 -- what a reader of rules answers: nothing where no rule stands at this place, else the longest one
 -- and the place behind it
-abbrev pub RuleAt : ℕ → ℕ → List Lexeme → ℕ → Option (Rule × ℕ) → Type 0
+abbrev pub RuleAt : ℕ → ℕ → List Lexeme → ℕ → Option (PlainRule × ℕ) → Type 0
 RuleAt version room text at None = NoFront (IsRule version room (drop at text))
-RuleAt version room text at (Some read) = StandsAt (IsRule version room) text at
-    (plain_rule read.0) read.1
+RuleAt version room text at (Some read) = StandsAt (IsRule version room) text at read.0 read.1
 
-abbrev pub ChangeAt : ℕ → ℕ → List Lexeme → ℕ → Option (ReadChange × ℕ) → Type 0
+abbrev pub ChangeAt : ℕ → ℕ → List Lexeme → ℕ → Option (PlainChange × ℕ) → Type 0
 ChangeAt version room text at None = NoFront (IsChange version room (drop at text))
-ChangeAt version room text at (Some read) = StandsAt (IsChange version room) text at
-    (plain_change read.0) read.1
+ChangeAt version room text at (Some read) = StandsAt (IsChange version room) text at read.0 read.1
+
+-- what was read, in its plain form, with the place behind it
+abbrev pub rule_seen : Rule × ℕ → PlainRule × ℕ
+rule_seen read = (plain_rule read.0, read.1)
+
+abbrev pub change_seen : ReadChange × ℕ → PlainChange × ℕ
+change_seen read = (plain_change read.0, read.1)
 
 abbrev pub BindingAt : List Lexeme → ℕ → Option ((List ℕ × Value) × ℕ) → Type 0
 BindingAt text at None = NoFront (IsBinding (drop at text))

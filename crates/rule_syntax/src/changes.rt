@@ -1,6 +1,7 @@
 //! Changes at a place of a text.
 
 ghost use Rattle.std.specs.Prelude.{◌≡◌, ℕ, ◌≤◌, drop, length, Err, IfOk};
+ghost use Rattle.std.specs.Option.{option_map};
 ghost use Rattle.dioc_terms.specs.declared.faults.SyntaxFault.TheVariants as fault;
 ghost use Rattle.aioc_tokens.specs.Fronts.{NoFront};
 ghost use Rattle.aioc_tokens.specs.Lexing.{Lexes, place_of};
@@ -8,7 +9,7 @@ ghost use Rattle.aioc_tokens.specs.Lexemes.{lexemes};
 ghost use Rattle.limits.specs.Limits.{most_brackets};
 ghost use Rattle.limits.specs.Limits.{greatest_place};
 ghost use Rattle.rule_syntax.specs.Grammar.{plain_change, IsChange};
-ghost use Rattle.rule_syntax.specs.Readers.{StandsAt, ChangeAt};
+ghost use Rattle.rule_syntax.specs.Readers.{StandsAt, ChangeAt, change_seen};
 
 use crate::bindings::binding_at;
 use crate::rules::rule_at;
@@ -43,7 +44,8 @@ pub fn change_at(
     at: usize,
 ) -> Result<Option<(ReadChange, usize)>, Memory>
     requires { length text.now ≤ greatest_place }
-    ensures { IfOk result (λ found. ChangeAt version room text.now at found) }
+    ensures { IfOk result (λ found.
+        ChangeAt version room text.now at (option_map change_seen found)) }
 {
     if text.named(at, b"add") {
         match rule_at(alloc, text, version, room, at + 1)? {

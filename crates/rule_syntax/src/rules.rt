@@ -1,6 +1,7 @@
 //! Rules at a place of a text.
 
 ghost use Rattle.std.specs.Prelude.{◌≡◌, ℕ, ◌≤◌, drop, length, Err, IfOk};
+ghost use Rattle.std.specs.Option.{option_map};
 ghost use Rattle.dioc_terms.specs.Plain.{plain_rule};
 ghost use Rattle.dioc_terms.specs.declared.faults.SyntaxFault.TheVariants as fault;
 ghost use Rattle.aioc_tokens.specs.Fronts.{NoFront};
@@ -9,7 +10,7 @@ ghost use Rattle.aioc_tokens.specs.Lexemes.{lexemes};
 ghost use Rattle.limits.specs.Limits.{most_brackets};
 ghost use Rattle.limits.specs.Limits.{greatest_place};
 ghost use Rattle.rule_syntax.specs.Grammar.{IsRule};
-ghost use Rattle.rule_syntax.specs.Readers.{StandsAt, RuleAt, HeadAt};
+ghost use Rattle.rule_syntax.specs.Readers.{StandsAt, RuleAt, HeadAt, rule_seen};
 
 use crate::parts::{body_at, condition_at, no_part};
 use crate::priorities::priority_at;
@@ -62,7 +63,8 @@ pub fn rule_at(
     at: usize,
 ) -> Result<Option<(Rule, usize)>, Memory>
     requires { length text.now ≤ greatest_place }
-    ensures { IfOk result (λ found. RuleAt version room text.now at found) }
+    ensures { IfOk result (λ found.
+        RuleAt version room text.now at (option_map rule_seen found)) }
 {
     if room < 2 {
         return Ok(None);

@@ -1,16 +1,17 @@
 use Rattle.std.proofs.Common.{◌+◌, subst}
-use Rattle.rule_syntax.specs.Readers.{RuleAt, BindingAt}
+use Rattle.std.specs.Option.{option_map}
+use Rattle.rule_syntax.specs.Readers.{RuleAt, BindingAt, rule_seen}
 use Rattle.rule_syntax.proofs.Fronts.{rule_added, rule_unadded, rule_dropped, rule_undropped, key_set, key_unset, no_change}
 use Rattle.rule_syntax.proofs.changes.change_at.Goals as goal
 
 pub returns-in-Some : goal.returns-in-Some
 returns-in-Some c =
     rule_added c.args.text.now c.args.at c.args.version c.args.room c.in-Some.rule c.in-Some.next (c.named.ensures.0 c.if-named.true)
-    (subst (RuleAt c.args.version c.args.room c.args.text.now (c.args.at + 1)) c.in-Some.is c.in_ok-rule.ensures)
+    (subst (λ found. RuleAt c.args.version c.args.room c.args.text.now (c.args.at + 1) (option_map rule_seen found)) c.in-Some.is c.in_ok-rule.ensures)
 
 pub returns-in-None : goal.returns-in-None
 returns-in-None c =
-    rule_unadded c.args.text.now c.args.at c.args.version c.args.room (c.named.ensures.0 c.if-named.true) (subst (RuleAt c.args.version c.args.room c.args.text.now (c.args.at + 1)) c.in-None.is c.in_ok-rule.ensures)
+    rule_unadded c.args.text.now c.args.at c.args.version c.args.room (c.named.ensures.0 c.if-named.true) (subst (λ found. RuleAt c.args.version c.args.room c.args.text.now (c.args.at + 1) (option_map rule_seen found)) c.in-None.is c.in_ok-rule.ensures)
 
 pub returns-in_ok-name : goal.returns-in_ok-name
 returns-in_ok-name c = rule_dropped c.args.text.now c.args.at c.args.version c.args.room c.in_ok-name.name (c.named-else-named.ensures.0 c.if-named-2.true) c.in_ok-name.ensures.value

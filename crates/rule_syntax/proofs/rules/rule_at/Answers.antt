@@ -1,9 +1,10 @@
 use Rattle.std.proofs.Common.{◌-◌, rules, w32, sym, subst}
+use Rattle.std.specs.Option.{option_map}
 use mir.Val.{SFits}
 use Rattle.std.proofs.lemmas.Int.{to_z-of_z}
 use Rattle.dioc_terms.specs.Expressions.{expression}
 use Rattle.dioc_terms.specs.Terms.{term}
-use Rattle.rule_syntax.specs.Readers.{ConditionAt, BodyAt, RuleAt}
+use Rattle.rule_syntax.specs.Readers.{ConditionAt, BodyAt, RuleAt, rule_seen}
 use Rattle.rule_syntax.proofs.Fronts.{headless, untested, unreplaced, rule_found}
 use Rattle.rule_syntax.proofs.rules.rule_at.Goals as goal
 
@@ -17,7 +18,7 @@ returns-in-None-2 c =
 
 pub returns-in-Ok-None : goal.returns-in-Ok-None
 returns-in-Ok-None c =
-    subst (RuleAt c.args.version c.args.room c.args.text.now c.args.at) (sym c.no_part.ensures)
+    subst (λ found. RuleAt c.args.version c.args.room c.args.text.now c.args.at (option_map rule_seen found)) (sym c.no_part.ensures)
     (unreplaced c.args.text.now c.args.at c.args.version c.args.room c.in-Some.head.0 c.in-Some.head.1 c.in-Some.ensures (expression c.in-Some-2.read.0) c.in-Some-2.read.1
     (subst (ConditionAt (c.args.room - 2) c.args.text.now c.in-Some.head.1) c.in-Some-2.is c.in_ok-read.ensures)
     (subst (BodyAt c.args.version (c.args.room - 2) c.args.text.now c.in-Some-2.read.1) c.in-Ok-None.field-0-is c.in-Ok-None.ensures))
