@@ -1,3 +1,5 @@
+//! A call of a device that failed, and the count of them.
+
 ghost use Rattle.std.specs.Prelude.{◌≡◌, ◌≤◌};
 ghost use Rattle.aioc_io.specs.Faults.{Rose, one_more};
 

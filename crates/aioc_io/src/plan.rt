@@ -1,3 +1,5 @@
+//! Which calls of a device in memory fail.
+
 ghost use Rattle.std.specs.Prelude.{◌≡◌, ◌≤◌, ◌↔◌, IsErr, OnErr};
 ghost use Rattle.aioc_io.specs.Faults.{Rose, count_after};
 

@@ -1,3 +1,5 @@
+//! Devices that fail as planned, and whole texts through them.
+
 ghost use Rattle.std.specs.Prelude.{◌≤◌};
 
 use super::*;

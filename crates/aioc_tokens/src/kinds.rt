@@ -1,4 +1,5 @@
-// What the tokens of a text are.
+//! What the tokens of a text are.
+
 use thiserror::Error;
 
 /// The kind of a token.

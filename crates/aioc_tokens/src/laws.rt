@@ -1,4 +1,5 @@
-// What holds of every text, as contracts of functions that do nothing.
+//! What holds of every text, as contracts of functions that do nothing.
+
 ghost use Rattle.aioc_tokens.specs.Laws.{EveryText, TokensOrBadByte, OneLexing, OneBadByte, TokensInOrder, EachIsLongest, OneReading, ReadHasSpelling, SpelledIsRead, WordsAreSpelled, PunctuatorsAreSpelled, NamesAreRead};
 
 /// A text has tokens, or some byte of it is in none.

@@ -1,4 +1,5 @@
-// Cutting a text into tokens.
+//! Cutting a text into tokens.
+
 ghost use Rattle.std.specs.Prelude.{◌≡◌, ℕ, ◌<◌, ◌≤◌, true, length, vec_len, slice_index, IfOk, IsTrue, ◌↔◌, MatchOption};
 ghost use Rattle.std.specs.Char.{is_ascii_alphabetic, is_ascii_digit};
 ghost use Rattle.std.specs.List.{prefix_len};

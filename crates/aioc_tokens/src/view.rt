@@ -1,4 +1,5 @@
-// A text with its tokens, as the grammar sees it.
+//! A text with its tokens, as the grammar sees it.
+
 ghost use Rattle.std.specs.Prelude.{◌≡◌, ◌≢◌, ℕ, ◌+◌, ◌^◌, ◌<◌, ◌≤◌, ◌∷◌, [], drop, length, slice_range, IfOk, IsTrue, ◌↔◌};
 ghost use Rattle.aioc_tokens.specs.declared.kinds.Kind.{Kind};
 ghost use Rattle.aioc_tokens.specs.Tokens.{Spells};
@@ -97,8 +98,8 @@ pub fn place(bytes: &[u8], tokens: &[Token], at: usize) -> usize
     }
 }
 
-/// The sorts of a text's tokens, in their order: what [`Lexed::with_sorts`] takes, so that no sort is
-/// found twice. The error says that memory ran out.
+/// The sorts of a text's tokens, in their order: what [`Lexed::with_sorts`] takes, so that no sort
+/// is found twice. The error says that memory ran out.
 pub fn sorts(alloc: Global, bytes: &[u8], tokens: &[Token]) -> Result<Vec<Sort>, AllocError>
     requires { Lexes 0 bytes.now tokens.now }
     ensures { IfOk result (λ found. found.items ≡ all_sorts (lexemes bytes.now tokens.now)) }

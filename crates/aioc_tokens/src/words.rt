@@ -1,4 +1,5 @@
-// The reserved words and the symbols.
+//! The reserved words and the symbols.
+
 ghost use Rattle.std.specs.Prelude.{◌≡◌, ◌∷◌, []};
 ghost use Rattle.aioc_tokens.specs.Words.{word_spelling, word_of, punctuator_spelling, punctuator_of};
 

@@ -13,7 +13,7 @@ use Rattle.dioc_terms.specs.Expressions.{Const}
 use Rattle.dioc_terms.specs.Names.{is_letter, is_digit, is_word, is_name, is_reserved, reserved_words}
 use Rattle.dioc_terms.specs.Terms.{Term, Skip, Com, Set, Input, Seq, Par, If, While, Scope, empty, is_in, mentions, first_appearances, cast_of, constructs, index_at, indexed_from, indexed, nodes}
 use Rattle.connectedness.specs.Connected.{starters, linked}
-use Rattle.mend.specs.Mended.{message, told, led_in, closed, opened, first_starter, through, join, relinked, added, with_numbers, mended}
+use Rattle.mend.specs.Mended.{message, told, led_in, closed, opened, first_starter, through, join, relinked, added_messages, with_numbers, mended}
 use Rattle.mend.specs.Names.{begins_sq, sq_name}
 use Rattle.bundle_mend.proofs.Sizes.{added-within}
 
@@ -235,7 +235,7 @@ other_first p c q r s t h k =
 first_of_five : (p q r s t : Bool) → (p && q && r && s && t) ≡ true → p ≡ true
 first_of_five p q r s t h = first_of_four p q r s (and_parts (p && q && r && s) t h).0
 
-numbered-formed : (n : ℕ) (I : Term) → n + added I ≤ 4294967296 → has_formed_parts I ≡ true → has_formed_parts (with_numbers n I) ≡ true
+numbered-formed : (n : ℕ) (I : Term) → n + added_messages I ≤ 4294967296 → has_formed_parts I ≡ true → has_formed_parts (with_numbers n I) ≡ true
 numbered-formed n Skip few h = h
 numbered-formed n (Com i o a e b x) few h =
     other_first (is_identifier o) (is_identifier (if begins_sq o then sq_name n else o)) (is_formed_role a) (is_formed_step e) (is_formed_role b) (is_identifier x) h
@@ -244,18 +244,18 @@ numbered-formed n (Set i x r e) few h = h
 numbered-formed n (Input i x r) few h = h
 numbered-formed n (Seq I J) few h =
     let parts = and_parts (has_formed_parts I) (has_formed_parts J) h in
-    and_from (has_formed_parts (with_numbers n I)) (has_formed_parts (with_numbers (n + added I) J)) (numbered-formed n I (omega (arith, few)) parts.0)
-    (numbered-formed (n + added I) J (omega (arith, few)) parts.1)
+    and_from (has_formed_parts (with_numbers n I)) (has_formed_parts (with_numbers (n + added_messages I) J)) (numbered-formed n I (omega (arith, few)) parts.0)
+    (numbered-formed (n + added_messages I) J (omega (arith, few)) parts.1)
 numbered-formed n (Par I J) few h =
     let parts = and_parts (has_formed_parts I) (has_formed_parts J) h in
-    and_from (has_formed_parts (with_numbers n I)) (has_formed_parts (with_numbers (n + added I) J)) (numbered-formed n I (omega (arith, few)) parts.0)
-    (numbered-formed (n + added I) J (omega (arith, few)) parts.1)
+    and_from (has_formed_parts (with_numbers n I)) (has_formed_parts (with_numbers (n + added_messages I) J)) (numbered-formed n I (omega (arith, few)) parts.0)
+    (numbered-formed (n + added_messages I) J (omega (arith, few)) parts.1)
 numbered-formed n (If i r g I J) few h =
     let parts = and_parts (is_formed_role r && is_formed_step g && has_formed_parts I) (has_formed_parts J) h in
     let front = and_parts (is_formed_role r && is_formed_step g) (has_formed_parts I) parts.0 in
-    and_from (is_formed_role r && is_formed_step g && has_formed_parts (with_numbers n I)) (has_formed_parts (with_numbers (n + added I) J))
+    and_from (is_formed_role r && is_formed_step g && has_formed_parts (with_numbers n I)) (has_formed_parts (with_numbers (n + added_messages I) J))
     (and_from (is_formed_role r && is_formed_step g) (has_formed_parts (with_numbers n I)) front.0 (numbered-formed n I (omega (arith, few)) front.1))
-    (numbered-formed (n + added I) J (omega (arith, few)) parts.1)
+    (numbered-formed (n + added_messages I) J (omega (arith, few)) parts.1)
 numbered-formed n (While i r g I) few h =
     let parts = and_parts (is_formed_role r && is_formed_step g) (has_formed_parts I) h in
     and_from (is_formed_role r && is_formed_step g) (has_formed_parts (with_numbers n I)) parts.0 (numbered-formed n I few parts.1)
@@ -284,7 +284,7 @@ indexed-formed n (Scope i r I extra props level) =
 pub mended-formed : (cast : List Role) (I : Term) → list_all is_formed_role cast ≡ true → has_formed_parts I ≡ true → nodes (mended cast I) ≤ 4294967295
     → has_formed_parts (mended cast I) ≡ true
 mended-formed cast I formed h small =
-    let few : added (relinked cast I) ≤ nodes (mended cast I) = added-within cast I in
+    let few : added_messages (relinked cast I) ≤ nodes (mended cast I) = added-within cast I in
     indexed-formed 0 (with_numbers 0 (relinked cast I)) ∙ numbered-formed 0 (relinked cast I) (omega (arith, few, small)) (joined-formed cast formed I h)
 
 -- The roles of a formed text are formed, and so is its cast
@@ -417,9 +417,9 @@ numbered-plain n Skip = refl
 numbered-plain n (Com i o a e b x) = refl
 numbered-plain n (Set i x r e) = refl
 numbered-plain n (Input i x r) = refl
-numbered-plain n (Seq I J) = ap₂ (λ s t. s && t) (numbered-plain n I) (numbered-plain (n + added I) J)
-numbered-plain n (Par I J) = ap₂ (λ s t. s && t) (numbered-plain n I) (numbered-plain (n + added I) J)
-numbered-plain n (If i r g I J) = ap₂ (λ s t. s && t) (numbered-plain n I) (numbered-plain (n + added I) J)
+numbered-plain n (Seq I J) = ap₂ (λ s t. s && t) (numbered-plain n I) (numbered-plain (n + added_messages I) J)
+numbered-plain n (Par I J) = ap₂ (λ s t. s && t) (numbered-plain n I) (numbered-plain (n + added_messages I) J)
+numbered-plain n (If i r g I J) = ap₂ (λ s t. s && t) (numbered-plain n I) (numbered-plain (n + added_messages I) J)
 numbered-plain n (While i r g I) = numbered-plain n I
 numbered-plain n (Scope i r I [] props level) = numbered-plain n I
 numbered-plain n (Scope i r I (q ∷ qs) props level) = refl

@@ -5,7 +5,7 @@ use Rattle.dioc_terms.specs.declared.names.Role.{Role}
 use Rattle.dioc_terms.specs.Equality.{role_eq, member}
 use Rattle.dioc_terms.specs.EqualityLemmas.{equality-decides}
 use Rattle.dioc_terms.specs.Terms.{Term, Skip, Com, Set, Input, Seq, Par, If, While, Scope, distinct_roles, constructs, indexed_from, nodes}
-use Rattle.mend.specs.Mended.{added, with_numbers, relinked, mended}
+use Rattle.mend.specs.Mended.{added_messages, with_numbers, relinked, mended}
 use Rattle.mend.specs.Names.{begins_sq}
 
 -- A list of roles without one of them
@@ -80,9 +80,9 @@ nodes-numbered n Skip = refl
 nodes-numbered n (Com i o a e b x) = refl
 nodes-numbered n (Set i x r e) = refl
 nodes-numbered n (Input i x r) = refl
-nodes-numbered n (Seq I J) = ap₂ (λ s t. suc (s + t)) (nodes-numbered n I) (nodes-numbered (n + added I) J)
-nodes-numbered n (Par I J) = ap₂ (λ s t. suc (s + t)) (nodes-numbered n I) (nodes-numbered (n + added I) J)
-nodes-numbered n (If i r g I J) = ap₂ (λ s t. suc (s + t)) (nodes-numbered n I) (nodes-numbered (n + added I) J)
+nodes-numbered n (Seq I J) = ap₂ (λ s t. suc (s + t)) (nodes-numbered n I) (nodes-numbered (n + added_messages I) J)
+nodes-numbered n (Par I J) = ap₂ (λ s t. suc (s + t)) (nodes-numbered n I) (nodes-numbered (n + added_messages I) J)
+nodes-numbered n (If i r g I J) = ap₂ (λ s t. suc (s + t)) (nodes-numbered n I) (nodes-numbered (n + added_messages I) J)
 nodes-numbered n (While i r g I) = ap suc (nodes-numbered n I)
 nodes-numbered n (Scope i r I extra props level) = ap suc (nodes-numbered n I)
 
@@ -104,26 +104,26 @@ one_or_none : (t : Bool) → (if t then 1 else 0) ≤ 1
 one_or_none true = omega arith
 one_or_none false = omega arith
 
-few_added : (I : Term) → added I ≤ nodes I
+few_added : (I : Term) → added_messages I ≤ nodes I
 few_added Skip = omega arith
 few_added (Com i o a e b x) = one_or_none (begins_sq o)
 few_added (Set i x r e) = omega arith
 few_added (Input i x r) = omega arith
 few_added (Seq I J) =
-    let one : added I ≤ nodes I = few_added I in
-    let other : added J ≤ nodes J = few_added J in
+    let one : added_messages I ≤ nodes I = few_added I in
+    let other : added_messages J ≤ nodes J = few_added J in
     omega (arith, one, other)
 few_added (Par I J) =
-    let one : added I ≤ nodes I = few_added I in
-    let other : added J ≤ nodes J = few_added J in
+    let one : added_messages I ≤ nodes I = few_added I in
+    let other : added_messages J ≤ nodes J = few_added J in
     omega (arith, one, other)
 few_added (If i r g I J) =
-    let one : added I ≤ nodes I = few_added I in
-    let other : added J ≤ nodes J = few_added J in
+    let one : added_messages I ≤ nodes I = few_added I in
+    let other : added_messages J ≤ nodes J = few_added J in
     omega (arith, one, other)
-few_added (While i r g I) = let one : added I ≤ nodes I = few_added I in omega (arith, one)
-few_added (Scope i r I extra props level) = let one : added I ≤ nodes I = few_added I in omega (arith, one)
+few_added (While i r g I) = let one : added_messages I ≤ nodes I = few_added I in omega (arith, one)
+few_added (Scope i r I extra props level) = let one : added_messages I ≤ nodes I = few_added I in omega (arith, one)
 
 -- a mended term has no more added messages than nodes
-pub added-within : (cast : List Role) (I : Term) → added (relinked cast I) ≤ nodes (mended cast I)
-added-within cast I = let few : added (relinked cast I) ≤ nodes (relinked cast I) = few_added (relinked cast I) in rw (same_size cast I) few
+pub added-within : (cast : List Role) (I : Term) → added_messages (relinked cast I) ≤ nodes (mended cast I)
+added-within cast I = let few : added_messages (relinked cast I) ≤ nodes (relinked cast I) = few_added (relinked cast I) in rw (same_size cast I) few

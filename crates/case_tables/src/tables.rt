@@ -111,8 +111,8 @@ where
     }
 }
 
-/// The answer to a case as it stands in the table: its lines, each with two spaces before it, or the
-/// line that says why the case is bad.
+/// The answer to a case as it stands in the table: its lines, each with two spaces before it, or
+/// the line that says why the case is bad.
 pub fn answer_lines(alloc: Global, answer: Result<Vec<u8>, Problem>) -> Result<Vec<u8>, Memory> {
     let mut out = Vec::new(alloc);
     match answer {

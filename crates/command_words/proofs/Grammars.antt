@@ -5,7 +5,7 @@ use Rattle.std.specs.List.{find, list_all, list_any, before_first, after_first, 
 use Rattle.std.specs.Str.{bytes_eq}
 use Rattle.std.proofs.lemmas.Slice.Eq.{bytes_eq-Decides}
 use Rattle.std.proofs.lemmas.Bool.Decides.{Decides-eqb}
-use Rattle.command_words.specs.Words.{Text, KnownOptions, Item, named, word, HyphenForm, form, plain, short, long, is_plain, is_plain_form, is_equals, name_in, value_behind_equals, ends, whole, opens, wrong, long_sight, sight_of, look, put_first, items, takes_value}
+use Rattle.command_words.specs.Words.{Text, KnownOptions, Item, named, word, HyphenForm, form, plain, short, long, is_plain, is_plain_form, is_equals, name_in, value_behind_equals, ends, whole, opens, wrong, long_sight, sight_of, text_sight, put_first, items, takes_value}
 use Rattle.command_words.specs.Grammar.{Spells, IsGrammar, nothing, flag, one_word, two_words, positional, ended}
 use Rattle.command_words.specs.Commands.{known_options}
 use Rattle.command_words.specs.declared.commands.Verb.{Verb}
@@ -73,22 +73,22 @@ equals_inside (byte ∷ rest) value = go (byte == 61) (equals_inside rest value)
 
 -- a word, by how it is written
 data Written (known : KnownOptions) (text : Text) : Type 0 where
-  end : text ≡ codes "--" → look known text ≡ ends → Written known text
+  end : text ≡ codes "--" → text_sight known text ≡ ends → Written known text
   flagged : (name : Text) → text ≡ codes "--" ++ name → takes_value known name ≡ Some false
-      → look known text ≡ whole (named name (codes "true")) → Written known text
+      → text_sight known text ≡ whole (named name (codes "true")) → Written known text
   joined : (name value : Text) → text ≡ codes "--" ++ (name ++ (codes "=" ++ value)) → takes_value known name ≡ Some true
-      → look known text ≡ whole (named name value) → Written known text
-  opened : (name : Text) → text ≡ codes "--" ++ name → takes_value known name ≡ Some true → look known text ≡ opens name
+      → text_sight known text ≡ whole (named name value) → Written known text
+  opened : (name : Text) → text ≡ codes "--" ++ name → takes_value known name ≡ Some true → text_sight known text ≡ opens name
       → Written known text
-  bare : is_plain text ≡ true → look known text ≡ whole (word text) → Written known text
-  other : look known text ≡ wrong → Written known text
+  bare : is_plain text ≡ true → text_sight known text ≡ whole (word text) → Written known text
+  other : text_sight known text ≡ wrong → Written known text
 
 written_long : (known : KnownOptions) (text rest : Text) → text ≡ codes "--" ++ rest
-    → look known text ≡ long_sight (name_in rest) (takes_value known (name_in rest)) (value_behind_equals rest) → Written known text
+    → text_sight known text ≡ long_sight (name_in rest) (takes_value known (name_in rest)) (value_behind_equals rest) → Written known text
 written_long known text rest is sees = by_equals (list_any is_equals rest) refl
   where
     by_value : (takes : Option Bool) → takes_value known (name_in rest) ≡ takes → (b : Bool) → list_any is_equals rest ≡ b
-        → look known text ≡ long_sight (name_in rest) takes (cond b (Some (after_first is_equals rest)) None) → Written known text
+        → text_sight known text ≡ long_sight (name_in rest) takes (cond b (Some (after_first is_equals rest)) None) → Written known text
     by_value (Some true) has true equals sees =
         joined (name_in rest) (after_first is_equals rest) (is ∙ ap (λ t. codes "--" ++ t) (some_equals rest equals)) has sees
     by_value (Some true) has false equals sees =
@@ -129,16 +129,16 @@ written known (one ∷ rest) = by_first (one == 45) refl rest
 -- ---- from what is read to what is spelled
 
 module _ (known : KnownOptions) where
-  items_whole : (text : Text) (item : Item) (words : List Text) → look known text ≡ whole item
+  items_whole : (text : Text) (item : Item) (words : List Text) → text_sight known text ≡ whole item
       → items known (text ∷ words) ≡ put_first item (items known words)
   items_whole text item [] sees = rw sees refl
   items_whole text item (value ∷ rest) sees = rw sees refl
 
-  items_ends : (text : Text) (words : List Text) → look known text ≡ ends → items known (text ∷ words) ≡ Some (map word words)
+  items_ends : (text : Text) (words : List Text) → text_sight known text ≡ ends → items known (text ∷ words) ≡ Some (map word words)
   items_ends text [] sees = rw sees refl
   items_ends text (value ∷ rest) sees = rw sees refl
 
-  items_wrong : (text : Text) (words : List Text) → look known text ≡ wrong → items known (text ∷ words) ≡ None
+  items_wrong : (text : Text) (words : List Text) → text_sight known text ≡ wrong → items known (text ∷ words) ≡ None
   items_wrong text [] sees = rw sees refl
   items_wrong text (value ∷ rest) sees = rw sees refl
 
@@ -166,7 +166,7 @@ module _ (known : KnownOptions) where
   word_spelled : (text : Text) (words : List Text) (found : List Item) → Written known text
       → items known (text ∷ words) ≡ Some found
       → ((rest : List Item) → items known words ≡ Some rest → Spells known words rest)
-      → ((name : Text) → look known text ≡ opens name → text ≡ codes "--" ++ name → takes_value known name ≡ Some true
+      → ((name : Text) → text_sight known text ≡ opens name → text ≡ codes "--" ++ name → takes_value known name ≡ Some true
       → Spells known (text ∷ words) found)
       → Spells known (text ∷ words) found
   word_spelled text words found (end is sees) e later opens_to =
@@ -231,7 +231,7 @@ named_option (one ∷ known) name takes all has =
 module _ (known : KnownOptions) (all : are_named known ≡ true) where
   -- what is seen of `--name` and `--name=value`
   sees_name : (name : Text) (takes : Bool) → is_named name ≡ true → takes_value known name ≡ Some takes
-      → look known (codes "--" ++ name) ≡ long_sight name (Some takes) None
+      → text_sight known (codes "--" ++ name) ≡ long_sight name (Some takes) None
   sees_name [] takes is has = cc
   sees_name (byte ∷ rest) takes is has =
       let none : list_any is_equals (byte ∷ rest) ≡ false = not_true (list_any is_equals (byte ∷ rest)) is in
@@ -243,7 +243,7 @@ module _ (known : KnownOptions) (all : are_named known ≡ true) where
       not_true false e = refl
 
   sees_value : (name value : Text) → is_named name ≡ true → takes_value known name ≡ Some true
-      → look known (codes "--" ++ (name ++ (codes "=" ++ value))) ≡ whole (named name value)
+      → text_sight known (codes "--" ++ (name ++ (codes "=" ++ value))) ≡ whole (named name value)
   sees_value [] value is has = cc
   sees_value (byte ∷ rest) value is has =
       let none : list_any is_equals (byte ∷ rest) ≡ false = not_true (list_any is_equals (byte ∷ rest)) is in
@@ -261,7 +261,7 @@ module _ (known : KnownOptions) (all : are_named known ≡ true) where
   sees_plain text short e = cc
   sees_plain text (long rest) e = cc
 
-  items_opens : (name text value : Text) (words : List Text) → look known text ≡ opens name
+  items_opens : (name text value : Text) (words : List Text) → text_sight known text ≡ opens name
       → items known (text ∷ value ∷ words) ≡ cond (is_plain value) (put_first (named name value) (items known words)) None
   items_opens name text value words sees = rw sees refl
 

@@ -6,7 +6,7 @@ use Rattle.std.proofs.lemmas.Slice.Eq.{bytes_eq-Decides}
 use Rattle.clap.specs.Lexer.{long_of, short_of, usize_max}
 use Rattle.clap.specs.Walk.{Row, Rule, Text, arg_by_id, arg_by_index, idle, option, settled_rows, used}
 use Rattle.clap.specs.Faults.{settle_fault, use_fault}
-use Rattle.command_words.specs.Words.{KnownOptions, GivenTexts, Item, named, word, is_plain, look, items, put_first, first, with_given, placed}
+use Rattle.command_words.specs.Words.{KnownOptions, GivenTexts, Item, named, word, is_plain, text_sight, items, put_first, first, with_given, with_positional}
 use Rattle.command_words.proofs.Rules.{Uses, passes, option_rule, word_rule, rows_for, option_uses, flag_uses, word_uses, use_given}
 use Rattle.command_words.proofs.Walking.{IsPlace, dashes, hold, run, state, run_ends, run_flag, run_flag_joined, run_joined, run_last, run_opens, run_plain, run_short, run_stray, run_trailing, run_unknown, open_nil, open_trailing, open_ends, open_unknown, open_long, open_short, open_plain}
 use Rattle.command_words.proofs.Sights.{Reads, Seen, seen, end, unknown, joined, flag, flag_joined, opening, short, plain}
@@ -24,8 +24,8 @@ place_of c place (name ∷ names) at_place = inr (name, place, at_place.0)
 
 -- an item more
 and_then_before : (names : List Text) (given : GivenTexts) (item : Item) (more : Option GivenTexts) (next : List Text) (found : Option (List Item))
-    → ((rest : List Item) → placed names given (item ∷ rest) ≡ option_and_then (λ g. placed next g rest) more)
-    → option_and_then (placed names given) (put_first item found) ≡ option_and_then (λ g. option_and_then (placed next g) found) more
+    → ((rest : List Item) → with_positional names given (item ∷ rest) ≡ option_and_then (λ g. with_positional next g rest) more)
+    → option_and_then (with_positional names given) (put_first item found) ≡ option_and_then (λ g. option_and_then (with_positional next g) found) more
 and_then_before names given item None next None by = refl
 and_then_before names given item (Some g) next None by = refl
 and_then_before names given item None next (Some rest) by = by rest
@@ -33,9 +33,9 @@ and_then_before names given item (Some g) next (Some rest) by = by rest
 
 -- both go on alike from what is given after a use
 same_after : (next : List Row → Option (List Row)) (names : List Text) (found : Option (List Item)) (more : Option GivenTexts)
-    → ((given : GivenTexts) → next (rows_for given) ≡ option_map rows_for (option_and_then (placed names given) found))
+    → ((given : GivenTexts) → next (rows_for given) ≡ option_map rows_for (option_and_then (with_positional names given) found))
     → option_and_then (λ given. next (rows_for given)) more
-    ≡ option_map rows_for (option_and_then (λ given. option_and_then (placed names given) found) more)
+    ≡ option_map rows_for (option_and_then (λ given. option_and_then (with_positional names given) found) more)
 same_after next names found None by = refl
 same_after next names found (Some given) by = by given
 
@@ -43,10 +43,10 @@ module _ (known : KnownOptions) (c : List Rule) (reads : Reads known c) where
   -- a use, and then the rest of the words
   use_then : (rule : Rule) (values : List Text) (name text : Text) (given : GivenTexts) (names next_names : List Text) (item : Item)
       (found : Option (List Item)) (next : List Row → Option (List Row)) → Uses rule values name text
-      → ((rest : List Item) → placed names given (item ∷ rest) ≡ option_and_then (λ g. placed next_names g rest) (with_given name text given))
-      → ((more : GivenTexts) → next (rows_for more) ≡ option_map rows_for (option_and_then (placed next_names more) found))
+      → ((rest : List Item) → with_positional names given (item ∷ rest) ≡ option_and_then (λ g. with_positional next_names g rest) (with_given name text given))
+      → ((more : GivenTexts) → next (rows_for more) ≡ option_map rows_for (option_and_then (with_positional next_names more) found))
       → cond (passes (use_fault false rule values (rows_for given))) (next (used rule values (rows_for given))) None
-      ≡ option_map rows_for (option_and_then (placed names given) (put_first item found))
+      ≡ option_map rows_for (option_and_then (with_positional names given) (put_first item found))
   use_then rule values name text given names next_names item found next uses by later =
       use_given rule values name text given next uses ∙ same_after next next_names found (with_given name text given) later
       ∙ sym (ap (option_map rows_for) (and_then_before names given item (with_given name text given) next_names found by))
@@ -60,11 +60,11 @@ module _ (known : KnownOptions) (c : List Rule) (reads : Reads known c) where
   -- behind `--`
   pub trailing_given : (words names : List Text) (given : GivenTexts) (place : ℕ) → Places c place names
       → run c (state idle (hold (rows_for given) None) place true) words
-      ≡ option_map rows_for (option_and_then (placed names given) (Some (map word words)))
+      ≡ option_map rows_for (option_and_then (with_positional names given) (Some (map word words)))
   unfolding run
   trailing_given [] names given place at_place = nothing names
     where
-      nothing : (names : List Text) → Some (rows_for given) ≡ option_map rows_for (placed names given [])
+      nothing : (names : List Text) → Some (rows_for given) ≡ option_map rows_for (with_positional names given [])
       nothing [] = refl
       nothing (name ∷ others) = refl
   trailing_given (text ∷ rest) [] given place at_place = run_last c (rows_for given) None place text rest at_place
@@ -81,13 +81,13 @@ module _ (known : KnownOptions) (c : List Rule) (reads : Reads known c) where
   plain_given : (text : Text) (rest names : List Text) (given : GivenTexts) (place : ℕ) (found : Option (List Item)) → AreTexts rest
       → Places c place names → bytes_eq text dashes ≡ false → long_of text ≡ None → short_of text ≡ None
       → ((more : GivenTexts) (names : List Text) (place : ℕ) → Places c place names
-      → run c (state idle (hold (rows_for more) None) place false) rest ≡ option_map rows_for (option_and_then (placed names more) found))
+      → run c (state idle (hold (rows_for more) None) place false) rest ≡ option_map rows_for (option_and_then (with_positional names more) found))
       → run c (state idle (hold (rows_for given) None) place false) (text ∷ rest)
-      ≡ option_map rows_for (option_and_then (placed names given) (put_first (word text) found))
+      ≡ option_map rows_for (option_and_then (with_positional names given) (put_first (word text) found))
   plain_given text rest [] given place found texts at_place no_dashes no_long no_short later =
       run_stray c (rows_for given) None place text rest no_dashes no_long no_short at_place ∙ nowhere found
     where
-      nowhere : (found : Option (List Item)) → None ≡ option_map rows_for (option_and_then (placed [] given) (put_first (word text) found))
+      nowhere : (found : Option (List Item)) → None ≡ option_map rows_for (option_and_then (with_positional [] given) (put_first (word text) found))
       nowhere None = refl
       nowhere (Some others) = refl
   plain_given text rest (name ∷ names) given place found texts at_place no_dashes no_long no_short later =
@@ -103,17 +103,17 @@ module _ (known : KnownOptions) (c : List Rule) (reads : Reads known c) where
   named_given : (name text : Text) (rule : Rule) (values : List Text) (rest names : List Text) (given : GivenTexts) (place : ℕ)
       (found : Option (List Item)) → Uses rule values name text → Places c place names
       → ((more : GivenTexts) (names : List Text) (place : ℕ) → Places c place names
-      → run c (state idle (hold (rows_for more) None) place false) rest ≡ option_map rows_for (option_and_then (placed names more) found))
+      → run c (state idle (hold (rows_for more) None) place false) rest ≡ option_map rows_for (option_and_then (with_positional names more) found))
       → cond (passes (use_fault false rule values (rows_for given)))
       (run c (state idle (hold (used rule values (rows_for given)) None) place false) rest) None
-      ≡ option_map rows_for (option_and_then (placed names given) (put_first (named name text) found))
+      ≡ option_map rows_for (option_and_then (with_positional names given) (put_first (named name text) found))
   named_given name text rule values rest names given place found uses at_place later =
       use_then rule values name text given names names (named name text) found
       (λ rows. run c (state idle (hold rows None) place false) rest) uses (named_next names)
       (λ more. later more names place at_place)
     where
       named_next : (names : List Text) (others : List Item)
-          → placed names given (named name text ∷ others) ≡ option_and_then (λ g. placed names g others) (with_given name text given)
+          → with_positional names given (named name text ∷ others) ≡ option_and_then (λ g. with_positional names g others) (with_given name text given)
       named_next [] others = refl
       named_next (place_name ∷ names) others = refl
 
@@ -121,12 +121,12 @@ module _ (known : KnownOptions) (c : List Rule) (reads : Reads known c) where
   first_given : (text : Text) (rest names : List Text) (given : GivenTexts) (place : ℕ) (found : Option (List Item))
       (valued : Text → Option (List Item)) → Seen known c text → AreTexts rest → Places c place names
       → ((more : GivenTexts) (names : List Text) (place : ℕ) → Places c place names
-      → run c (state idle (hold (rows_for more) None) place false) rest ≡ option_map rows_for (option_and_then (placed names more) found))
+      → run c (state idle (hold (rows_for more) None) place false) rest ≡ option_map rows_for (option_and_then (with_positional names more) found))
       → ((name : Text) → arg_by_id c name ≡ Some (option_rule name true)
       → run c (state (option name) (hold (rows_for given) (Some (name, []))) place false) rest
-      ≡ option_map rows_for (option_and_then (placed names given) (valued name)))
+      ≡ option_map rows_for (option_and_then (with_positional names given) (valued name)))
       → run c (state idle (hold (rows_for given) None) place false) (text ∷ rest)
-      ≡ option_map rows_for (option_and_then (placed names given) (first (look known text) rest found valued))
+      ≡ option_map rows_for (option_and_then (with_positional names given) (first (text_sight known text) rest found valued))
   first_given text rest names given place found valued (end is sees no_plain) texts at_place later opened =
       rw sees (run_ends c (rows_for given) None place text rest is ∙ trailing_given rest names given place at_place)
   first_given text rest names given place found valued (unknown name value other_word is_long none sees no_plain) texts at_place later opened =
@@ -150,9 +150,9 @@ module _ (known : KnownOptions) (c : List Rule) (reads : Reads known c) where
   value_given : (value : Text) (rest names : List Text) (given : GivenTexts) (place : ℕ) (found : Option (List Item)) (name : Text)
       → Seen known c value → AreTexts rest → Places c place names → arg_by_id c name ≡ Some (option_rule name true)
       → ((more : GivenTexts) (names : List Text) (place : ℕ) → Places c place names
-      → run c (state idle (hold (rows_for more) None) place false) rest ≡ option_map rows_for (option_and_then (placed names more) found))
+      → run c (state idle (hold (rows_for more) None) place false) rest ≡ option_map rows_for (option_and_then (with_positional names more) found))
       → run c (state (option name) (hold (rows_for given) (Some (name, []))) place false) (value ∷ rest)
-      ≡ option_map rows_for (option_and_then (placed names given) (cond (is_plain value) (put_first (named name value) found) None))
+      ≡ option_map rows_for (option_and_then (with_positional names given) (cond (is_plain value) (put_first (named name value) found) None))
   value_given value rest names given place found name (end is sees no_plain) texts at_place has later =
       rw no_plain (open_ends c (rows_for given) name place value rest has is
       ∙ open_trailing c (rows_for given) name place has rest (place_of c place names at_place))
@@ -177,7 +177,7 @@ module _ (known : KnownOptions) (c : List Rule) (reads : Reads known c) where
 
   no_words : (given : GivenTexts) (names : List Text) (place : ℕ) → Places c place names
       → run c (state idle (hold (rows_for given) None) place false) []
-      ≡ option_map rows_for (option_and_then (placed names given) (Some []))
+      ≡ option_map rows_for (option_and_then (with_positional names given) (Some []))
   unfolding run
   no_words given [] place at_place = refl
   no_words given (name ∷ names) place at_place = refl
@@ -185,7 +185,7 @@ module _ (known : KnownOptions) (c : List Rule) (reads : Reads known c) where
   -- all words
   pub words_given : (words : List Text) (given : GivenTexts) (names : List Text) (place : ℕ) → AreTexts words → Places c place names
       → run c (state idle (hold (rows_for given) None) place false) words
-      ≡ option_map rows_for (option_and_then (placed names given) (items known words))
+      ≡ option_map rows_for (option_and_then (with_positional names given) (items known words))
   unfolding AreTexts
   words_given [] given names place texts at_place = no_words given names place at_place
   words_given (text ∷ []) given names place texts at_place =

@@ -4,7 +4,7 @@ use Rattle.std.specs.Prelude.{option_map, slice_get}
 use Rattle.std.specs.Str.{IsUtf8, bytes_eq, chars}
 use Rattle.clap.specs.Lexer.{long_of, short_of}
 use Rattle.clap.specs.Walk.{Rule, arg_by_id, arg_by_long, arg_by_short}
-use Rattle.command_words.specs.Words.{Text, KnownOptions, named, word, is_plain, look, name_in, value_behind_equals, ends, whole, opens, wrong, takes_value, long_sight}
+use Rattle.command_words.specs.Words.{Text, KnownOptions, named, word, is_plain, text_sight, name_in, value_behind_equals, ends, whole, opens, wrong, takes_value, long_sight}
 use Rattle.command_words.proofs.Rules.{option_rule}
 use Rattle.command_words.proofs.Walking.{dashes}
 use Rattle.command_words.proofs.Characters.{has_char}
@@ -17,30 +17,30 @@ pub record Reads (known : KnownOptions) (c : List Rule) : Type 0 where
 
 -- the kinds of words
 pub data Seen (known : KnownOptions) (c : List Rule) (text : Text) : Type 0 where
-  end : bytes_eq text dashes ≡ true → look known text ≡ ends → is_plain text ≡ false → Seen known c text
+  end : bytes_eq text dashes ≡ true → text_sight known text ≡ ends → is_plain text ≡ false → Seen known c text
   unknown : (name : Text) (value : Option Text) → bytes_eq text dashes ≡ false → long_of text ≡ Some (name, value)
-      → arg_by_long c name ≡ None → look known text ≡ wrong → is_plain text ≡ false → Seen known c text
+      → arg_by_long c name ≡ None → text_sight known text ≡ wrong → is_plain text ≡ false → Seen known c text
   joined : (name value : Text) → bytes_eq text dashes ≡ false → long_of text ≡ Some (name, Some value)
-      → arg_by_long c name ≡ Some (option_rule name true) → look known text ≡ whole (named name value) → is_plain text ≡ false
+      → arg_by_long c name ≡ Some (option_rule name true) → text_sight known text ≡ whole (named name value) → is_plain text ≡ false
       → Seen known c text
   flag : (name : Text) → bytes_eq text dashes ≡ false → long_of text ≡ Some (name, None)
-      → arg_by_long c name ≡ Some (option_rule name false) → look known text ≡ whole (named name (codes "true"))
+      → arg_by_long c name ≡ Some (option_rule name false) → text_sight known text ≡ whole (named name (codes "true"))
       → is_plain text ≡ false → Seen known c text
   flag_joined : (name value : Text) → bytes_eq text dashes ≡ false → long_of text ≡ Some (name, Some value)
-      → arg_by_long c name ≡ Some (option_rule name false) → look known text ≡ wrong → is_plain text ≡ false → Seen known c text
+      → arg_by_long c name ≡ Some (option_rule name false) → text_sight known text ≡ wrong → is_plain text ≡ false → Seen known c text
   opening : (name : Text) → bytes_eq text dashes ≡ false → long_of text ≡ Some (name, None)
       → arg_by_long c name ≡ Some (option_rule name true) → arg_by_id c name ≡ Some (option_rule name true)
-      → look known text ≡ opens name → is_plain text ≡ false → Seen known c text
+      → text_sight known text ≡ opens name → is_plain text ≡ false → Seen known c text
   short : (byte : ℕ) (bytes : Text) (char : ℕ) → bytes_eq text dashes ≡ false → long_of text ≡ None
       → short_of text ≡ Some (byte ∷ bytes) → slice_get (chars (byte ∷ bytes)) 0 ≡ Some char → arg_by_short c char ≡ None
-      → look known text ≡ wrong → is_plain text ≡ false → Seen known c text
+      → text_sight known text ≡ wrong → is_plain text ≡ false → Seen known c text
   plain : bytes_eq text dashes ≡ false → long_of text ≡ None → short_of text ≡ None
-      → look known text ≡ whole (word text) → is_plain text ≡ true → Seen known c text
+      → text_sight known text ≡ whole (word text) → is_plain text ≡ true → Seen known c text
 
 module _ (known : KnownOptions) (c : List Rule) (reads : Reads known c) where
   -- `--name` or `--name=value`
   seen_long : (text name : Text) (value : Option Text) (takes : Option Bool) → takes_value known name ≡ takes
-      → bytes_eq text dashes ≡ false → long_of text ≡ Some (name, value) → look known text ≡ long_sight name takes value
+      → bytes_eq text dashes ≡ false → long_of text ≡ Some (name, value) → text_sight known text ≡ long_sight name takes value
       → is_plain text ≡ false → Seen known c text
   seen_long text name value None is no_dashes is_long sees no_plain =
       unknown name value no_dashes is_long (reads.long name ∙ ap (option_map (option_rule name)) is) sees no_plain

@@ -79,8 +79,8 @@ sight_of known text (long (byte ∷ rest)) =
     let name = name_in (byte ∷ rest) in
     long_sight name (takes_value known name) (value_behind_equals (byte ∷ rest))
 
-abbrev pub look : KnownOptions → Text → Sight
-look known text = sight_of known text (form text)
+abbrev pub text_sight : KnownOptions → Text → Sight
+text_sight known text = sight_of known text (form text)
 
 -- ---- all words
 
@@ -98,9 +98,9 @@ first wrong rest items valued = None
 -- the items that the words spell; a value that is a word of its own is plain
 abbrev pub items : KnownOptions → List Text → Option (List Item)
 items known [] = Some []
-items known (text ∷ []) = first (look known text) [] (Some []) (λ name. None)
+items known (text ∷ []) = first (text_sight known text) [] (Some []) (λ name. None)
 items known (text ∷ value ∷ rest) =
-    first (look known text) (value ∷ rest) (items known (value ∷ rest))
+    first (text_sight known text) (value ∷ rest) (items known (value ∷ rest))
     (λ name. if is_plain value then put_first (named name value) (items known rest) else None)
 
 -- ---- what is given
@@ -120,14 +120,14 @@ abbrev pub with_given : Text → Text → GivenTexts → Option GivenTexts
 with_given name text given = if is_given given name then None else Some (given ++ (name, text) ∷ [])
 
 -- a positional word goes to the next of the names, and there is none too many
-abbrev pub placed : List Text → GivenTexts → List Item → Option GivenTexts
-placed names given [] = Some given
-placed names given (named name text ∷ rest) =
-    option_and_then (λ more. placed names more rest) (with_given name text given)
-placed [] given (word text ∷ rest) = None
-placed (name ∷ names) given (word text ∷ rest) =
-    option_and_then (λ more. placed names more rest) (with_given name text given)
+abbrev pub with_positional : List Text → GivenTexts → List Item → Option GivenTexts
+with_positional names given [] = Some given
+with_positional names given (named name text ∷ rest) =
+    option_and_then (λ more. with_positional names more rest) (with_given name text given)
+with_positional [] given (word text ∷ rest) = None
+with_positional (name ∷ names) given (word text ∷ rest) =
+    option_and_then (λ more. with_positional names more rest) (with_given name text given)
 
 -- what the words give, for these options and these names of positional words
 abbrev pub given_by : KnownOptions → List Text → List Text → Option GivenTexts
-given_by known names words = option_and_then (placed names []) (items known words)
+given_by known names words = option_and_then (with_positional names []) (items known words)

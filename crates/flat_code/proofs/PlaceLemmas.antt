@@ -7,7 +7,7 @@ use Rattle.dioc_terms.specs.Processes.{Process, Skip, Seq, Par, IfLead, IfFollow
 use Rattle.dioc_terms.specs.Expressions.{expression}
 use Rattle.flat_code.specs.declared.ops.Op.{Op}
 use Rattle.flat_code.specs.declared.ops.Op.TheVariants as op
-use Rattle.flat_code.specs.Places.{at, op_process, processes_from, processes, parts, are_placed, AreBelow, Extends, IsAt}
+use Rattle.flat_code.specs.Places.{at, op_process, processes_from, processes, part_places, are_placed, AreBelow, Extends, IsProcessAt}
 
 -- places by tests
 below_tested : (n : ℕ) (ps : List ℕ) → list_all (λ p. nat_lt p n) ps ≡ true → AreBelow n ps
@@ -26,7 +26,7 @@ abbrev AreSame : List Process → List Process → List ℕ → Type 0
 AreSame done new [] = Unit {0}
 AreSame done new (p ∷ ps) = (at done p ≡ at new p) × AreSame done new ps
 
-same_op : (done new : List Process) (o : Op) → AreSame done new (parts o) → op_process done o
+same_op : (done new : List Process) (o : Op) → AreSame done new (part_places o) → op_process done o
     ≡ op_process new o
 same_op done new (op.Seq p q) h = ap₂ Seq h.0 h.1.0
 same_op done new (op.Par p q) h = ap₂ Par h.0 h.1.0
@@ -74,12 +74,12 @@ stands_from : (done : List Process) (ops : List Op) (i : ℕ) (d : Op) (n : ℕ)
     → n ≡ length done + i → are_placed (length done) ops ≡ true → i < length ops
     → (at (processes_from done ops) n
     ≡ op_process (processes_from done ops) (get_or ops i d))
-    × AreBelow n (parts (get_or ops i d))
+    × AreBelow n (part_places (get_or ops i d))
 stands_from done [] i d n is placed h = absurd (omega (arith, h))
 stands_from done (o ∷ ops) zero d n is placed h =
-    let both = and_parts (list_all (λ p. nat_lt p (length done)) (parts o))
+    let both = and_parts (list_all (λ p. nat_lt p (length done)) (part_places o))
     (are_placed (suc (length done)) ops) placed in
-    let below : AreBelow (length done) (parts o) = below_tested (length done) (parts o) both.0 in
+    let below : AreBelow (length done) (part_places o) = below_tested (length done) (part_places o) both.0 in
     let here : n ≡ length done = omega (arith, is) in
     let there : at (processes_from (done ++ op_process done o ∷ []) ops) (length done)
     ≡ op_process done o = from_keeps (done ++ op_process done o ∷ []) ops (length done)
@@ -87,11 +87,11 @@ stands_from done (o ∷ ops) zero d n is placed h =
     ∙ get_or_push done (op_process done o) Skip (length done) refl in (
       ap (at (processes_from (done ++ op_process done o ∷ []) ops)) here
           ∙ there
-          ∙ same_op done (processes_from done (o ∷ ops)) o (kept_parts done (o ∷ ops) (parts o) below),
-      subst (λ m. AreBelow m (parts o)) (sym here) below,
+          ∙ same_op done (processes_from done (o ∷ ops)) o (kept_parts done (o ∷ ops) (part_places o) below),
+      subst (λ m. AreBelow m (part_places o)) (sym here) below,
     )
 stands_from done (o ∷ ops) (suc i) d n is placed h =
-    let both = and_parts (list_all (λ p. nat_lt p (length done)) (parts o))
+    let both = and_parts (list_all (λ p. nat_lt p (length done)) (part_places o))
     (are_placed (suc (length done)) ops) placed in
     let more : length (done ++ op_process done o ∷ []) ≡ suc (length done) =
     omega (arith, length_push done (op_process done o)) in
@@ -100,11 +100,11 @@ stands_from done (o ∷ ops) (suc i) d n is placed h =
 
 pub stands_at : (ops : List Op) (place : ℕ) (o : Op) → are_placed 0 ops ≡ true → place < length ops
     → o ≡ get_or ops place o
-    → (at (processes ops) place ≡ op_process (processes ops) o) × AreBelow place (parts o)
+    → (at (processes ops) place ≡ op_process (processes ops) o) × AreBelow place (part_places o)
 stands_at ops place o placed h is =
     let found = stands_from [] ops place o place (omega arith) placed h in (
       found.0 ∙ ap (op_process (processes ops)) (sym is),
-      subst (λ x. AreBelow place (parts x)) (sym is) found.1,
+      subst (λ x. AreBelow place (part_places x)) (sym is) found.1,
     )
 
 -- more ops behind
@@ -130,8 +130,8 @@ extends_longer old new more =
     let all : length new ≡ length (old ++ more.0) = ap length more.1 in
     omega (arith, all, length-append old more.0)
 
-pub keeps_is_at : (old new : List Op) (p : ℕ) (P : Process) → Extends old new → IsAt old p P
-    → IsAt new p P
+pub keeps_is_at : (old new : List Op) (p : ℕ) (P : Process) → Extends old new → IsProcessAt old p P
+    → IsProcessAt new p P
 keeps_is_at old new p P more stood =
     let inside = stood.inside in
     let longer = extends_longer old new more in
@@ -146,21 +146,21 @@ cut_back old new more = ap (take (length old)) more.1 ∙ take_at old more.0 (le
 
 -- an op behind the others
 placed_behind : (n : ℕ) (ops : List Op) (o : Op) (m : ℕ) → m ≡ n + length ops
-    → are_placed n ops ≡ true → AreBelow m (parts o) → are_placed n (ops ++ o ∷ []) ≡ true
+    → are_placed n ops ≡ true → AreBelow m (part_places o) → are_placed n (ops ++ o ∷ []) ≡ true
 placed_behind n [] o m is placed below =
     let here : m ≡ n = omega (arith, is) in
-    and_from (list_all (λ p. nat_lt p n) (parts o)) true
-    (tested_below n (parts o) (subst (λ k. AreBelow k (parts o)) here below)) refl
+    and_from (list_all (λ p. nat_lt p n) (part_places o)) true
+    (tested_below n (part_places o) (subst (λ k. AreBelow k (part_places o)) here below)) refl
 placed_behind n (x ∷ ops) o m is placed below =
-    let both = and_parts (list_all (λ p. nat_lt p n) (parts x)) (are_placed (suc n) ops) placed in
-    and_from (list_all (λ p. nat_lt p n) (parts x)) (are_placed (suc n) (ops ++ o ∷ [])) both.0
+    let both = and_parts (list_all (λ p. nat_lt p n) (part_places x)) (are_placed (suc n) ops) placed in
+    and_from (list_all (λ p. nat_lt p n) (part_places x)) (are_placed (suc n) (ops ++ o ∷ [])) both.0
     (placed_behind (suc n) ops o m (omega (arith, is)) both.1 below)
 
 pub placed_push : (ops : List Op) (o : Op) → are_placed 0 ops ≡ true
-    → AreBelow (length ops) (parts o) → are_placed 0 (ops ++ o ∷ []) ≡ true
+    → AreBelow (length ops) (part_places o) → are_placed 0 (ops ++ o ∷ []) ≡ true
 placed_push ops o placed below = placed_behind 0 ops o (length ops) (omega arith) placed below
 
-pub push_is_at : (ops : List Op) (o : Op) → IsAt (ops ++ o ∷ []) (length ops)
+pub push_is_at : (ops : List Op) (o : Op) → IsProcessAt (ops ++ o ∷ []) (length ops)
     (op_process (processes ops) o)
 push_is_at ops o = record {
   inside = omega (arith, length_push ops o);

@@ -39,21 +39,21 @@ abbrev pub processes : List Op → List Process
 processes ops = processes_from [] ops
 
 -- the places of an op's parts
-abbrev pub parts : Op → List ℕ
-parts (op.Seq p q) = p ∷ q ∷ []
-parts (op.Par p q) = p ∷ q ∷ []
-parts (op.IfLead i g others p q) = p ∷ q ∷ []
-parts (op.IfFollow i leader p q) = p ∷ q ∷ []
-parts (op.WhileLead i g others p) = p ∷ []
-parts (op.WhileFollow i leader p) = p ∷ []
-parts (op.ScopeLead head others p) = p ∷ []
-parts (op.ScopeFollow i leader p) = p ∷ []
-parts _ = []
+abbrev pub part_places : Op → List ℕ
+part_places (op.Seq p q) = p ∷ q ∷ []
+part_places (op.Par p q) = p ∷ q ∷ []
+part_places (op.IfLead i g others p q) = p ∷ q ∷ []
+part_places (op.IfFollow i leader p q) = p ∷ q ∷ []
+part_places (op.WhileLead i g others p) = p ∷ []
+part_places (op.WhileFollow i leader p) = p ∷ []
+part_places (op.ScopeLead head others p) = p ∷ []
+part_places (op.ScopeFollow i leader p) = p ∷ []
+part_places _ = []
 
 -- of ops that stand from a place on, each has its parts at earlier places than its own
 abbrev pub are_placed : ℕ → List Op → Bool
 are_placed n [] = true
-are_placed n (o ∷ ops) = list_all (λ p. nat_lt p n) (parts o) && are_placed (suc n) ops
+are_placed n (o ∷ ops) = list_all (λ p. nat_lt p n) (part_places o) && are_placed (suc n) ops
 
 -- these places stand before that one
 abbrev pub AreBelow : ℕ → List ℕ → Type 0
@@ -65,11 +65,11 @@ abbrev pub Extends : List Op → List Op → Type 0
 Extends old new = (more : List Op) × (new ≡ old ++ more)
 
 -- the process at that place of the ops
-pub record IsAt (ops : List Op) (place : ℕ) (P : Process) : Type 0 where
+pub record IsProcessAt (ops : List Op) (place : ℕ) (P : Process) : Type 0 where
   pub inside : place < length ops
   pub stands : at (processes ops) place ≡ P
 
 -- an op with these parts, and the process that it stands for
 pub record IsForm (o : Op) (places : List ℕ) (made : List Process → Process) : Type 0 where
-  pub places_are : parts o ≡ places
+  pub places_are : part_places o ≡ places
   pub stands : (done : List Process) → op_process done o ≡ made done

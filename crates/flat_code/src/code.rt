@@ -1,7 +1,7 @@
 //! Code: ops, and where the process begins.
 
 ghost use Rattle.std.specs.Prelude.{◌≡◌, ◌<◌, true, length};
-ghost use Rattle.flat_code.specs.Places.{are_placed, AreBelow, at, op_process, parts, processes};
+ghost use Rattle.flat_code.specs.Places.{are_placed, AreBelow, at, op_process, part_places, processes};
 
 use crate::ops::Op;
 
@@ -24,7 +24,7 @@ impl Code {
         requires { place < length self.now.ops.items }
         ensures stands { at (processes self.now.ops.items) place
             ≡ op_process (processes self.now.ops.items) result.now }
-        ensures earlier { AreBelow place (parts result.now) }
+        ensures earlier { AreBelow place (part_places result.now) }
     {
         &self.ops[place]
     }

@@ -4,7 +4,7 @@ ghost use Rattle.std.specs.Prelude.{◌≡◌, true, length, IfOk, OnErr};
 ghost use Rattle.dioc_terms.specs.Processes.{process};
 ghost use Rattle.flat_code.specs.Codes.{process_of};
 ghost use Rattle.flat_code.specs.Parts.{first_of, has_two, second_of};
-ghost use Rattle.flat_code.specs.Places.{AreBelow, Extends, IsAt, are_placed, op_process, parts, processes};
+ghost use Rattle.flat_code.specs.Places.{AreBelow, Extends, IsProcessAt, are_placed, op_process, part_places, processes};
 
 use crate::code::Code;
 use crate::forms::{
@@ -31,7 +31,8 @@ pub fn compile(alloc: Global, proc: &Proc) -> Result<Code, Memory>
 pub fn link(alloc: Global, code: &mut Code, proc: &Proc) -> Result<usize, Memory>
     ensures appended { Extends code.old.ops.items code.new.ops.items }
     ensures start { code.new.start ≡ code.old.start }
-    ensures stands { IfOk result (λ place. IsAt code.new.ops.items place (process proc.now)) }
+    ensures stands { IfOk result (λ place. IsProcessAt code.new.ops.items place
+        (process proc.now)) }
     ensures refused { OnErr result (code.new.ops.items ≡ code.old.ops.items) }
 {
     let before = code.ops.len();
@@ -51,7 +52,7 @@ fn add(alloc: Global, proc: &Proc, ops: &mut Vec<Op>) -> Result<usize, Memory>
     requires placed { are_placed 0 ops.old.items ≡ true }
     ensures placed { are_placed 0 ops.new.items ≡ true }
     ensures appended { Extends ops.old.items ops.new.items }
-    ensures stands { IfOk result (λ place. IsAt ops.new.items place (process proc.now)) }
+    ensures stands { IfOk result (λ place. IsProcessAt ops.new.items place (process proc.now)) }
 {
     match proc {
         Proc::Skip => push(ops, Op::Skip),
@@ -133,9 +134,9 @@ fn add_two(alloc: Global, whole: &Proc, ops: &mut Vec<Op>) -> Result<(usize, usi
     ensures placed { are_placed 0 ops.new.items ≡ true }
     ensures appended { Extends ops.old.items ops.new.items }
     ensures first { IfOk result (λ both.
-        IsAt ops.new.items both.0 (first_of (process whole.now))) }
+        IsProcessAt ops.new.items both.0 (first_of (process whole.now))) }
     ensures second { IfOk result (λ both.
-        IsAt ops.new.items both.1 (second_of (process whole.now))) }
+        IsProcessAt ops.new.items both.1 (second_of (process whole.now))) }
 {
     match whole {
         Proc::Seq(first, second)
@@ -162,11 +163,11 @@ fn add_two(alloc: Global, whole: &Proc, ops: &mut Vec<Op>) -> Result<(usize, usi
 #[tactic(auto, using(crate::proofs::PlaceLemmas::placed_push, crate::proofs::PlaceLemmas::push_is_at, crate::proofs::PlaceLemmas::extends_itself, crate::proofs::PlaceLemmas::extends_push))]
 fn push(ops: &mut Vec<Op>, op: Op) -> Result<usize, Memory>
     requires placed { are_placed 0 ops.old.items ≡ true }
-    requires earlier { AreBelow (length ops.old.items) (parts op) }
+    requires earlier { AreBelow (length ops.old.items) (part_places op) }
     ensures placed { are_placed 0 ops.new.items ≡ true }
     ensures appended { Extends ops.old.items ops.new.items }
     ensures stands { IfOk result (λ place.
-        IsAt ops.new.items place (op_process (processes ops.old.items) op)) }
+        IsProcessAt ops.new.items place (op_process (processes ops.old.items) op)) }
 {
     let place = ops.len();
     ops.push(op)?;

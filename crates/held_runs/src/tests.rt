@@ -1,5 +1,5 @@
-//! What no contract sees: that roles run at the same time, that a projection holds nobody up, and that
-//! changes are made while roles run.
+//! What no contract sees: that roles run at the same time, that a projection holds nobody up, and
+//! that changes are made while roles run.
 
 use crate::gates::{BothBegin, ChangeComes, Meeting, ProjectsAside};
 use crate::runs::run;

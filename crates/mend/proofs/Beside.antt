@@ -14,7 +14,7 @@ use Rattle.connectedness.specs.Connected.{linked}
 use Rattle.connectedness.specs.Laws.{RolesAtEnds}
 use Rattle.index_marks.specs.Indices.{indices}
 use Rattle.mend.specs.Names.{begins_sq, sq_name, variables_of, names_in, taken_name}
-use Rattle.mend.specs.Mended.{message, told, led_in, closed, opened, first_starter, through, join, relinked, added, with_numbers, mended}
+use Rattle.mend.specs.Mended.{message, told, led_in, closed, opened, first_starter, through, join, relinked, added_messages, with_numbers, mended}
 use Rattle.mend.specs.Traces.{index_before}
 use Rattle.mend.proofs.Connecting.{joined-roles}
 use Rattle.mend.proofs.Dropping.{sq_name_begins, find_parts, first_free, rest_free}
@@ -159,9 +159,9 @@ constructs_numbered k Skip = refl
 constructs_numbered k (Com i o a e b x) = refl
 constructs_numbered k (Set i x r e) = refl
 constructs_numbered k (Input i x r) = refl
-constructs_numbered k (Seq I J) = ap₂ (λ s t. s + t) (constructs_numbered k I) (constructs_numbered (k + added I) J)
-constructs_numbered k (Par I J) = ap₂ (λ s t. s + t) (constructs_numbered k I) (constructs_numbered (k + added I) J)
-constructs_numbered k (If i r g I J) = ap₂ (λ s t. suc (s + t)) (constructs_numbered k I) (constructs_numbered (k + added I) J)
+constructs_numbered k (Seq I J) = ap₂ (λ s t. s + t) (constructs_numbered k I) (constructs_numbered (k + added_messages I) J)
+constructs_numbered k (Par I J) = ap₂ (λ s t. s + t) (constructs_numbered k I) (constructs_numbered (k + added_messages I) J)
+constructs_numbered k (If i r g I J) = ap₂ (λ s t. suc (s + t)) (constructs_numbered k I) (constructs_numbered (k + added_messages I) J)
 constructs_numbered k (While i r g I) = ap suc (constructs_numbered k I)
 constructs_numbered k (Scope i r I extra props level) = ap suc (constructs_numbered k I)
 
@@ -174,8 +174,8 @@ module _ (mentioned : MentionsAreRoles) (bodies : StampedBodies) where
 
   added_marked : (n level m k : ℕ) (X : Term) → AddedTerm X → AddedTerm (stamped (indexed_from m (with_numbers k X)) n level)
   added_marked n level m k X (added_seq A B a b) =
-      added_seq (stamped (indexed_from m (with_numbers k A)) n level) (stamped (indexed_from (m + constructs (with_numbers k A)) (with_numbers (k + added A) B)) n level)
-      (added_marked n level m k A a) (added_marked n level (m + constructs (with_numbers k A)) (k + added A) B b)
+      added_seq (stamped (indexed_from m (with_numbers k A)) n level) (stamped (indexed_from (m + constructs (with_numbers k A)) (with_numbers (k + added_messages A) B)) n level)
+      (added_marked n level m k A a) (added_marked n level (m + constructs (with_numbers k A)) (k + added_messages A) B b)
   added_marked n level m k X (added_com i o a e b x os xs) =
       subst (λ op. AddedTerm (Com (at_epoch n (index_at m)) op a e b x)) (sym (cond-true (begins_sq o) (sq_name k) o os))
       (added_com (at_epoch n (index_at m)) (sq_name k) a e b x (sq_name_begins k) xs)
@@ -195,15 +195,15 @@ module _ (mentioned : MentionsAreRoles) (bodies : StampedBodies) where
     marks_mend X I (m_seq A B C D p q) m k h =
         let parts = finds_parts f n m (indices A) (indices B) h in
         m_seq _ _ _ _ (marks_mend A C p m k parts.0)
-        (marks_mend B D q (m + constructs (with_numbers k A)) (k + added A) (second_finds m k A (indices B) parts.1))
+        (marks_mend B D q (m + constructs (with_numbers k A)) (k + added_messages A) (second_finds m k A (indices B) parts.1))
     marks_mend X I (m_par A B C D p q) m k h =
         let parts = finds_parts f n m (indices A) (indices B) h in
         m_par _ _ _ _ (marks_mend A C p m k parts.0)
-        (marks_mend B D q (m + constructs (with_numbers k A)) (k + added A) (second_finds m k A (indices B) parts.1))
+        (marks_mend B D q (m + constructs (with_numbers k A)) (k + added_messages A) (second_finds m k A (indices B) parts.1))
     marks_mend X I (m_if i j r g A B C D at free p q) m k h =
         let parts = finds_parts f n (suc m) (indices A) (indices B) h.1 in
         m_if (at_epoch n (index_at m)) (at_epoch n j) r g _ _ _ _ (h.0 ∙ ap (at_epoch n) at) free (marks_mend A C p (suc m) k parts.0)
-        (marks_mend B D q (suc m + constructs (with_numbers k A)) (k + added A) (second_finds (suc m) k A (indices B) parts.1))
+        (marks_mend B D q (suc m + constructs (with_numbers k A)) (k + added_messages A) (second_finds (suc m) k A (indices B) parts.1))
     marks_mend X I (m_while i j r g A C at free p) m k h =
         m_while (at_epoch n (index_at m)) (at_epoch n j) r g _ _ (h.0 ∙ ap (at_epoch n) at) free (marks_mend A C p (suc m) k h.1)
     marks_mend X I (m_scope i j r A C extra props l at roles p) m k h =
@@ -212,10 +212,10 @@ module _ (mentioned : MentionsAreRoles) (bodies : StampedBodies) where
     marks_mend X I (m_before A B C a q) m k h =
         let parts = finds_parts f n m (indices A) (indices B) h in
         m_before _ _ _ (added_marked n level m k A a)
-        (marks_mend B C q (m + constructs (with_numbers k A)) (k + added A) (second_finds m k A (indices B) parts.1))
+        (marks_mend B C q (m + constructs (with_numbers k A)) (k + added_messages A) (second_finds m k A (indices B) parts.1))
     marks_mend X I (m_behind B A C q a) m k h =
         let parts = finds_parts f n m (indices B) (indices A) h in
-        m_behind _ _ _ (marks_mend B C q m k parts.0) (added_marked n level (m + constructs (with_numbers k B)) (k + added B) A a)
+        m_behind _ _ _ (marks_mend B C q m k parts.0) (added_marked n level (m + constructs (with_numbers k B)) (k + added_messages B) A a)
 
     -- the mended body beside the input's, as an update
     pub stamped_beside : RolesAtEnds → (cast : List Role) (I : Term) → taken_name I ≡ None

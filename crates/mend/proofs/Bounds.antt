@@ -5,7 +5,7 @@ use Rattle.dioc_terms.specs.declared.names.Role.{Role}
 use Rattle.dioc_terms.specs.Equality.{role_eq}
 use Rattle.dioc_terms.specs.Terms.{Term, Skip, Com, Set, Input, Seq, Par, If, While, Scope, empty, is_in, nodes, indexed_from, constructs}
 use Rattle.connectedness.specs.Connected.{linked}
-use Rattle.mend.specs.Mended.{told, led_in, closed, opened, first_starter, through, join, relinked, added, with_numbers, mended}
+use Rattle.mend.specs.Mended.{told, led_in, closed, opened, first_starter, through, join, relinked, added_messages, with_numbers, mended}
 use Rattle.mend.proofs.Connecting.{closed-empty, opened-empty}
 
 -- at how many places closing may add a message
@@ -322,9 +322,9 @@ nodes-numbered n Skip = refl
 nodes-numbered n (Com i o a e b x) = refl
 nodes-numbered n (Set i x r e) = refl
 nodes-numbered n (Input i x r) = refl
-nodes-numbered n (Seq I J) = ap₂ (λ s t. suc (s + t)) (nodes-numbered n I) (nodes-numbered (n + added I) J)
-nodes-numbered n (Par I J) = ap₂ (λ s t. suc (s + t)) (nodes-numbered n I) (nodes-numbered (n + added I) J)
-nodes-numbered n (If i r g I J) = ap₂ (λ s t. suc (s + t)) (nodes-numbered n I) (nodes-numbered (n + added I) J)
+nodes-numbered n (Seq I J) = ap₂ (λ s t. suc (s + t)) (nodes-numbered n I) (nodes-numbered (n + added_messages I) J)
+nodes-numbered n (Par I J) = ap₂ (λ s t. suc (s + t)) (nodes-numbered n I) (nodes-numbered (n + added_messages I) J)
+nodes-numbered n (If i r g I J) = ap₂ (λ s t. suc (s + t)) (nodes-numbered n I) (nodes-numbered (n + added_messages I) J)
 nodes-numbered n (While i r g I) = ap suc (nodes-numbered n I)
 nodes-numbered n (Scope i r I extra props level) = ap suc (nodes-numbered n I)
 

@@ -7,7 +7,7 @@ use Rattle.dioc_terms.specs.Equality.{role_eq}
 use Rattle.dioc_terms.specs.Terms.{Term, Skip, Com, Set, Input, Seq, Par, If, While, Scope, empty, is_in, indexed, index_at}
 use Rattle.connectedness.specs.Connected.{linked}
 use Rattle.mend.specs.Names.{begins_sq, sq_name, variables_of, names_in, taken_name}
-use Rattle.mend.specs.Mended.{message, told, led_in, closed, opened, first_starter, through, join, relinked, added, with_numbers, mended}
+use Rattle.mend.specs.Mended.{message, told, led_in, closed, opened, first_starter, through, join, relinked, added_messages, with_numbers, mended}
 use Rattle.mend.specs.Dropped.{both_kept, or_skip, kept, dropped}
 use Rattle.mend.specs.Laws.{DropsToInput}
 use Rattle.mend.proofs.Erased.{erased, same_name, erased-indexed, indexed-erased}
@@ -89,9 +89,9 @@ numbered-kept n (Com i o a e b x) = by_name (begins_sq o) refl
     by_name false is = cond-false (begins_sq o) None (Some (Com i o a e b x)) is
 numbered-kept n (Set i x r e) = refl
 numbered-kept n (Input i x r) = refl
-numbered-kept n (Seq I J) = ap₂ (λ m k. both_kept m k) (numbered-kept n I) (numbered-kept (n + added I) J)
-numbered-kept n (Par I J) = ap₂ (λ m k. Some (Par (or_skip m) (or_skip k))) (numbered-kept n I) (numbered-kept (n + added I) J)
-numbered-kept n (If i r g I J) = ap₂ (λ m k. Some (If i r g (or_skip m) (or_skip k))) (numbered-kept n I) (numbered-kept (n + added I) J)
+numbered-kept n (Seq I J) = ap₂ (λ m k. both_kept m k) (numbered-kept n I) (numbered-kept (n + added_messages I) J)
+numbered-kept n (Par I J) = ap₂ (λ m k. Some (Par (or_skip m) (or_skip k))) (numbered-kept n I) (numbered-kept (n + added_messages I) J)
+numbered-kept n (If i r g I J) = ap₂ (λ m k. Some (If i r g (or_skip m) (or_skip k))) (numbered-kept n I) (numbered-kept (n + added_messages I) J)
 numbered-kept n (While i r g I) = ap (λ m. Some (While i r g (or_skip m))) (numbered-kept n I)
 numbered-kept n (Scope i r I extra props level) = ap (λ m. Some (Scope i r (or_skip m) extra props level)) (numbered-kept n I)
 

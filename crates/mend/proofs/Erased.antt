@@ -8,7 +8,7 @@ use Rattle.dioc_terms.specs.Equality.{role_eq, member}
 use Rattle.dioc_terms.specs.Terms.{Term, Skip, Com, Set, Input, Seq, Par, If, While, Scope, empty, mentions, is_in, self_messages, constructs, index_at, indexed_from}
 use Rattle.dioc_terms.specs.TermLaws.{MentionsAreRoles}
 use Rattle.connectedness.specs.Connected.{starters, groups, connected}
-use Rattle.mend.specs.Mended.{added, with_numbers}
+use Rattle.mend.specs.Mended.{added_messages, with_numbers}
 
 -- the term without indices and levels, with each operation changed
 abbrev pub erased : (List ℕ → List ℕ) → Term → Term
@@ -42,9 +42,9 @@ erased-numbered n Skip = refl
 erased-numbered n (Com i o a e b x) = refl
 erased-numbered n (Set i x r e) = refl
 erased-numbered n (Input i x r) = refl
-erased-numbered n (Seq I J) = ap₂ (λ s t. Seq s t) (erased-numbered n I) (erased-numbered (n + added I) J)
-erased-numbered n (Par I J) = ap₂ (λ s t. Par s t) (erased-numbered n I) (erased-numbered (n + added I) J)
-erased-numbered n (If i r g I J) = ap₂ (λ s t. If (index_at 0) r g s t) (erased-numbered n I) (erased-numbered (n + added I) J)
+erased-numbered n (Seq I J) = ap₂ (λ s t. Seq s t) (erased-numbered n I) (erased-numbered (n + added_messages I) J)
+erased-numbered n (Par I J) = ap₂ (λ s t. Par s t) (erased-numbered n I) (erased-numbered (n + added_messages I) J)
+erased-numbered n (If i r g I J) = ap₂ (λ s t. If (index_at 0) r g s t) (erased-numbered n I) (erased-numbered (n + added_messages I) J)
 erased-numbered n (While i r g I) = ap (λ s. While (index_at 0) r g s) (erased-numbered n I)
 erased-numbered n (Scope i r I extra props level) = ap (λ s. Scope (index_at 0) r s extra props 0) (erased-numbered n I)
 

@@ -72,21 +72,21 @@ relinked cast (Scope i r I extra props level) = Scope i r (relinked cast I) extr
 relinked cast leaf = leaf
 
 -- how many added messages
-abbrev pub added : Term → ℕ
-added (Com i o a e b x) = if begins_sq o then 1 else 0
-added (Seq I J) = added I + added J
-added (Par I J) = added I + added J
-added (If i r g I J) = added I + added J
-added (While i r g I) = added I
-added (Scope i r I extra props level) = added I
-added _ = 0
+abbrev pub added_messages : Term → ℕ
+added_messages (Com i o a e b x) = if begins_sq o then 1 else 0
+added_messages (Seq I J) = added_messages I + added_messages J
+added_messages (Par I J) = added_messages I + added_messages J
+added_messages (If i r g I J) = added_messages I + added_messages J
+added_messages (While i r g I) = added_messages I
+added_messages (Scope i r I extra props level) = added_messages I
+added_messages _ = 0
 
 -- the added messages numbered in the order of the text, where so many stand before the term
 abbrev pub with_numbers : ℕ → Term → Term
 with_numbers n (Com i o a e b x) = Com i (if begins_sq o then sq_name n else o) a e b x
-with_numbers n (Seq I J) = Seq (with_numbers n I) (with_numbers (n + added I) J)
-with_numbers n (Par I J) = Par (with_numbers n I) (with_numbers (n + added I) J)
-with_numbers n (If i r g I J) = If i r g (with_numbers n I) (with_numbers (n + added I) J)
+with_numbers n (Seq I J) = Seq (with_numbers n I) (with_numbers (n + added_messages I) J)
+with_numbers n (Par I J) = Par (with_numbers n I) (with_numbers (n + added_messages I) J)
+with_numbers n (If i r g I J) = If i r g (with_numbers n I) (with_numbers (n + added_messages I) J)
 with_numbers n (While i r g I) = While i r g (with_numbers n I)
 with_numbers n (Scope i r I extra props level) = Scope i r (with_numbers n I) extra props level
 with_numbers n leaf = leaf

@@ -2,7 +2,7 @@
 
 ghost use Rattle.std.specs.Prelude.{◌≡◌, ◌+◌, ◌≤◌, if◌then◌else◌, IfOk, OnOk};
 ghost use Rattle.dioc_terms.specs.Terms.{term, nodes};
-ghost use Rattle.mend.specs.Mended.{added, with_numbers};
+ghost use Rattle.mend.specs.Mended.{added_messages, with_numbers};
 ghost use Rattle.mend.specs.Names.{begins_sq, sq_name};
 
 use crate::building::name;
@@ -40,8 +40,8 @@ fn number_one(alloc: Global, op: &mut Name, before: u32) -> Result<u32, Memory>
 pub(crate) fn number(alloc: Global, choreo: &mut Choreo, before: u32) -> Result<u32, Memory>
     requires { before + nodes (term choreo.old) ≤ 4294967295 }
     ensures numbered { OnOk result (term choreo.new ≡ with_numbers before (term choreo.old)) }
-    ensures next { IfOk result (λ next. next ≡ before + added (term choreo.old)) }
-    ensures few { OnOk result (added (term choreo.old) ≤ nodes (term choreo.old)) }
+    ensures next { IfOk result (λ next. next ≡ before + added_messages (term choreo.old)) }
+    ensures few { OnOk result (added_messages (term choreo.old) ≤ nodes (term choreo.old)) }
 {
     match choreo {
         Choreo::Com { op, .. } => number_one(alloc, op, before),

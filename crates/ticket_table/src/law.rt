@@ -1,4 +1,5 @@
-// The rule of the tickets' table, and the names of its steps.
+//! The rule of the tickets' table, and the names of its steps.
+
 ghost use Rattle.std.specs.Prelude.{[]};
 ghost use Rattle.ticket_table.specs.Rule.{Drew, TicketRule};
 ghost use Rattle.ticket_table.specs.Views.{holding, joined, newcomer, one_part_less, spent};

@@ -1,4 +1,5 @@
-// What a drawer knows. No value of this type is made: it stands in contracts alone.
+//! What a drawer knows. No value of this type is made: it stands in contracts alone.
+
 use std::collections::LinkedList;
 
 /// What a drawer knows of the tickets.

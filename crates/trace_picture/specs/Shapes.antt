@@ -12,8 +12,8 @@ use Rattle.trace_picture.specs.declared.shapes.Shape.{Shape}
 use Rattle.trace_picture.specs.declared.shapes.Shape.TheVariants as shape
 
 -- an arrow between two lanes; a sign where a role sends to itself
-abbrev pub arrow : ℕ → ℕ → Shape
-arrow from to = if nat_eq from to then shape.Mark sign.Own from else shape.Arrow from to
+abbrev pub arrow_between : ℕ → ℕ → Shape
+arrow_between from to = if nat_eq from to then shape.Mark sign.Own from else shape.Arrow from to
 
 abbrev pub choice_sign : Chosen → Sign
 choice_sign chosen.Keep = sign.Keep
@@ -22,7 +22,7 @@ choice_sign (chosen.Rule name n) = sign.Replace
 -- a put is an arrow, a change a band across all lanes, and anything else a sign on the lane of its
 -- role
 abbrev pub shape_of : List Role → Entry → Shape
-shape_of lanes (entry.Put k n) = arrow (lane_of lanes k.from) (lane_of lanes k.to)
+shape_of lanes (entry.Put k n) = arrow_between (lane_of lanes k.from) (lane_of lanes k.to)
 shape_of lanes (entry.Take k x) = shape.Mark sign.Take (lane_of lanes k.to)
 shape_of lanes (entry.Set i r x v) = shape.Mark sign.Set (lane_of lanes r)
 shape_of lanes (entry.Input i r x v) = shape.Mark sign.Input (lane_of lanes r)

@@ -1,7 +1,7 @@
 //! What of a picture shows an entry.
 
 ghost use Rattle.std.specs.Prelude.{◌≡◌, ℕ, ◌≤◌, length};
-ghost use Rattle.trace_picture.specs.Shapes.{arrow, choice_sign, shape_of, IsWithin};
+ghost use Rattle.trace_picture.specs.Shapes.{arrow_between, choice_sign, shape_of, IsWithin};
 
 use crate::lanes::lane_of;
 use dioc_terms::{Chosen, Entry, Role};
@@ -61,7 +61,7 @@ fn mark(sign: Sign, at: usize) -> Shape
 }
 
 fn arrow(from: usize, to: usize) -> Shape
-    ensures value { result ≡ arrow from to }
+    ensures value { result ≡ arrow_between from to }
     ensures within { (most : ℕ) → from ≤ most → to ≤ most → IsWithin most result }
 {
     if from == to {

@@ -1,4 +1,5 @@
-// The rule of the lock's table, and the names of its steps.
+//! The rule of the lock's table, and the names of its steps.
+
 ghost use Rattle.turn_lock.specs.Views.{first_view, split_view, new_view, joined, spent};
 ghost use Rattle.turn_lock.specs.Rule.{LockRule, Tried, Left};
 

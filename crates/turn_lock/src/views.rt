@@ -1,4 +1,5 @@
-// What a seat knows. No value of these types is made: they stand in contracts alone.
+//! What a seat knows. No value of these types is made: they stand in contracts alone.
+
 use std::collections::LinkedList;
 
 /// A number, and the items of that number that the list has so far.

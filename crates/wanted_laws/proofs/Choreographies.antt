@@ -16,7 +16,7 @@ use Rattle.wanted_tokens.specs.declared.goals.Goal.{Goal}
 use Rattle.wanted_tokens.specs.declared.goals.Goal.TheVariants as goal
 use Rattle.wanted_tokens.specs.declared.looks.Look.TheVariants as looks
 use Rattle.wanted_tokens.specs.Looks.{look}
-use Rattle.wanted_tokens.specs.Goals.{left_brace, right_brace, left_paren, right_paren, equal, at_sign, arrow, dot, n_word}
+use Rattle.wanted_tokens.specs.Goals.{left_brace, right_brace, left_paren, right_paren, equal, at_sign, arrow_sign, dot, n_word}
 use Rattle.wanted_tokens.specs.Takings.{Takes, Passes, Stops}
 use Rattle.wanted_tokens.specs.Expressions.{value}
 use Rattle.wanted_tokens.specs.Choreographies.{property}
@@ -271,13 +271,13 @@ module _ (version : ℕ) (second : Bool) (versions : version ≡ 2 → second �
     step_goes (interaction {sent = sent} {received = received} {to = to} {operation = operation} {sender = sender} {receiver = receiver} {variable = variable} rooms is e ends) rest closes through =
         subst (Through second (goal.Step ∷ rest)) (sym is)
         (takes second goal.Step rest (goal.StepBehindName ∷ []) (Name operation) (Symbol punctuator.Colon ∷ Name sender ∷ Symbol punctuator.LeftParen ∷ sent) refl
-        (takes second goal.StepBehindName rest (goal.Name ∷ left_paren ∷ goal.Expression kinds.Step ∷ right_paren ∷ arrow ∷ goal.Name ∷ left_paren ∷ goal.Name ∷ right_paren ∷ []) (Symbol punctuator.Colon) (Name sender ∷ Symbol punctuator.LeftParen ∷ sent) refl
-        (takes second goal.Name (left_paren ∷ goal.Expression kinds.Step ∷ right_paren ∷ arrow ∷ goal.Name ∷ left_paren ∷ goal.Name ∷ right_paren ∷ rest) ([]) (Name sender) (Symbol punctuator.LeftParen ∷ sent) refl
-        (takes second left_paren (goal.Expression kinds.Step ∷ right_paren ∷ arrow ∷ goal.Name ∷ left_paren ∷ goal.Name ∷ right_paren ∷ rest) ([]) (Symbol punctuator.LeftParen) sent refl
-        (expression_goes second kinds.Step e.reads (right_paren ∷ arrow ∷ goal.Name ∷ left_paren ∷ goal.Name ∷ right_paren ∷ rest) (λ c. subst (Through second (goal.MoreOperands kinds.Step c ∷ (right_paren ∷ arrow ∷ goal.Name ∷ left_paren ∷ goal.Name ∷ right_paren ∷ rest))) (sym ends)
-        (passes second (goal.MoreOperands kinds.Step c) (right_paren ∷ arrow ∷ goal.Name ∷ left_paren ∷ goal.Name ∷ right_paren ∷ rest) (Symbol punctuator.RightParen ∷ Symbol punctuator.Arrow ∷ Name receiver ∷ Symbol punctuator.LeftParen ∷ Name variable ∷ Symbol punctuator.RightParen ∷ to) refl
-        (takes second right_paren (arrow ∷ goal.Name ∷ left_paren ∷ goal.Name ∷ right_paren ∷ rest) ([]) (Symbol punctuator.RightParen) (Symbol punctuator.Arrow ∷ Name receiver ∷ Symbol punctuator.LeftParen ∷ Name variable ∷ Symbol punctuator.RightParen ∷ to) refl
-        (takes second arrow (goal.Name ∷ left_paren ∷ goal.Name ∷ right_paren ∷ rest) ([]) (Symbol punctuator.Arrow) (Name receiver ∷ Symbol punctuator.LeftParen ∷ Name variable ∷ Symbol punctuator.RightParen ∷ to) refl
+        (takes second goal.StepBehindName rest (goal.Name ∷ left_paren ∷ goal.Expression kinds.Step ∷ right_paren ∷ arrow_sign ∷ goal.Name ∷ left_paren ∷ goal.Name ∷ right_paren ∷ []) (Symbol punctuator.Colon) (Name sender ∷ Symbol punctuator.LeftParen ∷ sent) refl
+        (takes second goal.Name (left_paren ∷ goal.Expression kinds.Step ∷ right_paren ∷ arrow_sign ∷ goal.Name ∷ left_paren ∷ goal.Name ∷ right_paren ∷ rest) ([]) (Name sender) (Symbol punctuator.LeftParen ∷ sent) refl
+        (takes second left_paren (goal.Expression kinds.Step ∷ right_paren ∷ arrow_sign ∷ goal.Name ∷ left_paren ∷ goal.Name ∷ right_paren ∷ rest) ([]) (Symbol punctuator.LeftParen) sent refl
+        (expression_goes second kinds.Step e.reads (right_paren ∷ arrow_sign ∷ goal.Name ∷ left_paren ∷ goal.Name ∷ right_paren ∷ rest) (λ c. subst (Through second (goal.MoreOperands kinds.Step c ∷ (right_paren ∷ arrow_sign ∷ goal.Name ∷ left_paren ∷ goal.Name ∷ right_paren ∷ rest))) (sym ends)
+        (passes second (goal.MoreOperands kinds.Step c) (right_paren ∷ arrow_sign ∷ goal.Name ∷ left_paren ∷ goal.Name ∷ right_paren ∷ rest) (Symbol punctuator.RightParen ∷ Symbol punctuator.Arrow ∷ Name receiver ∷ Symbol punctuator.LeftParen ∷ Name variable ∷ Symbol punctuator.RightParen ∷ to) refl
+        (takes second right_paren (arrow_sign ∷ goal.Name ∷ left_paren ∷ goal.Name ∷ right_paren ∷ rest) ([]) (Symbol punctuator.RightParen) (Symbol punctuator.Arrow ∷ Name receiver ∷ Symbol punctuator.LeftParen ∷ Name variable ∷ Symbol punctuator.RightParen ∷ to) refl
+        (takes second arrow_sign (goal.Name ∷ left_paren ∷ goal.Name ∷ right_paren ∷ rest) ([]) (Symbol punctuator.Arrow) (Name receiver ∷ Symbol punctuator.LeftParen ∷ Name variable ∷ Symbol punctuator.RightParen ∷ to) refl
         (takes second goal.Name (left_paren ∷ goal.Name ∷ right_paren ∷ rest) ([]) (Name receiver) (Symbol punctuator.LeftParen ∷ Name variable ∷ Symbol punctuator.RightParen ∷ to) refl
         (takes second left_paren (goal.Name ∷ right_paren ∷ rest) ([]) (Symbol punctuator.LeftParen) (Name variable ∷ Symbol punctuator.RightParen ∷ to) refl
         (takes second goal.Name (right_paren ∷ rest) ([]) (Name variable) (Symbol punctuator.RightParen ∷ to) refl

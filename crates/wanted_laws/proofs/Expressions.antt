@@ -24,7 +24,7 @@ use Rattle.wanted_tokens.specs.Looks.{look}
 use Rattle.wanted_tokens.specs.declared.looks.Look.TheVariants as looks
 use Rattle.wanted_tokens.specs.Goals.{dot, right_paren}
 use Rattle.wanted_tokens.specs.Takings.{Takes, Stops}
-use Rattle.wanted_tokens.specs.Expressions.{operand, negated as negated_goal}
+use Rattle.wanted_tokens.specs.Expressions.{take_operand, take_negated as negated_goal}
 use Rattle.wanted_tokens.specs.Wanted.{taking}
 use Rattle.wanted_laws.proofs.Through.{Through, takes, passes, same_effect}
 
@@ -116,7 +116,7 @@ module _ (second : Bool) (kind : ExprKind) (rest : List Goal) (c : Bool) where
   number_operand : (digits : List ℕ) (others : List Lexeme) (n : ℕ) → number_up_to greatest digits ≡ Some n → taking second (goal.Operand kind c) (look (Number digits ∷ others)) ≡ Takes (goal.MoreOperands kind c ∷ [])
   number_operand digits others n is =
       let seen = seen_number greatest digits n is (omega arith) in
-      ap (λ found. operand kind c (looks.Number found)) seen.0 ∙ ap (λ (b : Bool). if b then Takes (goal.MoreOperands kind c ∷ []) else Stops) seen.1
+      ap (λ found. take_operand kind c (looks.Number found)) seen.0 ∙ ap (λ (b : Bool). if b then Takes (goal.MoreOperands kind c ∷ []) else Stops) seen.1
 
   number_negated : (digits : List ℕ) (others : List Lexeme) (n : ℕ) → number_up_to greatest_negated digits ≡ Some n → taking second (goal.Negated kind c) (look (Number digits ∷ others)) ≡ Takes (goal.MoreOperands kind c ∷ [])
   number_negated digits others n is = ap (λ found. negated_goal kind c (looks.Number found)) is

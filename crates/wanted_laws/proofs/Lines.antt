@@ -8,7 +8,7 @@ use Rattle.expr_syntax.specs.Constants.{greatest}
 use Rattle.wanted_tokens.specs.declared.goals.Goal.{Goal}
 use Rattle.wanted_tokens.specs.declared.goals.Goal.TheVariants as goal
 use Rattle.wanted_tokens.specs.Looks.{look}
-use Rattle.wanted_tokens.specs.Goals.{right_brace, equal, at_sign, arrow, dot, hash}
+use Rattle.wanted_tokens.specs.Goals.{right_brace, equal, at_sign, arrow_sign, dot, hash}
 use Rattle.wanted_tokens.specs.Takings.{Takes}
 use Rattle.wanted_tokens.specs.Wanted.{taking}
 use Rattle.wanted_laws.proofs.Through.{Through, takes, passes}
@@ -27,12 +27,12 @@ use Rattle.std.proofs.lemmas.Slice.Eq.{bytes_eq-Decides}
 use Rattle.trace_syntax.specs.Words.{auxiliary_of, auxiliary_tags, tag_word}
 use Rattle.trace_syntax.specs.declared.words.Setting.{Setting}
 use Rattle.trace_syntax.specs.declared.words.Line.TheVariants as line
-use Rattle.wanted_tokens.specs.Traces.{index}
+use Rattle.wanted_tokens.specs.Traces.{index_goals}
 
 module _ (second : Bool) (rest : List Goal) where
-  index_goes : {from to : List Lexeme} {at : Index} → IsIndex from at to → Through second rest to → Through second (index ++ rest) from
+  index_goes : {from to : List Lexeme} {at : Index} → IsIndex from at to → Through second rest to → Through second (index_goals ++ rest) from
   index_goes (is_index {epoch_digits = epoch_digits} {place_digits = place_digits} {epoch = epoch} {place = place} {to = to} is fits fits2) through =
-      subst (Through second (index ++ rest)) (sym is)
+      subst (Through second (index_goals ++ rest)) (sym is)
       (takes second hash (goal.Number greatest_place ∷ dot ∷ goal.Number greatest_place ∷ rest) [] (Symbol punctuator.Hash) (Number epoch_digits ∷ Symbol punctuator.Dot ∷ Number place_digits ∷ to) refl
       (number_goes second (dot ∷ goal.Number greatest_place ∷ rest) greatest_place epoch_digits (Symbol punctuator.Dot ∷ Number place_digits ∷ to) epoch (omega arith) fits
       (takes second dot (goal.Number greatest_place ∷ rest) [] (Symbol punctuator.Dot) (Number place_digits ∷ to) refl
@@ -75,16 +75,16 @@ no_operation word name is = let kept : not (is_operation (tag.Op name)) ≡ true
 module _ (second : Bool) (rest : List Goal) where
   -- what follows a tag of a put
   payload_goes : (wanted : Goal) {indexed equated noted : List Lexeme} {at : Index} → IsIndex indexed at equated → equated ≡ Symbol punctuator.Equal ∷ noted → Through second (wanted ∷ rest) noted
-      → Through second (index ++ equal ∷ wanted ∷ rest) indexed
+      → Through second (index_goals ++ equal ∷ wanted ∷ rest) indexed
   payload_goes wanted {noted = noted} i is through =
       index_goes second (equal ∷ wanted ∷ rest) i (subst (Through second (equal ∷ wanted ∷ rest)) (sym is) (takes second equal (wanted ∷ rest) [] (Symbol punctuator.Equal) noted refl through))
 
-  put_word : (wanted : Goal) (word : List ℕ) (indexed : List Lexeme) → taking second goal.AuxiliaryOfPut (look (Name word ∷ indexed)) ≡ Takes (index ++ equal ∷ wanted ∷ []) → Through second (index ++ equal ∷ wanted ∷ rest) indexed
+  put_word : (wanted : Goal) (word : List ℕ) (indexed : List Lexeme) → taking second goal.AuxiliaryOfPut (look (Name word ∷ indexed)) ≡ Takes (index_goals ++ equal ∷ wanted ∷ []) → Through second (index_goals ++ equal ∷ wanted ∷ rest) indexed
       → Through second (goal.AuxiliaryOfPut ∷ rest) (Name word ∷ indexed)
-  put_word wanted word indexed is through = takes second goal.AuxiliaryOfPut rest (index ++ equal ∷ wanted ∷ []) (Name word) indexed is through
+  put_word wanted word indexed is through = takes second goal.AuxiliaryOfPut rest (index_goals ++ equal ∷ wanted ∷ []) (Name word) indexed is through
 
-  spelled_taken : (wanted : Goal) (word spelled : List ℕ) (indexed : List Lexeme) → word ≡ spelled → taking second goal.AuxiliaryOfPut (look (Name spelled ∷ indexed)) ≡ Takes (index ++ equal ∷ wanted ∷ [])
-      → taking second goal.AuxiliaryOfPut (look (Name word ∷ indexed)) ≡ Takes (index ++ equal ∷ wanted ∷ [])
+  spelled_taken : (wanted : Goal) (word spelled : List ℕ) (indexed : List Lexeme) → word ≡ spelled → taking second goal.AuxiliaryOfPut (look (Name spelled ∷ indexed)) ≡ Takes (index_goals ++ equal ∷ wanted ∷ [])
+      → taking second goal.AuxiliaryOfPut (look (Name word ∷ indexed)) ≡ Takes (index_goals ++ equal ∷ wanted ∷ [])
   spelled_taken wanted word spelled indexed same is = ap (λ word. taking second goal.AuxiliaryOfPut (look (Name word ∷ indexed))) same ∙ is
 
   done_goes : {from : List Lexeme} (to : List Lexeme) → from ≡ Name (codes "done") ∷ to → Through second rest to → Through second (goal.Done ∷ rest) from
@@ -109,12 +109,12 @@ module _ (second : Bool) (rest : List Goal) where
       → Through second rest to → Through second (goal.TagOfPut ∷ rest) tagged
   put_tag_goes {noted = noted} {to = to} (operation {name = name} {to = indexed} begins) i is (value {v = v} read) through =
       subst (Through second (goal.TagOfPut ∷ rest)) (sym begins)
-      (takes second goal.TagOfPut rest (index ++ equal ∷ goal.Value ∷ []) (Name name) indexed refl (payload_goes goal.Value i is (value_goes second rest noted to v read through)))
+      (takes second goal.TagOfPut rest (index_goals ++ equal ∷ goal.Value ∷ []) (Name name) indexed refl (payload_goes goal.Value i is (value_goes second rest noted to v read through)))
   put_tag_goes (auxiliary {word = word} {to = indexed} begins of) i is n through =
       subst (Through second (goal.TagOfPut ∷ rest)) (sym begins)
       (takes second goal.TagOfPut rest (goal.AuxiliaryOfPut ∷ []) (Symbol punctuator.Bang) (Name word ∷ indexed) refl (auxiliary_goes word of n i is through))
 
-  take_word : (word : List ℕ) (aux : Tag) (indexed : List Lexeme) → auxiliary_of word ≡ Some aux → taking second goal.AuxiliaryOfTake (look (Name word ∷ indexed)) ≡ Takes index
+  take_word : (word : List ℕ) (aux : Tag) (indexed : List Lexeme) → auxiliary_of word ≡ Some aux → taking second goal.AuxiliaryOfTake (look (Name word ∷ indexed)) ≡ Takes index_goals
   take_word word (tag.Op name) indexed of = absurd (no_operation word name of)
   take_word word tag.Choice indexed of = ap (λ word. taking second goal.AuxiliaryOfTake (look (Name word ∷ indexed))) (spelled_so word tag.Choice of)
   take_word word tag.Go indexed of = ap (λ word. taking second goal.AuxiliaryOfTake (look (Name word ∷ indexed))) (spelled_so word tag.Go of)
@@ -128,30 +128,30 @@ module _ (second : Bool) (rest : List Goal) where
       → Through second rest to → Through second (goal.TagOfTake ∷ rest) tagged
   take_tag_goes (operation {name = name} {to = indexed} begins) i (variable {variable = x} {to = to} is) through =
       subst (Through second (goal.TagOfTake ∷ rest)) (sym begins)
-      (takes second goal.TagOfTake rest (index ++ goal.Name ∷ []) (Name name) indexed refl
+      (takes second goal.TagOfTake rest (index_goals ++ goal.Name ∷ []) (Name name) indexed refl
       (index_goes second (goal.Name ∷ rest) i (subst (Through second (goal.Name ∷ rest)) (sym is) (takes second goal.Name rest [] (Name x) to refl through))))
   take_tag_goes (operation begins) i (no_variable none) through = absurd cc
   take_tag_goes (auxiliary {word = word} {aux = aux} {to = indexed} begins of) i (variable {name = name} is) through = absurd (no_operation word name of)
   take_tag_goes (auxiliary {word = word} {aux = aux} {to = indexed} begins of) i (no_variable none) through =
       subst (Through second (goal.TagOfTake ∷ rest)) (sym begins)
       (takes second goal.TagOfTake rest (goal.AuxiliaryOfTake ∷ []) (Symbol punctuator.Bang) (Name word ∷ indexed) refl
-      (takes second goal.AuxiliaryOfTake rest index (Name word) indexed (take_word word aux indexed of) (index_goes second rest i through)))
+      (takes second goal.AuxiliaryOfTake rest index_goals (Name word) indexed (take_word word aux indexed of) (index_goes second rest i through)))
 
   -- a message's ends
   ends_go : (sender receiver : List ℕ) {from : List Lexeme} (tagged : List Lexeme) → from ≡ Name sender ∷ Symbol punctuator.Arrow ∷ Name receiver ∷ tagged → Through second rest tagged
-      → Through second (goal.Name ∷ arrow ∷ goal.Name ∷ rest) from
+      → Through second (goal.Name ∷ arrow_sign ∷ goal.Name ∷ rest) from
   ends_go sender receiver tagged is through =
-      subst (Through second (goal.Name ∷ arrow ∷ goal.Name ∷ rest)) (sym is)
-      (takes second goal.Name (arrow ∷ goal.Name ∷ rest) [] (Name sender) (Symbol punctuator.Arrow ∷ Name receiver ∷ tagged) refl
-      (takes second arrow (goal.Name ∷ rest) [] (Symbol punctuator.Arrow) (Name receiver ∷ tagged) refl
+      subst (Through second (goal.Name ∷ arrow_sign ∷ goal.Name ∷ rest)) (sym is)
+      (takes second goal.Name (arrow_sign ∷ goal.Name ∷ rest) [] (Name sender) (Symbol punctuator.Arrow ∷ Name receiver ∷ tagged) refl
+      (takes second arrow_sign (goal.Name ∷ rest) [] (Symbol punctuator.Arrow) (Name receiver ∷ tagged) refl
       (takes second goal.Name rest [] (Name receiver) tagged refl through)))
 
-  setting_goes : {from to : List Lexeme} {setting : Setting} → IsSetting from setting to → Through second rest to → Through second (goal.Name ∷ at_sign ∷ goal.Name ∷ index ++ equal ∷ goal.Value ∷ rest) from
+  setting_goes : {from to : List Lexeme} {setting : Setting} → IsSetting from setting to → Through second rest to → Through second (goal.Name ∷ at_sign ∷ goal.Name ∷ index_goals ++ equal ∷ goal.Value ∷ rest) from
   setting_goes (is_setting {variable = x} {owner = owner} {v = v} {indexed = indexed} {valued = valued} {to = to} begins i is read) through =
-      subst (Through second (goal.Name ∷ at_sign ∷ goal.Name ∷ index ++ equal ∷ goal.Value ∷ rest)) (sym begins)
-      (takes second goal.Name (at_sign ∷ goal.Name ∷ index ++ equal ∷ goal.Value ∷ rest) [] (Name x) (Symbol punctuator.At ∷ Name owner ∷ indexed) refl
-      (takes second at_sign (goal.Name ∷ index ++ equal ∷ goal.Value ∷ rest) [] (Symbol punctuator.At) (Name owner ∷ indexed) refl
-      (takes second goal.Name (index ++ equal ∷ goal.Value ∷ rest) [] (Name owner) indexed refl
+      subst (Through second (goal.Name ∷ at_sign ∷ goal.Name ∷ index_goals ++ equal ∷ goal.Value ∷ rest)) (sym begins)
+      (takes second goal.Name (at_sign ∷ goal.Name ∷ index_goals ++ equal ∷ goal.Value ∷ rest) [] (Name x) (Symbol punctuator.At ∷ Name owner ∷ indexed) refl
+      (takes second at_sign (goal.Name ∷ index_goals ++ equal ∷ goal.Value ∷ rest) [] (Symbol punctuator.At) (Name owner ∷ indexed) refl
+      (takes second goal.Name (index_goals ++ equal ∷ goal.Value ∷ rest) [] (Name owner) indexed refl
       (payload_goes goal.Value i is (value_goes second rest valued to v read through)))))
 
   choice_goes : {from to : List Lexeme} {chosen : Chosen} → IsChoice from chosen to → Through second rest to → Through second (goal.Chosen ∷ rest) from
@@ -170,27 +170,27 @@ module _ (second : Bool) (rest : List Goal) where
   line_goes : {from to : List Lexeme} {e : Entry} → IsLine from (line.Entry e) to → Through second (goal.Lines ∷ rest) to → Through second (goal.Lines ∷ rest) from
   line_goes (put {keyed = keyed} is (is_key {sender = sender} {receiver = receiver} {tagged = tagged} begins t i) ends n) through =
       subst (Through second (goal.Lines ∷ rest)) (sym is)
-      (takes second goal.Lines rest (goal.Name ∷ arrow ∷ goal.Name ∷ goal.TagOfPut ∷ goal.Lines ∷ []) (Name (codes "put")) keyed refl
+      (takes second goal.Lines rest (goal.Name ∷ arrow_sign ∷ goal.Name ∷ goal.TagOfPut ∷ goal.Lines ∷ []) (Name (codes "put")) keyed refl
       (ends_go second (goal.TagOfPut ∷ goal.Lines ∷ rest) sender receiver tagged begins (put_tag_goes second (goal.Lines ∷ rest) t i ends n through)))
   line_goes (take {keyed = keyed} is (is_key {sender = sender} {receiver = receiver} {tagged = tagged} begins t i) x) through =
       subst (Through second (goal.Lines ∷ rest)) (sym is)
-      (takes second goal.Lines rest (goal.Name ∷ arrow ∷ goal.Name ∷ goal.TagOfTake ∷ goal.Lines ∷ []) (Name (codes "take")) keyed refl
+      (takes second goal.Lines rest (goal.Name ∷ arrow_sign ∷ goal.Name ∷ goal.TagOfTake ∷ goal.Lines ∷ []) (Name (codes "take")) keyed refl
       (ends_go second (goal.TagOfTake ∷ goal.Lines ∷ rest) sender receiver tagged begins (take_tag_goes second (goal.Lines ∷ rest) t i x through)))
   line_goes (set {rest = behind} is setting) through =
       subst (Through second (goal.Lines ∷ rest)) (sym is)
-      (takes second goal.Lines rest (goal.Name ∷ at_sign ∷ goal.Name ∷ index ++ equal ∷ goal.Value ∷ goal.Lines ∷ []) (Name (codes "set")) behind refl (setting_goes second (goal.Lines ∷ rest) setting through))
+      (takes second goal.Lines rest (goal.Name ∷ at_sign ∷ goal.Name ∷ index_goals ++ equal ∷ goal.Value ∷ goal.Lines ∷ []) (Name (codes "set")) behind refl (setting_goes second (goal.Lines ∷ rest) setting through))
   line_goes (input {rest = behind} is setting) through =
       subst (Through second (goal.Lines ∷ rest)) (sym is)
-      (takes second goal.Lines rest (goal.Name ∷ at_sign ∷ goal.Name ∷ index ++ equal ∷ goal.Value ∷ goal.Lines ∷ []) (Reserved word.Input) behind refl (setting_goes second (goal.Lines ∷ rest) setting through))
+      (takes second goal.Lines rest (goal.Name ∷ at_sign ∷ goal.Name ∷ index_goals ++ equal ∷ goal.Value ∷ goal.Lines ∷ []) (Reserved word.Input) behind refl (setting_goes second (goal.Lines ∷ rest) setting through))
   line_goes (pick {chooser = chooser} {indexed = indexed} is i t) through =
       subst (Through second (goal.Lines ∷ rest)) (sym is)
-      (takes second goal.Lines rest (goal.Name ∷ index ++ goal.Truth ∷ goal.Lines ∷ []) (Name (codes "pick")) (Name chooser ∷ indexed) refl
-      (takes second goal.Name (index ++ goal.Truth ∷ goal.Lines ∷ rest) [] (Name chooser) indexed refl
+      (takes second goal.Lines rest (goal.Name ∷ index_goals ++ goal.Truth ∷ goal.Lines ∷ []) (Name (codes "pick")) (Name chooser ∷ indexed) refl
+      (takes second goal.Name (index_goals ++ goal.Truth ∷ goal.Lines ∷ rest) [] (Name chooser) indexed refl
       (index_goes second (goal.Truth ∷ goal.Lines ∷ rest) i (truth_goes second (goal.Lines ∷ rest) t through))))
   line_goes (scope {leader = leader} {indexed = indexed} is i chosen) through =
       subst (Through second (goal.Lines ∷ rest)) (sym is)
-      (takes second goal.Lines rest (goal.Name ∷ index ++ goal.Chosen ∷ goal.Lines ∷ []) (Reserved word.Scope) (Name leader ∷ indexed) refl
-      (takes second goal.Name (index ++ goal.Chosen ∷ goal.Lines ∷ rest) [] (Name leader) indexed refl
+      (takes second goal.Lines rest (goal.Name ∷ index_goals ++ goal.Chosen ∷ goal.Lines ∷ []) (Reserved word.Scope) (Name leader ∷ indexed) refl
+      (takes second goal.Name (index_goals ++ goal.Chosen ∷ goal.Lines ∷ rest) [] (Name leader) indexed refl
       (index_goes second (goal.Chosen ∷ goal.Lines ∷ rest) i (choice_goes second (goal.Lines ∷ rest) chosen through))))
   line_goes (add {name = name} {to = to} is) through =
       subst (Through second (goal.Lines ∷ rest)) (sym is)

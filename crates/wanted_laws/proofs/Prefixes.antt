@@ -2,7 +2,7 @@
 use Rattle.std.proofs.Common.{◌≡◌, ℕ, zero, suc, ◌<◌, List, [], ◌∷◌, ◌++◌, Option, Some, None, option_map, length, take, refl, ap, ◌∙◌, arith}
 use Rattle.aioc_tokens.specs.Lexemes.{Lexeme, Name, Long, Number, Text, Reserved, Symbol}
 use Rattle.wanted_tokens.specs.Looks.{look}
-use Rattle.wanted_tokens.specs.Wanted.{Reading, behind, next_stop, stop}
+use Rattle.wanted_tokens.specs.Wanted.{Reading, reading_behind, next_stop, stop}
 
 -- what is seen of a list is its first lexeme alone
 look_first : (first : Lexeme) (others more : List Lexeme) → look (first ∷ others) ≡ look (first ∷ more)
@@ -33,7 +33,7 @@ stops_later (Some reading) more others place later is = ap (option_map suc) (lat
 pub same_stop : (text others : List Lexeme) (place : ℕ) (r : Reading) → place < length text → stop text r ≡ Some place → stop (take (suc place) text ++ others) r ≡ Some place
 same_stop [] others place r within is = absurd (omega arith)
 same_stop (first ∷ more) others zero r within is =
-    ap (λ seen. next_stop (behind r.second r.wanted seen) (stop others)) (look_first first others more) ∙ stops_here (behind r.second r.wanted (look (first ∷ more))) more others is
+    ap (λ seen. next_stop (reading_behind r.second r.wanted seen) (stop others)) (look_first first others more) ∙ stops_here (reading_behind r.second r.wanted (look (first ∷ more))) more others is
 same_stop (first ∷ more) others (suc place) r within is =
-    ap (λ seen. next_stop (behind r.second r.wanted seen) (stop (take (suc place) more ++ others))) (look_first first (take (suc place) more ++ others) more)
-    ∙ stops_later (behind r.second r.wanted (look (first ∷ more))) more (take (suc place) more ++ others) place (λ r is. same_stop more others place r (omega arith) is) is
+    ap (λ seen. next_stop (reading_behind r.second r.wanted seen) (stop (take (suc place) more ++ others))) (look_first first (take (suc place) more ++ others) more)
+    ∙ stops_later (reading_behind r.second r.wanted (look (first ∷ more))) more (take (suc place) more ++ others) place (λ r is. same_stop more others place r (omega arith) is) is

@@ -19,7 +19,7 @@ use Rattle.wanted_laws.proofs.Choreographies.{number_goes, value_goes, at_brace,
 use Rattle.dioc_terms.specs.declared.values.Value.{Value}
 use Rattle.dioc_terms.specs.Plain.{PlainRule}
 use Rattle.rule_syntax.specs.Grammar.{HasPriority, no_priority, priority, negative_priority, IsRule, IsBinding, PlainChange, IsChange, adds, drops, sets}
-use Rattle.wanted_tokens.specs.Rules.{rule, rank}
+use Rattle.wanted_tokens.specs.Rules.{rule_goals, rank}
 
 priority_passed : (second : Bool) (others : List Lexeme) → taking second goal.Priority (look (Symbol punctuator.LeftBrace ∷ others)) ≡ Passes
 priority_passed true others = refl
@@ -57,7 +57,7 @@ module _ (second : Bool) (rest : List Goal) where
 
 module _ (version : ℕ) (second : Bool) (versions : version ≡ 2 → second ≡ true) where
   -- a rule behind its first word goes through
-  rule_behind : {room : ℕ} {from to : List Lexeme} {found : PlainRule} (r : IsRule version room from found to) (rest : List Goal) → Through second rest to → Through second (rule ++ rest) (Name found.name ∷ r.ranked)
+  rule_behind : {room : ℕ} {from to : List Lexeme} {found : PlainRule} (r : IsRule version room from found to) (rest : List Goal) → Through second rest to → Through second (rule_goals ++ rest) (Name found.name ∷ r.ranked)
   rule_behind {to = to} {found = found} r rest through =
       takes second goal.Name (goal.Priority ∷ left_brace ∷ on_word ∷ left_brace ∷ goal.Expression kinds.Condition ∷ right_brace ∷ do_word ∷ left_brace ∷ goal.Step ∷ goal.MoreSteps ∷ goal.MoreParts ∷ right_brace ∷ right_brace ∷ rest) [] (Name found.name) r.ranked refl
       (priority_goes version second versions (left_brace ∷ on_word ∷ left_brace ∷ goal.Expression kinds.Condition ∷ right_brace ∷ do_word ∷ left_brace ∷ goal.Step ∷ goal.MoreSteps ∷ goal.MoreParts ∷ right_brace ∷ right_brace ∷ rest) (Reserved word.On ∷ Symbol punctuator.LeftBrace ∷ r.condition) r.priority r.opens (subst (Through second (left_brace ∷ on_word ∷ left_brace ∷ goal.Expression kinds.Condition ∷ right_brace ∷ do_word ∷ left_brace ∷ goal.Step ∷ goal.MoreSteps ∷ goal.MoreParts ∷ right_brace ∷ right_brace ∷ rest)) (sym r.opens)
@@ -74,17 +74,17 @@ module _ (version : ℕ) (second : Bool) (versions : version ≡ 2 → second �
       (takes second right_brace rest ([]) (Symbol punctuator.RightBrace) to refl
       (through))))))))))))))))
 
-  pub rule_goes : {room : ℕ} {from to : List Lexeme} {found : PlainRule} → IsRule version room from found to → (rest : List Goal) → Through second rest to → Through second (rule_word ∷ rule ++ rest) from
+  pub rule_goes : {room : ℕ} {from to : List Lexeme} {found : PlainRule} → IsRule version room from found to → (rest : List Goal) → Through second rest to → Through second (rule_word ∷ rule_goals ++ rest) from
   rule_goes {found = found} r rest through =
-      subst (Through second (rule_word ∷ rule ++ rest)) (sym r.begins) (takes second rule_word (rule ++ rest) [] (Reserved word.Rule) (Name found.name ∷ r.ranked) refl (rule_behind r rest through))
+      subst (Through second (rule_word ∷ rule_goals ++ rest)) (sym r.begins) (takes second rule_word (rule_goals ++ rest) [] (Reserved word.Rule) (Name found.name ∷ r.ranked) refl (rule_behind r rest through))
 
   pub rules_go : {room : ℕ} {from to : List Lexeme} {found : PlainRule} → IsRule version room from found to → (rest : List Goal) → Through second (goal.Rules ∷ rest) to → Through second (goal.Rules ∷ rest) from
   rules_go {found = found} r rest through =
-      subst (Through second (goal.Rules ∷ rest)) (sym r.begins) (takes second goal.Rules rest (rule ++ goal.Rules ∷ []) (Reserved word.Rule) (Name found.name ∷ r.ranked) refl (rule_behind r (goal.Rules ∷ rest) through))
+      subst (Through second (goal.Rules ∷ rest)) (sym r.begins) (takes second goal.Rules rest (rule_goals ++ goal.Rules ∷ []) (Reserved word.Rule) (Name found.name ∷ r.ranked) refl (rule_behind r (goal.Rules ∷ rest) through))
 
   pub change_goes : {room : ℕ} {from to : List Lexeme} {change : PlainChange} → IsChange version room from change to → (rest : List Goal) → Through second rest to → Through second (goal.Change ∷ rest) from
   change_goes (adds {given = given} is r) rest through =
-      subst (Through second (goal.Change ∷ rest)) (sym is) (takes second goal.Change rest (rule_word ∷ rule) (Name (codes "add")) given refl (rule_goes r rest through))
+      subst (Through second (goal.Change ∷ rest)) (sym is) (takes second goal.Change rest (rule_word ∷ rule_goals) (Name (codes "add")) given refl (rule_goes r rest through))
   change_goes (drops {to = to} {name = name} is) rest through =
       subst (Through second (goal.Change ∷ rest)) (sym is)
       (takes second goal.Change rest (goal.Name ∷ []) (Name (codes "drop")) (Name name ∷ to) refl (takes second goal.Name rest [] (Name name) to refl through))

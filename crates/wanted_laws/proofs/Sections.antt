@@ -21,14 +21,14 @@ use Rattle.dioc_terms.specs.declared.bundles.Trace.{Trace}
 use Rattle.dioc_terms.specs.Terms.{Term}
 use Rattle.dioc_terms.specs.Plain.{PlainBundle}
 use Rattle.bundle_text.specs.Many.{Many, no_more, one_more}
-use Rattle.bundle_text.specs.Grammar.{IsBound, IsNextValue, AreValues, IsInput, PlainTimed, IsTimed, Section, Aioc, Rules, Environment, Inputs, Script, Traced, IsSection, aioc, rules, environment, inputs, script, trace, joined, IsOnly, HasVersion, first_version, second_version, IsBundle}
+use Rattle.bundle_text.specs.Grammar.{IsBound, IsNextValue, AreValues, IsInput, PlainTimed, IsTimed, Section, Aioc, Rules, Environment, Inputs, Script, Traced, IsSection, aioc, rules, environment, inputs, script, trace, joined_sections, IsOnly, HasVersion, first_version, second_version, IsBundle}
 use Rattle.bundle_text.specs.Sessions.{IsSession}
 use Rattle.wanted_tokens.specs.declared.looks.PlaceWord.{PlaceWord}
 use Rattle.wanted_tokens.specs.declared.looks.PlaceWord.TheVariants as place
 use Rattle.wanted_tokens.specs.Looks.{place_word_of}
 use Rattle.wanted_tokens.specs.Tokens.{two}
 use Rattle.wanted_tokens.specs.Sections.{sections, bundle}
-use Rattle.wanted_tokens.specs.Wanted.{version_behind, behind, next_stop, stop}
+use Rattle.wanted_tokens.specs.Wanted.{version_behind, reading_behind, next_stop, stop}
 use Rattle.wanted_laws.proofs.Rules.{rules_go, change_goes}
 use Rattle.wanted_laws.proofs.Lines.{trace_goes}
 
@@ -205,7 +205,7 @@ only_trace (only ∷ []) found is = one_trace refl
 only_trace (_ ∷ _ ∷ _) found is = absurd is
 
 module _ (version : ℕ) (second : Bool) (versions : version ≡ 2 → second ≡ true) (rest : List Goal) where
-  sections_go : (c t : Bool) {from to : List Lexeme} {sections : List Section} → Many (IsSection version) from sections to → Fits c ((joined sections).choreos) → FitsTrace t ((joined sections).traces)
+  sections_go : (c t : Bool) {from to : List Lexeme} {sections : List Section} → Many (IsSection version) from sections to → Fits c ((joined_sections sections).choreos) → FitsTrace t ((joined_sections sections).traces)
       → ((t : Bool) → Through second (sections_of true t ∷ rest) to) → Through second (sections_of c t ∷ rest) from
   sections_go c t no_more (none_left is) traces ends = ends t
   sections_go c t no_more (one_left is) traces ends = absurd cc
@@ -224,7 +224,7 @@ module _ (version : ℕ) (second : Bool) (versions : version ≡ 2 → second �
 word_alike : (second : Bool) (rest : List Goal) (name : List ℕ) (others : List Lexeme) (w : Option PlaceWord) → place_word_of name ≡ w → Through second (goal.Sections ∷ rest) (Name name ∷ others)
     → taking second goal.Bundle (look (Name name ∷ others)) ≡ taking second goal.Sections (look (Name name ∷ others))
 word_alike second rest name others (Some place.Version) is through =
-    let stops : next_stop (behind second (goal.Sections ∷ rest) (looks.Name (Some place.Version))) (stop others) ≡ None = ap (λ w. next_stop (behind second (goal.Sections ∷ rest) (looks.Name w)) (stop others)) (sym is) ∙ through in
+    let stops : next_stop (reading_behind second (goal.Sections ∷ rest) (looks.Name (Some place.Version))) (stop others) ≡ None = ap (λ w. next_stop (reading_behind second (goal.Sections ∷ rest) (looks.Name w)) (stop others)) (sym is) ∙ through in
     absurd cc
 word_alike second rest name others None is through = ap (λ w. bundle (looks.Name w)) is ∙ sym (ap (λ w. sections (looks.Name w)) is)
 word_alike second rest name others (Some place.Session) is through = ap (λ w. bundle (looks.Name w)) is ∙ sym (ap (λ w. sections (looks.Name w)) is)
@@ -267,17 +267,17 @@ module _ (rest : List Goal) where
   pub bundle_goes : {from to : List Lexeme} {b : PlainBundle} → IsBundle from b to → ((second t : Bool) → Through second (sections_of true t ∷ rest) to) → Through false (goal.Bundle ∷ rest) from
   bundle_goes {from = from} {to = to} {b = b} is ends = by_version is.version is.stand
     where
-      fits : Fits false ((joined is.sections).choreos)
+      fits : Fits false ((joined_sections is.sections).choreos)
       fits = one_left is.made.choreo
 
       by_version : {v : ℕ} {inside : List Lexeme} → HasVersion from v inside → Many (IsSection v) inside is.sections to → Through false (goal.Bundle ∷ rest) from
       by_version first_version stand =
-          as_bundle false rest from (sections_go 1 false (λ no. absurd cc) rest false false stand fits (only_trace ((joined is.sections).traces) b.trace is.made.trace) (ends false))
+          as_bundle false rest from (sections_go 1 false (λ no. absurd cc) rest false false stand fits (only_trace ((joined_sections is.sections).traces) b.trace is.made.trace) (ends false))
       by_version (second_version {to = inside} {digits = digits} begins value) stand =
           subst (Through false (goal.Bundle ∷ rest)) (sym begins)
           (takes false goal.Bundle rest (goal.Two ∷ goal.Sections ∷ []) (Name (codes "version")) (Number digits ∷ inside) refl
           (takes false goal.Two (goal.Sections ∷ rest) [] (Number digits) inside (two_taken false digits inside value)
-          (sections_go 2 true (λ _. refl) rest false false stand fits (only_trace ((joined is.sections).traces) b.trace is.made.trace) (ends true))))
+          (sections_go 2 true (λ _. refl) rest false false stand fits (only_trace ((joined_sections is.sections).traces) b.trace is.made.trace) (ends true))))
 
 over_at_end : (second t : Bool) → Through second (sections_of true t ∷ []) []
 over_at_end second false = refl

@@ -8,13 +8,13 @@ use Rattle.wanted_tokens.specs.declared.looks.Look.{Look}
 use Rattle.wanted_tokens.specs.declared.looks.Look.TheVariants as looks
 use Rattle.wanted_tokens.specs.declared.goals.Goal.{Goal}
 use Rattle.wanted_tokens.specs.declared.goals.Goal.TheVariants as goal
-use Rattle.wanted_tokens.specs.Goals.{left_brace, right_brace, left_paren, right_paren, equal, at_sign, arrow, dot, n_word}
-use Rattle.wanted_tokens.specs.Takings.{Effect, Takes, Passes, Stops}
-use Rattle.wanted_tokens.specs.Expressions.{expression}
+use Rattle.wanted_tokens.specs.Goals.{left_brace, right_brace, left_paren, right_paren, equal, at_sign, arrow_sign, dot, n_word}
+use Rattle.wanted_tokens.specs.Takings.{GoalEffect, Takes, Passes, Stops}
+use Rattle.wanted_tokens.specs.Expressions.{take_expression}
 
 -- "{" choreo "}"
-abbrev pub block : List Goal
-block = left_brace ∷ goal.Step ∷ goal.MoreSteps ∷ goal.MoreParts ∷ right_brace ∷ []
+abbrev pub block_goals : List Goal
+block_goals = left_brace ∷ goal.Step ∷ goal.MoreSteps ∷ goal.MoreParts ∷ right_brace ∷ []
 
 -- a step that begins with a reserved word or a bracket, behind that:
 --   step = "skip"
@@ -24,19 +24,19 @@ block = left_brace ∷ goal.Step ∷ goal.MoreSteps ∷ goal.MoreParts ∷ right
 --              [ "roles" "{" name { "," name } "}" ] [ "prop" "{" [ props ] "}" ]
 --        | "(" choreo ")"
 abbrev pub conditional : List Goal
-conditional = goal.Expression kinds.Step ∷ at_sign ∷ goal.Name ∷ block ++ goal.Otherwise ∷ []
+conditional = goal.Expression kinds.Step ∷ at_sign ∷ goal.Name ∷ block_goals ++ goal.Otherwise ∷ []
 
 abbrev pub loop : List Goal
-loop = goal.Expression kinds.Step ∷ at_sign ∷ goal.Name ∷ block
+loop = goal.Expression kinds.Step ∷ at_sign ∷ goal.Name ∷ block_goals
 
 abbrev pub scope : List Goal
-scope = at_sign ∷ goal.Name ∷ block ++ goal.ExtraRoles ∷ goal.Properties ∷ []
+scope = at_sign ∷ goal.Name ∷ block_goals ++ goal.ExtraRoles ∷ goal.Properties ∷ []
 
 abbrev pub group : List Goal
 group = goal.Step ∷ goal.MoreSteps ∷ goal.MoreParts ∷ right_paren ∷ []
 
 -- a step, and what is wanted behind it
-abbrev pub step_before : List Goal → Look → Effect
+abbrev pub step_before : List Goal → Look → GoalEffect
 step_before others (looks.Reserved word.Skip) = Takes others
 step_before others (looks.Name word) = Takes (goal.StepBehindName ∷ others)
 step_before others (looks.Reserved word.If) = Takes (conditional ++ others)
@@ -45,61 +45,61 @@ step_before others (looks.Reserved word.Scope) = Takes (scope ++ others)
 step_before others (looks.Symbol punctuator.LeftParen) = Takes (group ++ others)
 step_before others _ = Stops
 
-abbrev pub step : Look → Effect
-step look = step_before [] look
+abbrev pub take_step : Look → GoalEffect
+take_step look = step_before [] look
 
 -- behind the name at a step's front:
 --   ":" name "(" expr ")" "->" name "(" name ")" | "@" name "=" ( "input" "(" ")" | expr )
-abbrev pub sending : List Goal
-sending =
-    goal.Name ∷ left_paren ∷ goal.Expression kinds.Step ∷ right_paren ∷ arrow
+abbrev pub sending_goals : List Goal
+sending_goals =
+    goal.Name ∷ left_paren ∷ goal.Expression kinds.Step ∷ right_paren ∷ arrow_sign
     ∷ goal.Name ∷ left_paren ∷ goal.Name ∷ right_paren ∷ []
 
-abbrev pub step_behind_name : Look → Effect
-step_behind_name (looks.Symbol punctuator.Colon) = Takes sending
+abbrev pub step_behind_name : Look → GoalEffect
+step_behind_name (looks.Symbol punctuator.Colon) = Takes sending_goals
 step_behind_name (looks.Symbol punctuator.At) =
     Takes (goal.Name ∷ equal ∷ goal.Assigned ∷ [])
 step_behind_name _ = Stops
 
-abbrev pub assigned : Look → Effect
+abbrev pub assigned : Look → GoalEffect
 assigned (looks.Reserved word.Input) = Takes (left_paren ∷ right_paren ∷ [])
-assigned look = expression kinds.Step look
+assigned look = take_expression kinds.Step look
 
 -- seq = step { ";" step } [ ";" ]
-abbrev pub more_steps : Look → Effect
+abbrev pub more_steps : Look → GoalEffect
 more_steps (looks.Symbol punctuator.Semicolon) = Takes (goal.NextStep ∷ [])
 more_steps _ = Passes
 
-abbrev pub or_nothing : Effect → Effect
+abbrev pub or_nothing : GoalEffect → GoalEffect
 or_nothing Stops = Passes
 or_nothing other = other
 
-abbrev pub next_step : Look → Effect
+abbrev pub next_step : Look → GoalEffect
 next_step look = or_nothing (step_before (goal.MoreSteps ∷ []) look)
 
 -- choreo = seq { "|" seq }
-abbrev pub more_parts : Look → Effect
+abbrev pub more_parts : Look → GoalEffect
 more_parts (looks.Symbol punctuator.Bar) =
     Takes (goal.Step ∷ goal.MoreSteps ∷ goal.MoreParts ∷ [])
 more_parts _ = Passes
 
 -- [ "else" "{" choreo "}" ]
-abbrev pub otherwise : Look → Effect
-otherwise (looks.Reserved word.Else) = Takes block
+abbrev pub otherwise : Look → GoalEffect
+otherwise (looks.Reserved word.Else) = Takes block_goals
 otherwise _ = Passes
 
 -- in version 2 alone: [ "roles" "{" name { "," name } "}" ]
-abbrev pub extra_roles : Bool → Look → Effect
+abbrev pub extra_roles : Bool → Look → GoalEffect
 extra_roles true (looks.Name (Some place.Roles)) =
     Takes (left_brace ∷ goal.Name ∷ goal.MoreNames ∷ right_brace ∷ [])
 extra_roles _ _ = Passes
 
-abbrev pub more_names : Look → Effect
+abbrev pub more_names : Look → GoalEffect
 more_names (looks.Symbol punctuator.Comma) = Takes (goal.Name ∷ goal.MoreNames ∷ [])
 more_names _ = Passes
 
 -- [ "prop" "{" [ props ] "}" ], where props = "N" "." name "=" value { "," "N" "." name "=" value }
-abbrev pub properties : Look → Effect
+abbrev pub properties : Look → GoalEffect
 properties (looks.Reserved word.Prop) =
     Takes (left_brace ∷ goal.FirstProperty ∷ right_brace ∷ [])
 properties _ = Passes
@@ -107,10 +107,10 @@ properties _ = Passes
 abbrev pub property : List Goal
 property = dot ∷ goal.Name ∷ equal ∷ goal.Value ∷ goal.MoreProperties ∷ []
 
-abbrev pub first_property : Look → Effect
+abbrev pub first_property : Look → GoalEffect
 first_property (looks.Reserved word.N) = Takes property
 first_property _ = Passes
 
-abbrev pub more_properties : Look → Effect
+abbrev pub more_properties : Look → GoalEffect
 more_properties (looks.Symbol punctuator.Comma) = Takes (n_word ∷ property)
 more_properties _ = Passes

@@ -28,8 +28,8 @@ equal = Symbol punctuator.Equal
 abbrev pub at_sign : Goal
 at_sign = Symbol punctuator.At
 
-abbrev pub arrow : Goal
-arrow = Symbol punctuator.Arrow
+abbrev pub arrow_sign : Goal
+arrow_sign = Symbol punctuator.Arrow
 
 abbrev pub dot : Goal
 dot = Symbol punctuator.Dot

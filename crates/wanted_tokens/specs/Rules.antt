@@ -10,27 +10,27 @@ use Rattle.wanted_tokens.specs.declared.looks.Look.TheVariants as looks
 use Rattle.wanted_tokens.specs.declared.goals.Goal.{Goal}
 use Rattle.wanted_tokens.specs.declared.goals.Goal.TheVariants as goal
 use Rattle.wanted_tokens.specs.Goals.{left_brace, right_brace, equal, on_word, do_word, rule_word}
-use Rattle.wanted_tokens.specs.Takings.{Effect, Takes, Passes, Stops}
-use Rattle.wanted_tokens.specs.Choreographies.{block}
+use Rattle.wanted_tokens.specs.Takings.{GoalEffect, Takes, Passes, Stops}
+use Rattle.wanted_tokens.specs.Choreographies.{block_goals}
 
 -- a rule behind its first word:
 --   rule = "rule" name [ "priority" [ "-" ] number ] "{" "on" "{" expr "}" "do" "{" choreo "}" "}"
-abbrev pub rule : List Goal
-rule =
+abbrev pub rule_goals : List Goal
+rule_goals =
     goal.Name ∷ goal.Priority ∷ left_brace ∷ on_word ∷ left_brace
-    ∷ goal.Expression kinds.Condition ∷ right_brace ∷ do_word ∷ block ++ right_brace ∷ []
+    ∷ goal.Expression kinds.Condition ∷ right_brace ∷ do_word ∷ block_goals ++ right_brace ∷ []
 
 -- { rule }
-abbrev pub rules : Look → Effect
-rules (looks.Reserved word.Rule) = Takes (rule ++ goal.Rules ∷ [])
+abbrev pub rules : Look → GoalEffect
+rules (looks.Reserved word.Rule) = Takes (rule_goals ++ goal.Rules ∷ [])
 rules _ = Passes
 
 -- in version 2 alone: [ "priority" [ "-" ] number ]
-abbrev pub priority : Bool → Look → Effect
+abbrev pub priority : Bool → Look → GoalEffect
 priority true (looks.Name (Some place.Priority)) = Takes (goal.Rank ∷ [])
 priority _ _ = Passes
 
-abbrev pub rank : Look → Effect
+abbrev pub rank : Look → GoalEffect
 rank (looks.Number (Some n)) = if nat_le n most_priority then Takes [] else Stops
 rank (looks.Symbol punctuator.Minus) = Takes (goal.Number most_priority ∷ [])
 rank _ = Stops
@@ -40,8 +40,8 @@ abbrev pub binding : List Goal
 binding = equal ∷ goal.Value ∷ []
 
 -- change = "add" rule | "drop" name | "env" name "=" value
-abbrev pub change : Look → Effect
-change (looks.Name (Some place.Add)) = Takes (rule_word ∷ rule)
+abbrev pub change : Look → GoalEffect
+change (looks.Name (Some place.Add)) = Takes (rule_word ∷ rule_goals)
 change (looks.Name (Some place.Drop)) = Takes (goal.Name ∷ [])
 change (looks.Name (Some place.Env)) = Takes (goal.Name ∷ binding)
 change _ = Stops

@@ -4,20 +4,20 @@ use Rattle.wanted_tokens.specs.declared.goals.Goal.{Goal}
 use Rattle.wanted_tokens.specs.declared.takings.Taking.{Taking}
 use Rattle.wanted_tokens.specs.declared.takings.Taking.TheVariants as taking
 
-pub data Effect : Type 0 where
+pub data GoalEffect : Type 0 where
   -- the token is taken, and then these are wanted in the goal's place, in their order
-  Takes : List Goal → Effect
+  Takes : List Goal → GoalEffect
   -- the goal is reached without the token, which is for the next one
-  Passes : Effect
+  Passes : GoalEffect
   -- the token isn't wanted
-  Stops : Effect
+  Stops : GoalEffect
 
 abbrev pub listed : Option Goal → List Goal
 listed None = []
 listed (Some goal) = goal ∷ []
 
 -- what the program's answer stands for
-abbrev pub effect : Taking → Effect
+abbrev pub effect : Taking → GoalEffect
 effect (taking.Takes wanted last) = Takes (wanted.now ++ listed last)
 effect taking.Passes = Passes
 effect taking.Stops = Stops

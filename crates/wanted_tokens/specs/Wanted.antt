@@ -8,30 +8,30 @@ use Rattle.wanted_tokens.specs.declared.looks.Look.TheVariants as looks
 use Rattle.wanted_tokens.specs.declared.goals.Goal.{Goal}
 use Rattle.wanted_tokens.specs.declared.goals.Goal.TheVariants as goal
 use Rattle.wanted_tokens.specs.Looks.{look}
-use Rattle.wanted_tokens.specs.Takings.{Effect, Takes, Passes, Stops}
-use Rattle.wanted_tokens.specs.Tokens.{symbol, reserved, name, number, done, as_word, truth, two}
-use Rattle.wanted_tokens.specs.Expressions.{value, more_values, operand, expression, negated, more_operands}
-use Rattle.wanted_tokens.specs.Choreographies.{step, step_behind_name, assigned, more_steps, next_step, more_parts, otherwise, extra_roles, more_names, properties, first_property, more_properties}
+use Rattle.wanted_tokens.specs.Takings.{GoalEffect, Takes, Passes, Stops}
+use Rattle.wanted_tokens.specs.Tokens.{symbol, reserved, name, take_number, done, as_word, truth, two}
+use Rattle.wanted_tokens.specs.Expressions.{value, more_values, take_operand, take_expression, take_negated, more_operands}
+use Rattle.wanted_tokens.specs.Choreographies.{take_step, step_behind_name, assigned, more_steps, next_step, more_parts, otherwise, extra_roles, more_names, properties, first_property, more_properties}
 use Rattle.wanted_tokens.specs.Rules.{rules, priority, rank, change}
-use Rattle.wanted_tokens.specs.Traces.{lines, tag_of_put, auxiliary_of_put, begun, tag_of_take, auxiliary_of_take, chosen}
-use Rattle.wanted_tokens.specs.Sections.{bindings, inputs, script, sections, sections_behind_trace, later_sections, last_sections, bundle, session}
+use Rattle.wanted_tokens.specs.Traces.{take_lines, tag_of_put, auxiliary_of_put, begun, tag_of_take, auxiliary_of_take, chosen}
+use Rattle.wanted_tokens.specs.Sections.{bindings, inputs, take_script, sections, sections_behind_trace, later_sections, last_sections, bundle, session}
 
 -- what a goal makes of a token, in a text of the second version or not
-abbrev pub taking : Bool → Goal → Look → Effect
+abbrev pub taking : Bool → Goal → Look → GoalEffect
 taking second (goal.Symbol wanted) look = symbol wanted look
 taking second (goal.Reserved wanted) look = reserved wanted look
 taking second goal.Name look = name look
-taking second (goal.Number most) look = number most look
+taking second (goal.Number most) look = take_number most look
 taking second goal.Done look = done look
 taking second goal.As look = as_word look
 taking second goal.Truth look = truth look
 taking second goal.Value look = value look
 taking second goal.MoreValues look = more_values look
-taking second (goal.Expression kind) look = expression kind look
-taking second (goal.Operand kind comparable) look = operand kind comparable look
-taking second (goal.Negated kind comparable) look = negated kind comparable look
+taking second (goal.Expression kind) look = take_expression kind look
+taking second (goal.Operand kind comparable) look = take_operand kind comparable look
+taking second (goal.Negated kind comparable) look = take_negated kind comparable look
 taking second (goal.MoreOperands kind comparable) look = more_operands kind comparable look
-taking second goal.Step look = step look
+taking second goal.Step look = take_step look
 taking second goal.StepBehindName look = step_behind_name look
 taking second goal.Assigned look = assigned look
 taking second goal.MoreSteps look = more_steps look
@@ -47,7 +47,7 @@ taking second goal.Rules look = rules look
 taking second goal.Priority look = priority second look
 taking second goal.Rank look = rank look
 taking second goal.Change look = change look
-taking second goal.Lines look = lines look
+taking second goal.Lines look = take_lines look
 taking second goal.TagOfPut look = tag_of_put look
 taking second goal.AuxiliaryOfPut look = auxiliary_of_put look
 taking second goal.Begun look = begun look
@@ -56,7 +56,7 @@ taking second goal.AuxiliaryOfTake look = auxiliary_of_take look
 taking second goal.Chosen look = chosen look
 taking second goal.Bindings look = bindings look
 taking second goal.Inputs look = inputs look
-taking second goal.Script look = script look
+taking second goal.Script look = take_script look
 taking second goal.Bundle look = bundle look
 taking second goal.Sections look = sections look
 taking second goal.SectionsBehindTrace look = sections_behind_trace look
@@ -79,25 +79,25 @@ pub record Reading : Type 0 where
   pub wanted : List Goal
 
 -- what is wanted behind a token: of several goals the first takes it, or passes it on to the next
-abbrev pub answer : Effect → Bool → List Goal → Option Reading → Option Reading
+abbrev pub answer : GoalEffect → Bool → List Goal → Option Reading → Option Reading
 answer (Takes goals) second others passed =
     Some (record { second = second; wanted = goals ++ others })
 answer Passes second others passed = passed
 answer Stops second others passed = None
 
-abbrev pub behind : Bool → List Goal → Look → Option Reading
-behind second [] seen = None
-behind second (first ∷ others) seen =
+abbrev pub reading_behind : Bool → List Goal → Look → Option Reading
+reading_behind second [] seen = None
+reading_behind second (first ∷ others) seen =
     answer (taking second first seen) (version_behind second first) others
-    (behind second others seen)
+    (reading_behind second others seen)
 
 -- no token is left, and none is wanted
-abbrev pub is_passed : Effect → Bool
+abbrev pub is_passed : GoalEffect → Bool
 is_passed Passes = true
 is_passed _ = false
 
-abbrev pub is_over : Bool → List Goal → Bool
-is_over second goals = list_all (λ goal. is_passed (taking second goal looks.End)) goals
+abbrev pub may_end : Bool → List Goal → Bool
+may_end second goals = list_all (λ goal. is_passed (taking second goal looks.End)) goals
 
 -- the place of the first token that isn't wanted, or the end where more is wanted; none where the
 -- list is read whole
@@ -106,9 +106,9 @@ next_stop None later = Some 0
 next_stop (Some reading) later = option_map suc (later reading)
 
 abbrev pub stop : List Lexeme → Reading → Option ℕ
-stop [] reading = if is_over reading.second reading.wanted then None else Some 0
+stop [] reading = if may_end reading.second reading.wanted then None else Some 0
 stop (first ∷ others) reading =
-    next_stop (behind reading.second reading.wanted (look (first ∷ others))) (stop others)
+    next_stop (reading_behind reading.second reading.wanted (look (first ∷ others))) (stop others)
 
 -- the first token of a text that may not stand there
 abbrev pub unwanted : Goal → List Lexeme → Option ℕ

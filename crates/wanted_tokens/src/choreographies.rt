@@ -3,7 +3,7 @@
 ghost use Rattle.std.specs.Prelude.{◌≡◌, [], ◌∷◌};
 ghost use Rattle.wanted_tokens.specs.Takings.{effect, listed};
 ghost use Rattle.wanted_tokens.specs.declared.goals.Goal.{Goal};
-ghost use Rattle.wanted_tokens.specs.Choreographies.{step_before, step, step_behind_name, assigned, more_steps, next_step, more_parts, otherwise, extra_roles, more_names, properties, first_property, more_properties};
+ghost use Rattle.wanted_tokens.specs.Choreographies.{step_before, take_step, step_behind_name, assigned, more_steps, next_step, more_parts, otherwise, extra_roles, more_names, properties, first_property, more_properties};
 
 use crate::expressions::expression;
 use crate::goals::Goal;
@@ -148,7 +148,7 @@ fn step_before(last: Option<Goal>, look: Look) -> Taking
 
 /// A step.
 pub fn step(look: Look) -> Taking
-    ensures { effect result ≡ step look }
+    ensures { effect result ≡ take_step look }
 {
     step_before(None, look)
 }

@@ -2,7 +2,7 @@
 
 ghost use Rattle.std.specs.Prelude.{◌≡◌};
 ghost use Rattle.wanted_tokens.specs.Takings.{effect};
-ghost use Rattle.wanted_tokens.specs.Expressions.{value, more_values, bracketed, word_operand, operand, expression, negated, compared, joined, symbol_behind, more_operands};
+ghost use Rattle.wanted_tokens.specs.Expressions.{value, more_values, bracketed, word_operand, take_operand, take_expression, take_negated, take_compared, take_joined, symbol_behind, more_operands};
 
 use crate::goals::Goal;
 use crate::looks::Look;
@@ -76,7 +76,7 @@ fn bracketed(kind: ExprKind) -> &'static [Goal]
 
 /// An operand.
 pub fn operand(kind: ExprKind, comparable: bool, look: Look) -> Taking
-    ensures { effect result ≡ operand kind comparable look }
+    ensures { effect result ≡ take_operand kind comparable look }
 {
     let more = Goal::MoreOperands(kind, comparable);
     match look {
@@ -93,7 +93,7 @@ pub fn operand(kind: ExprKind, comparable: bool, look: Look) -> Taking
 
 /// An expression.
 pub fn expression(kind: ExprKind, look: Look) -> Taking
-    ensures { effect result ≡ expression kind look }
+    ensures { effect result ≡ take_expression kind look }
 {
     match look {
         Look::Reserved(Word::Not) => takes_before(NOTHING.as_slice(), Goal::Expression(kind)),
@@ -103,7 +103,7 @@ pub fn expression(kind: ExprKind, look: Look) -> Taking
 
 /// What follows a `-`.
 pub fn negated(kind: ExprKind, comparable: bool, look: Look) -> Taking
-    ensures { effect result ≡ negated kind comparable look }
+    ensures { effect result ≡ take_negated kind comparable look }
 {
     match look {
         Look::Number(Some(_)) => {
@@ -115,7 +115,7 @@ pub fn negated(kind: ExprKind, comparable: bool, look: Look) -> Taking
 
 /// A comparison and what it is compared with, where none has been yet.
 fn compared(kind: ExprKind, comparable: bool) -> Taking
-    ensures { effect result ≡ compared kind comparable }
+    ensures { effect result ≡ take_compared kind comparable }
 {
     if comparable {
         takes_before(NOTHING.as_slice(), Goal::Operand(kind, false))
@@ -126,7 +126,7 @@ fn compared(kind: ExprKind, comparable: bool) -> Taking
 
 /// A join of texts, which a condition hasn't.
 fn joined(kind: ExprKind, comparable: bool) -> Taking
-    ensures { effect result ≡ joined kind comparable }
+    ensures { effect result ≡ take_joined kind comparable }
 {
     match kind {
         ExprKind::Step => takes_before(NOTHING.as_slice(), Goal::Operand(kind, comparable)),

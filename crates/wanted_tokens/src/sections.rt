@@ -3,7 +3,7 @@
 ghost use Rattle.std.specs.Prelude.{◌≡◌, ◌∷◌, [], if◌then◌else◌};
 ghost use Rattle.wanted_tokens.specs.Takings.{effect, Passes, Stops};
 ghost use Rattle.wanted_tokens.specs.declared.goals.Goal.{Goal};
-ghost use Rattle.wanted_tokens.specs.Sections.{bindings, inputs, script, repeated, traced, sections, sections_behind_trace, later_sections, last_sections, bundle, session};
+ghost use Rattle.wanted_tokens.specs.Sections.{bindings, inputs, take_script, take_repeated, take_traced, sections, sections_behind_trace, later_sections, last_sections, bundle, session};
 
 use crate::goals::Goal;
 use crate::looks::{Look, PlaceWord};
@@ -105,7 +105,7 @@ pub fn inputs(look: Look) -> Taking
 
 /// Changes with their times, or none.
 pub fn script(look: Look) -> Taking
-    ensures { effect result ≡ script look }
+    ensures { effect result ≡ take_script look }
 {
     match look {
         Look::Name(Some(PlaceWord::After)) => takes_before(TIMED.as_slice(), Goal::Script),
@@ -116,7 +116,7 @@ pub fn script(look: Look) -> Taking
 /// A section of a kind that may come any number of times, and the goal behind it; else the other
 /// answer.
 fn repeated(behind: Goal, other: Taking, word: PlaceWord) -> Taking
-    ensures { effect result ≡ repeated behind (effect other) word }
+    ensures { effect result ≡ take_repeated behind (effect other) word }
 {
     match word {
         PlaceWord::Rules => takes_before(RULES.as_slice(), behind),
@@ -130,7 +130,7 @@ fn repeated(behind: Goal, other: Taking, word: PlaceWord) -> Taking
 /// A section of a trace, and the goal behind it; else one of another kind, and the same goal behind
 /// that; else the other answer.
 fn traced(behind: Goal, same: Goal, other: Taking, word: PlaceWord) -> Taking
-    ensures { effect result ≡ traced behind same (effect other) word }
+    ensures { effect result ≡ take_traced behind same (effect other) word }
 {
     match word {
         PlaceWord::Trace => takes_before(LINES.as_slice(), behind),

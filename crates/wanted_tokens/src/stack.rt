@@ -3,7 +3,7 @@
 ghost use Rattle.std.specs.Prelude.{◌≡◌, ◌++◌, ◌∷◌, [], reverse, true, false, Some, None, OnOk, IfOk, if◌then◌else◌};
 ghost use Rattle.wanted_tokens.specs.declared.looks.Look.TheVariants as looks;
 ghost use Rattle.wanted_tokens.specs.Takings.{effect, listed};
-ghost use Rattle.wanted_tokens.specs.Wanted.{taking, version_behind, behind, is_passed, is_over, unwanted};
+ghost use Rattle.wanted_tokens.specs.Wanted.{taking, version_behind, reading_behind, is_passed, may_end, unwanted};
 
 use crate::choreographies::{
     assigned, extra_roles, first_property, more_names, more_parts, more_properties, more_steps,
@@ -127,7 +127,7 @@ fn put_before(stack: &mut Vec<Goal>, wanted: &[Goal], last: Option<Goal>) -> Res
 
 /// Takes a token off what is wanted, and says whether it is wanted at all.
 fn take(stack: &mut Vec<Goal>, second: &mut bool, look: Look) -> Result<bool, Memory>
-    ensures { IfOk result (λ is_wanted. behind second.old (reverse stack.old.items) look
+    ensures { IfOk result (λ is_wanted. reading_behind second.old (reverse stack.old.items) look
         ≡ (if is_wanted
         then Some (record { second = second.new; wanted = reverse stack.new.items })
         else None)) }
@@ -148,7 +148,7 @@ fn take(stack: &mut Vec<Goal>, second: &mut bool, look: Look) -> Result<bool, Me
 
 /// Whether none of the goals wants a token.
 fn is_over(stack: &[Goal], second: bool) -> bool
-    ensures { result ≡ is_over second stack.now }
+    ensures { result ≡ may_end second stack.now }
 {
     stack.iter().all(|goal| is_passed(second, *goal))
 }

@@ -2,7 +2,7 @@
 
 ghost use Rattle.std.specs.Prelude.{◌≡◌, ℕ};
 ghost use Rattle.wanted_tokens.specs.Takings.{effect};
-ghost use Rattle.wanted_tokens.specs.Tokens.{symbol, reserved, name, number, done, as_word, truth, two};
+ghost use Rattle.wanted_tokens.specs.Tokens.{symbol, reserved, name, take_number, done, as_word, truth, two};
 
 use crate::looks::{Look, PlaceWord};
 use crate::takings::{NOTHING, Taking, takes};
@@ -42,7 +42,7 @@ pub fn name(look: Look) -> Taking
 
 /// A number that is at most this one.
 pub fn number(most: u64, look: Look) -> Taking
-    ensures { effect result ≡ number most look }
+    ensures { effect result ≡ take_number most look }
 {
     match look {
         Look::Number(Some(number)) if number <= most => takes(NOTHING.as_slice()),

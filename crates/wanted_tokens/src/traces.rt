@@ -2,7 +2,7 @@
 
 ghost use Rattle.std.specs.Prelude.{◌≡◌};
 ghost use Rattle.wanted_tokens.specs.Takings.{effect};
-ghost use Rattle.wanted_tokens.specs.Traces.{name_line, lines, tag_of_put, auxiliary_word, auxiliary_of_put, begun, tag_of_take, auxiliary_of_take, chosen};
+ghost use Rattle.wanted_tokens.specs.Traces.{name_line, take_lines, tag_of_put, auxiliary_word, auxiliary_of_put, begun, tag_of_take, auxiliary_of_take, chosen};
 
 use crate::goals::Goal;
 use crate::looks::{Look, PlaceWord};
@@ -158,7 +158,7 @@ fn name_line(word: PlaceWord) -> Taking
 
 /// The lines of a trace, or none.
 pub fn lines(look: Look) -> Taking
-    ensures { effect result ≡ lines look }
+    ensures { effect result ≡ take_lines look }
 {
     match look {
         Look::Name(Some(word)) => name_line(word),

@@ -1,11 +1,11 @@
 //! The top call that may start threads, again and again.
 //!
-//! `each_run COUNT WORD..: BUNDLE`: the K-th time `run --aux` with these words, K from 1 to the count,
-//! and then `replay` of the trace that it printed, put behind the bundle. An answer has a line where
-//! how it goes changes: `from K` says from which time on it goes so.
+//! `each_run COUNT WORD..: BUNDLE`: the K-th time `run --aux` with these words, K from 1 to the
+//! count, and then `replay` of the trace that it printed, put behind the bundle. An answer has a
+//! line where how it goes changes: `from K` says from which time on it goes so.
 //!
-//! `each_workers W,..,W WORD..: SESSIONS`: with `--workers W` behind the words, for each W of these.
-//! The answer has a line for each.
+//! `each_workers W,..,W WORD..: SESSIONS`: with `--workers W` behind the words, for each W of
+//! these. The answer has a line for each.
 
 use crate::calls::sweeps::{part_of, write_change};
 use crate::devices::{Devices, Outcome, serve, serve_threaded};
