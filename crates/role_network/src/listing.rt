@@ -10,7 +10,7 @@ ghost use Rattle.role_network.specs.MovesIn.{ReadyAt, local_moves, moves_in, is_
 
 use crate::bodies::Coming;
 use crate::parts::{is_there, place_of};
-use dioc_terms::{Act, Memory, Role, Roles};
+use dioc_terms::{Act, Memory, Role, Roles, give_up};
 use dpoc_process::Runs;
 use net_core::Move;
 use role_mailbox::Mail;
@@ -92,10 +92,22 @@ fn add_acts<R: Runs>(
 {
     let acts = ready_acts(alloc, state, mail)?;
     for act in acts {
-        let role = role.copy(alloc)?;
-        moves.push(Move::Act(role, act))?;
+        add_act(alloc, role, act, moves)?;
     }
     Ok(())
+}
+
+/// Adds the move of a role by an act.
+fn add_act(alloc: Global, role: &Role, act: Act, moves: &mut Vec<Move>) -> Result<(), Memory>
+    ensures { OnOk result (moves.new.items ≡ moves.old.items ++ move.Act role.now act ∷ []) }
+{
+    match role.copy(alloc) {
+        Ok(role) => {
+            moves.push(Move::Act(role, act))?;
+            Ok(())
+        }
+        Err(fault) => give_up(act, fault),
+    }
 }
 
 /// The acts that a role of the cast can do now.
@@ -126,12 +138,7 @@ fn ready_acts<R: Runs>(alloc: Global, state: &R, mail: &Mail) -> Result<Vec<Act>
     ensures { IfOk result (λ acts. acts.items
         ≡ filter (λ a. is_there a mail.now) (offered (R.local state.now))) }
 {
-    let acts = state.acts(alloc)?;
-    let mut ready = Vec::new(alloc);
-    for act in acts {
-        if is_there(mail, &act) {
-            ready.push(act)?;
-        }
-    }
-    Ok(ready)
+    let mut acts = state.acts(alloc)?;
+    acts.retain(|act| is_there(mail, act));
+    Ok(acts)
 }

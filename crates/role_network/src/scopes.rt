@@ -1,6 +1,6 @@
 //! The begin of a scope: what the book says of it, and what its leader then does.
 
-ghost use Rattle.std.specs.Prelude.{◌≡◌, ◌<◌, ◌++◌, [], ◌∷◌, ℕ, suc, List, true, Some, OnErr, OnOk, map, slice_get};
+ghost use Rattle.std.specs.Prelude.{◌≡◌, ◌<◌, ◌++◌, [], ◌∷◌, ℕ, suc, List, true, Some, IfOk, OnErr, OnOk, map, slice_get};
 ghost use Rattle.std.specs.Option.{option_copied, option_map};
 ghost use Rattle.dioc_terms.specs.declared.entries.Chosen.TheVariants as chosen;
 ghost use Rattle.dioc_terms.specs.declared.entries.Entry.TheVariants as entry;
@@ -9,6 +9,7 @@ ghost use Rattle.dioc_terms.specs.declared.processes.ScopeHead.{ScopeHead as One
 ghost use Rattle.dioc_terms.specs.Equality.{member};
 ghost use Rattle.dioc_terms.specs.KeptStores.{store_of};
 ghost use Rattle.dioc_terms.specs.Plain.{PlainRule};
+ghost use Rattle.dioc_terms.specs.Processes.{letters, process};
 ghost use Rattle.dioc_terms.specs.Terms.{is_in, term};
 ghost use Rattle.dpoc_process.specs.Acting.{Lead, acting_lead};
 ghost use Rattle.dpoc_process.specs.Handed.{IsEnabled, Kept};
@@ -21,10 +22,12 @@ ghost use Rattle.role_network.specs.KeptParts.{body_seen};
 ghost use Rattle.role_network.specs.Scopes.{choice_of_body, KnownRules, Tells};
 ghost use Rattle.role_network.specs.Standing.{body_of};
 ghost use Rattle.rule_book.specs.KeptBooks.{book_of, IsBookOf};
-ghost use Rattle.scope_leader.specs.Plans.{part_of};
+ghost use Rattle.scope_leader.specs.Plans.{begin_messages, part_of};
 
 use crate::bodies::RuleBody;
-use dioc_terms::{Act, Chosen, Entry, Items, Memory, Roles, ScopeHead, Store};
+use dioc_terms::{
+    Act, Chosen, Entry, Items, Memory, Name, Parts, Role, Roles, ScopeHead, Store, give_up,
+};
 use dpoc_process::{Got, Prepared, Runs};
 use rule_book::Book;
 use scope_leader::plan_update;
@@ -156,15 +159,42 @@ fn replace_scope<R: Runs>(
     ensures same_history { OnErr result (history.new ≡ history.old) }
 {
     let epoch = *updates + 1;
+    match planned(alloc, cast.as_slice(), &head, rule, epoch) {
+        Ok((name, parts)) => {
+            let ScopeHead { index, leader, .. } = head;
+            state.advance(act, Got::Parts(parts));
+            history.push(Entry::Scope {
+                index,
+                role: leader,
+                chosen: Chosen::Rule { name, epoch },
+            });
+            *updates = epoch;
+            Ok(())
+        }
+        Err(fault) => give_up(head, fault),
+    }
+}
+
+/// The name of the rule, and the parts of the update by its body.
+fn planned(
+    alloc: Global,
+    cast: &[Role],
+    head: &ScopeHead,
+    rule: &RuleBody,
+    epoch: u32,
+) -> Result<(Name, Parts), Memory>
+    requires level { head.now.level < 16 }
+    requires body { (q : OneRole) → is_in q (term rule.now.body) ≡ true
+        → member q cast.now ≡ true }
+    ensures name { IfOk result (λ made. made.0 ≡ rule.now.name) }
+    ensures own { IfOk result (λ made. process made.1.own
+        ≡ part_of cast.now head.now epoch (term rule.now.body) head.now.leader) }
+    ensures tell { IfOk result (λ made. letters made.1.tell
+        ≡ begin_messages cast.now head.now epoch (term rule.now.body)) }
+{
     let name = rule.name.copy(alloc)?;
-    let parts = plan_update(alloc, &head, cast.as_slice(), epoch, &rule.body)?;
-    let ScopeHead { index, leader, .. } = head;
-    state.advance(act, Got::Parts(parts));
-    history.push(Entry::Scope {
-        index,
-        role: leader,
-        chosen: Chosen::Rule { name, epoch },
-    });
-    *updates = epoch;
-    Ok(())
+    match plan_update(alloc, head, cast, epoch, &rule.body) {
+        Ok(parts) => Ok((name, parts)),
+        Err(fault) => give_up(name, fault),
+    }
 }

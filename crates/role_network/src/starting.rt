@@ -18,7 +18,7 @@ ghost use Rattle.role_network.specs.Standing.{body_of, due_of, local_in};
 
 use crate::bodies::{Coming, RuleBody};
 use dioc_terms::{
-    Bundle, Change, Entry, Items, Memory, Proc, Role, Rule, Store, Timed, Value, Values,
+    Bundle, Change, Entry, Items, Memory, Proc, Role, Rule, Store, Timed, Value, Values, give_up,
 };
 use dpoc_process::{RoleState, Runs};
 use projection::project;
@@ -48,11 +48,29 @@ pub(crate) fn role_states<R: Begins>(alloc: Global, bundle: &Bundle) -> Result<V
 {
     let cast = bundle.cast.as_slice();
     let mut states = Vec::with_capacity(alloc, cast.len())?;
+    match add_states(alloc, bundle, cast, &mut states) {
+        Ok(()) => Ok(states),
+        Err(fault) => give_up(states, fault),
+    }
+}
+
+/// Adds these roles, in their order, each with its projection and its inputs.
+fn add_states<R: Begins>(
+    alloc: Global,
+    bundle: &Bundle,
+    cast: &[Role],
+    states: &mut Vec<R>,
+) -> Result<(), Memory>
+    requires { (q : OneRole) → is_in q (term bundle.now.choreo) ≡ true
+        → member q bundle.now.cast ≡ true }
+    ensures { OnOk result (map R.local states.new.items ≡ map R.local states.old.items
+        ++ map (local_in (network_start (plain bundle.now))) cast.now) }
+{
     for role in cast {
         let state = role_state(alloc, bundle, role)?;
         states.push(state)?;
     }
-    Ok(states)
+    Ok(())
 }
 
 /// One role in its opening state.
@@ -103,12 +121,33 @@ pub(crate) fn keep_bodies(alloc: Global, rules: &[Rule]) -> Result<Vec<RuleBody>
         ≡ map (λ rule. body_of (plain_rule rule)) rules.now) }
 {
     let mut kept = Vec::with_capacity(alloc, rules.len())?;
-    for rule in rules {
-        let name = rule.name.copy(alloc)?;
-        let body = rule.body.copy(alloc)?;
-        kept.push(RuleBody { name, body })?;
+    match add_bodies(alloc, rules, &mut kept) {
+        Ok(()) => Ok(kept),
+        Err(fault) => give_up(kept, fault),
     }
-    Ok(kept)
+}
+
+/// Adds the bodies of these rules, in their order.
+fn add_bodies(alloc: Global, rules: &[Rule], kept: &mut Vec<RuleBody>) -> Result<(), Memory>
+    ensures { OnOk result (map body_seen kept.new.items ≡ map body_seen kept.old.items
+        ++ map (λ rule. body_of (plain_rule rule)) rules.now) }
+{
+    for rule in rules {
+        let body = keep_body(alloc, rule)?;
+        kept.push(body)?;
+    }
+    Ok(())
+}
+
+/// The name and the body of a rule.
+fn keep_body(alloc: Global, rule: &Rule) -> Result<RuleBody, Memory>
+    ensures { IfOk result (λ kept. body_seen kept ≡ body_of (plain_rule rule.now)) }
+{
+    let name = rule.name.copy(alloc)?;
+    match rule.body.copy(alloc) {
+        Ok(body) => Ok(RuleBody { name, body }),
+        Err(fault) => give_up(name, fault),
+    }
 }
 
 /// The changes of the script, in their order.
@@ -122,10 +161,28 @@ pub fn keep_script(
         ≡ map (due_of (map plain_rule rules.now)) script.now) }
 {
     let mut kept = Vec::with_capacity(alloc, script.len())?;
-    for timed in script {
-        kept.push(keep_timed(alloc, rules, timed)?)?;
+    match add_changes(alloc, rules, script, &mut kept) {
+        Ok(()) => Ok(VecDeque::from(kept)),
+        Err(fault) => give_up(kept, fault),
     }
-    Ok(VecDeque::from(kept))
+}
+
+/// Adds these changes, in their order.
+fn add_changes(
+    alloc: Global,
+    rules: &[Rule],
+    script: &[Timed],
+    kept: &mut Vec<Coming>,
+) -> Result<(), Memory>
+    requires { AllByRecursion (λ m. m < length rules.now) (adds script.now) }
+    ensures { OnOk result (map due_seen kept.new.items ≡ map due_seen kept.old.items
+        ++ map (due_of (map plain_rule rules.now)) script.now) }
+{
+    for timed in script {
+        let coming = keep_timed(alloc, rules, timed)?;
+        kept.push(coming)?;
+    }
+    Ok(())
 }
 
 /// One change with the entry that it shows.
@@ -142,6 +199,7 @@ fn keep_timed(alloc: Global, rules: &[Rule], timed: &Timed) -> Result<Coming, Me
     })
 }
 
+/// The same change once more.
 fn copy_of_change(alloc: Global, change: &Change) -> Result<Change, Memory>
     ensures { IfOk result (λ copy. copy ≡ change.now) }
 {

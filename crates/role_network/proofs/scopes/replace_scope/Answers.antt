@@ -7,13 +7,14 @@ use Rattle.role_network.proofs.ScopeLemmas.{replaced_brings}
 use Rattle.scope_leader.specs.Plans.{part_of, begin_messages}
 use Rattle.role_network.proofs.scopes.replace_scope.Goals as goal
 
-pub returns-clause-steps : goal.returns-clause-steps
-returns-clause-steps g c = λ decide decided.
+pub returns-in-Ok-clause-steps : goal.returns-in-Ok-clause-steps
+returns-in-Ok-clause-steps g c = λ decide decided.
     let led = c.requires.led in
     let body = term c.args.rule.now.body in
     let next : c.args.updates.now + 1 ≡ suc c.args.updates.now = add-one c.args.updates.now in
+    let parts = c.in-Ok.parts in
     c.advance.ensures.steps (FromBook decide)
     (replaced_brings c.args.cast.now (g.R.Runs.local c.args.state.now) c.args.act.now led.0 c.args.head decide c.args.rule.now.name (suc c.args.updates.now) body
-    (process c.in_ok-parts.parts.own) (letters c.in_ok-parts.parts.tell) led.1 (c.requires.tells led.0 led.1) led.2 decided
-    (c.in_ok-parts.ensures.own ∙ ap₂ (λ cast n. part_of cast c.args.head n body c.args.head.leader) c.as_slice.ensures next)
-    (c.in_ok-parts.ensures.tell ∙ ap₂ (λ cast n. begin_messages cast c.args.head n body) c.as_slice.ensures next))
+    (process parts.own) (letters parts.tell) led.1 (c.requires.tells led.0 led.1) led.2 decided
+    (c.in-Ok.ensures.own ∙ ap₂ (λ cast n. part_of cast c.args.head n body c.args.head.leader) c.as_slice.ensures next)
+    (c.in-Ok.ensures.tell ∙ ap₂ (λ cast n. begin_messages cast c.args.head n body) c.as_slice.ensures next))

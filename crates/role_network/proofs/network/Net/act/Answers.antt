@@ -1,8 +1,9 @@
 -- The step of the role is the step of the net.
 use Rattle.net_core.specs.declared.moves.StepFault.TheVariants as fault
-use Rattle.std.proofs.Common.{◌≡◌, ◌≢◌, ◌<◌, Some, false, length, sym, ◌∙◌, subst}
-use Rattle.std.specs.Prelude.{map, OnOk, IfErr}
+use Rattle.std.proofs.Common.{◌≡◌, ◌≢◌, ◌<◌, List, Some, false, length, sym, ap, ◌∙◌, subst}
+use Rattle.std.specs.Prelude.{map, OnErr, OnOk, IfErr}
 use Rattle.std.proofs.lemmas.List.{length-map}
+use Rattle.dioc_terms.specs.declared.entries.Entry.{Entry}
 use Rattle.dioc_terms.specs.Plain.{plain}
 use Rattle.marked_laws.specs.Network.{network_ended}
 use Rattle.role_network.proofs.ActLemmas.{did_here, few_updates, known_rules, role_tells, locals_long}
@@ -99,4 +100,15 @@ returns-clause-refused g c =
       | in-Err w ↦ subst (λ r. IfErr r (λ f. f ≢ fault.Memory → fault_of c.args.self.now c.args.role.now c.args.act.now ≡ Some f)) (sym w.result-is)
           (subst (λ old. w.in-Err.fault ≢ fault.Memory → fault_of old c.args.role.now c.args.act.now ≡ Some w.in-Err.fault) c.self.view_is
           (step_refused (plain i.of.value) i.limit i.cast (map g.R.Runs.local i.roles.items) i.mail i.book (map body_seen i.bodies) (map due_seen i.coming.items) i.updates i.history.entries c.self.invariant goes room c.args.role.now c.args.act.now w.in-Err.fault w.in-Err.ensures.refused))
+    ]
+
+pub returns-clause-err : goal.returns-clause-err
+returns-clause-err g c =
+    let i = c.self.inside in
+    let b = plain i.of.value in
+    let new : NetState = record { bundle = b; history = c.step_role.new.history.entries; limit = i.limit } in
+    elim c.match-step_role.branch [
+      | in-Ok w ↦ subst (λ r. OnErr r (new ≡ c.args.self.now)) (sym w.result-is) tt
+      | in-Err w ↦ subst (λ r. OnErr r (new ≡ c.args.self.now)) (sym w.result-is)
+          (ap (λ (H : List Entry). record { bundle = b; history = H; limit = i.limit }) w.in-Err.ensures.same_history ∙ c.self.view_is)
     ]

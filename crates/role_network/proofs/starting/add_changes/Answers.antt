@@ -1,7 +1,7 @@
 -- A rule that the script adds is one of the rules.
 use Rattle.std.proofs.Common.{◌<◌, length}
 use Rattle.rule_book.proofs.OrderLemmas.{adds-at}
-use Rattle.role_network.proofs.starting.keep_script.Goals as goal
+use Rattle.role_network.proofs.starting.add_changes.Goals as goal
 
 pub keep_timed-requires : goal.keep_timed-requires
 keep_timed-requires c =

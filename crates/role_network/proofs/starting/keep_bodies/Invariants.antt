@@ -1,9 +1,0 @@
--- The bodies so far are those of the rules so far.
-use Rattle.std.proofs.Common.{◌≡◌, map, take}
-use Rattle.dioc_terms.specs.Plain.{plain_rule}
-use Rattle.role_network.specs.KeptParts.{body_seen}
-use Rattle.role_network.specs.Standing.{body_of}
-use Rattle.role_network.proofs.starting.keep_bodies.Given as goal
-
-abbrev pub invariant-loop-rule : goal.invariant-loop-rule
-invariant-loop-rule l = map body_seen l.kept.items ≡ map (λ rule. body_of (plain_rule rule)) (take l.rule-index l.rules)

@@ -1,9 +1,0 @@
--- The changes so far are those of the script so far.
-use Rattle.std.proofs.Common.{◌≡◌, map, take}
-use Rattle.dioc_terms.specs.Plain.{plain_rule}
-use Rattle.role_network.specs.KeptParts.{due_seen}
-use Rattle.role_network.specs.Standing.{due_of}
-use Rattle.role_network.proofs.starting.keep_script.Given as goal
-
-abbrev pub invariant-loop-timed : goal.invariant-loop-timed
-invariant-loop-timed l = map due_seen l.kept.items ≡ map (due_of (map plain_rule l.rules)) (take l.timed-index l.script)

@@ -1,9 +1,0 @@
--- The states so far are those of the roles so far.
-use Rattle.std.proofs.Common.{◌≡◌, map, take}
-use Rattle.dioc_terms.specs.Plain.{plain}
-use Rattle.marked_laws.specs.Network.{network_start}
-use Rattle.role_network.specs.Standing.{local_in}
-use Rattle.role_network.proofs.starting.role_states.Given as goal
-
-abbrev pub invariant-loop-role : goal.invariant-loop-role
-invariant-loop-role g l = map g.R.Runs.local l.states.items ≡ map (local_in (network_start (plain l.bundle))) (take l.role-index l.cast)
