@@ -1,10 +1,11 @@
 -- What repeated bytes and the pieces of items are, one further.
 use Rattle.std.proofs.Common.{◌≡◌, ℕ, suc, ◌+◌, ◌<◌, List, [], ◌∷◌, ◌++◌, length, take, sym, ap, ◌∙◌, arith, append_assoc, append-nil, add-zero, add-one, get_or, Result, Ok, Err, OnErr}
-use Rattle.std.proofs.lemmas.List.{length-take-le}
+use Rattle.std.proofs.lemmas.List.{flat_map_more, length-take-le}
+use Rattle.std.specs.List.{flat_map}
 use Rattle.std.proofs.Math.Seq.{take-suc}
 use Rattle.text_pieces.specs.Pieces.{KeepsFront}
 use Rattle.text_pieces.proofs.KeptFronts.{front_after}
-use Rattle.trace_picture.specs.Runs.{pieces_from}
+use Rattle.trace_picture.specs.Runs.{pieces_below, pieces_from, repeated}
 
 -- the pieces of one item more
 pub pieces_from_snoc : {T : Type 0} (piece : ℕ → T → List ℕ) (first : ℕ) (items : List T) (item : T) →
@@ -27,6 +28,27 @@ pieces_from_step piece items i x old middle new within at so_far more =
     ap (λ k. pieces_from piece 0 (take k items)) (add-one i) ∙ ap (pieces_from piece 0) front ∙ pieces_from_snoc piece 0 (take i items) x
     ∙ ap (λ n. pieces_from piece 0 (take i items) ++ piece n x) counted in
     more ∙ ap (λ m. m ++ piece i x) so_far ∙ append_assoc old (pieces_from piece 0 (take i items)) (piece i x) ∙ ap (λ rest. old ++ rest) (sym whole)
+
+-- what stands there when the text of one item more is written: of an item that is read where it stands, and of one that was taken from there
+pub flat_map_at : {T : Type 0} (piece : T → List ℕ) (items : List T) (i : ℕ) (none : T) (old middle new : List ℕ) → i < length items →
+    middle ≡ old ++ flat_map piece (take i items) → new ≡ middle ++ piece (get_or items i none) → new ≡ old ++ flat_map piece (take (i + 1) items)
+flat_map_at piece items i none old middle new within so_far more =
+    let front : take (i + 1) items ≡ take i items ++ get_or items i none ∷ [] = ap (λ k. take k items) (add-one i) ∙ take-suc items i none within in
+    more ∙ ap (λ m. m ++ piece (get_or items i none)) so_far ∙ flat_map_more piece old (take i items) (get_or items i none) ∙ ap (λ l. old ++ flat_map piece l) (sym front)
+
+pub flat_map_step : {T : Type 0} (piece : T → List ℕ) (items : List T) (i : ℕ) (x : T) (old middle new : List ℕ) → i < length items → x ≡ get_or items i x →
+    middle ≡ old ++ flat_map piece (take i items) → new ≡ middle ++ piece x → new ≡ old ++ flat_map piece (take (i + 1) items)
+flat_map_step piece items i x old middle new within at so_far more =
+    flat_map_at piece items i x old middle new within so_far (more ∙ ap (λ y. middle ++ piece y) at)
+
+-- what stands there when the piece of one number more is written, and when a byte is once more
+pub pieces_below_step : (piece : ℕ → List ℕ) (i : ℕ) (old middle new : List ℕ) → middle ≡ old ++ pieces_below piece i → new ≡ middle ++ piece i → new ≡ old ++ pieces_below piece (i + 1)
+pieces_below_step piece i old middle new so_far more =
+    more ∙ ap (λ m. m ++ piece i) so_far ∙ append_assoc old (pieces_below piece i) (piece i) ∙ ap (λ k. old ++ pieces_below piece k) (sym (add-one i))
+
+pub repeated_step : (byte i : ℕ) (old middle new : List ℕ) → middle ≡ old ++ repeated byte i → new ≡ middle ++ byte ∷ [] → new ≡ old ++ repeated byte (i + 1)
+repeated_step byte i old middle new so_far more =
+    more ∙ ap (λ m. m ++ byte ∷ []) so_far ∙ append_assoc old (repeated byte i) (byte ∷ []) ∙ ap (λ k. old ++ repeated byte k) (sym (add-one i))
 
 -- what a writer leaves that has run out of memory behind others: the old bytes still stand in front
 pub still_front : {A E : Type 0} (result : Result A E) (old more middle bytes : List ℕ) → middle ≡ old ++ more → KeepsFront middle bytes → OnErr result (KeepsFront old bytes)

@@ -34,7 +34,6 @@ fn write_xml_byte(byte: u8, out: &mut Vec<u8>) -> Result<(), Memory>
     }
 }
 
-#[tactic(auto, using(text_pieces::proofs::KeptFronts::front_of_front))]
 fn write_xml_words(bytes: &[u8], out: &mut Vec<u8>) -> Result<(), Memory>
     ensures ok { OnOk result (out.new.items ≡ out.old.items ++ xml_words bytes.now) }
     ensures memory { OnErr result (KeepsFront out.old.items out.new.items) }
@@ -57,7 +56,6 @@ fn write_fragment(fragment: &Fragment<'_>, out: &mut Vec<u8>) -> Result<(), Memo
 }
 
 /// Appends a text of these fragments.
-#[tactic(auto, using(text_pieces::proofs::KeptFronts::front_of_front))]
 pub fn write_fragments(fragments: &[Fragment<'_>], out: &mut Vec<u8>) -> Result<(), Memory>
     ensures ok { OnOk result (out.new.items ≡ out.old.items
         ++ flat_map fragment_text fragments.now) }

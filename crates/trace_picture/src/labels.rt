@@ -94,14 +94,21 @@ fn write_tag(tag: &Tag, out: &mut Vec<u8>) -> Result<(), Memory>
     ensures ok { OnOk result (out.new.items ≡ out.old.items ++ tag_text tag.now) }
     ensures memory { OnErr result (KeepsFront out.old.items out.new.items) }
 {
+    write_bytes(tag_bytes(tag), out)
+}
+
+/// The text of a tag.
+fn tag_bytes(tag: &Tag) -> &[u8]
+    ensures { result.now ≡ tag_text tag.now }
+{
     match tag {
-        Tag::Op(name) => write_bytes(name.bytes(), out),
-        Tag::Choice => write_bytes(b"!choice", out),
-        Tag::Go => write_bytes(b"!go", out),
-        Tag::Turn => write_bytes(b"!turn", out),
-        Tag::Begin => write_bytes(b"!begin", out),
-        Tag::End => write_bytes(b"!end", out),
-        Tag::Out => write_bytes(b"!out", out),
+        Tag::Op(name) => name.bytes(),
+        Tag::Choice => b"!choice",
+        Tag::Go => b"!go",
+        Tag::Turn => b"!turn",
+        Tag::Begin => b"!begin",
+        Tag::End => b"!end",
+        Tag::Out => b"!out",
     }
 }
 

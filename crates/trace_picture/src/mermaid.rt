@@ -44,7 +44,6 @@ fn write_mermaid_byte(byte: u8, out: &mut Vec<u8>) -> Result<(), Memory>
     write_bytes(b";", out)
 }
 
-#[tactic(auto, using(text_pieces::proofs::KeptFronts::front_of_front))]
 fn write_mermaid_words(bytes: &[u8], out: &mut Vec<u8>) -> Result<(), Memory>
     ensures ok { OnOk result (out.new.items ≡ out.old.items ++ mermaid_words bytes.now) }
     ensures memory { OnErr result (KeepsFront out.old.items out.new.items) }
@@ -72,7 +71,6 @@ fn write_participant(lane: usize, role: &Role, out: &mut Vec<u8>) -> Result<(), 
     write_bytes(b"\n", out)
 }
 
-#[tactic(auto, using(text_pieces::proofs::KeptFronts::front_of_front))]
 fn write_all_participants(lanes: &[Role], out: &mut Vec<u8>) -> Result<(), Memory>
     ensures ok { OnOk result (out.new.items ≡ out.old.items
         ++ pieces_from participant 0 lanes.now) }
@@ -204,7 +202,6 @@ fn write_head(lanes: &[Role], out: &mut Vec<u8>) -> Result<(), Memory>
 }
 
 /// Appends the entries, in their order.
-#[tactic(auto, using(text_pieces::proofs::KeptFronts::front_of_front))]
 fn write_entries(
     alloc: Global,
     lanes: &[Role],

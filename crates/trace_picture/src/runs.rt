@@ -8,7 +8,6 @@ use dioc_terms::Memory;
 use text_pieces::write_bytes;
 
 /// Appends a byte so many times.
-#[tactic(auto, using(text_pieces::proofs::KeptFronts::front_of_front))]
 pub fn write_repeated(byte: u8, count: usize, out: &mut Vec<u8>) -> Result<(), Memory>
     ensures ok { OnOk result (out.new.items ≡ out.old.items ++ repeated byte count) }
     ensures memory { OnErr result (KeepsFront out.old.items out.new.items) }

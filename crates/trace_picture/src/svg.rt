@@ -288,7 +288,6 @@ fn write_lane(
 }
 
 /// Appends the lanes, down to `floor`.
-#[tactic(auto, using(text_pieces::proofs::KeptFronts::front_of_front))]
 fn write_lanes(
     alloc: Global,
     columns: usize,
@@ -309,7 +308,6 @@ fn write_lanes(
 }
 
 /// Appends the boxes of the lanes at `y`.
-#[tactic(auto, using(text_pieces::proofs::KeptFronts::front_of_front))]
 fn write_boxes(
     alloc: Global,
     columns: usize,
@@ -391,7 +389,6 @@ fn write_tail(
     write_bytes(b"</svg>\n", out)
 }
 
-#[tactic(auto, using(text_pieces::proofs::KeptFronts::front_of_front))]
 fn write_entries(
     alloc: Global,
     columns: usize,

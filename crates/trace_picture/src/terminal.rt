@@ -69,7 +69,6 @@ fn write_name(alloc: Global, reach: usize, role: &Role, out: &mut Vec<u8>) -> Re
     write_heading(alloc, reach, role.0.bytes(), out)
 }
 
-#[tactic(auto, using(text_pieces::proofs::KeptFronts::front_of_front))]
 fn write_names(alloc: Global, lanes: &[Role], out: &mut Vec<u8>) -> Result<(), Memory>
     ensures ok { OnOk result (out.new.items ≡ out.old.items
         ++ flat_map (name_heading (reach_of lanes.now)) lanes.now) }
@@ -96,7 +95,6 @@ fn write_legend_line(lane: usize, role: &Role, out: &mut Vec<u8>) -> Result<(), 
 }
 
 /// Appends the legend of numbered lanes.
-#[tactic(auto, using(text_pieces::proofs::KeptFronts::front_of_front))]
 fn write_legend(lanes: &[Role], out: &mut Vec<u8>) -> Result<(), Memory>
     requires lanes { length lanes.now ≤ most_roles }
     ensures ok { OnOk result (out.new.items ≡ out.old.items
@@ -125,7 +123,6 @@ fn write_lane_number(
     write_heading(alloc, reach, digits.format(lane as u64 + 1).as_bytes(), out)
 }
 
-#[tactic(auto, using(text_pieces::proofs::KeptFronts::front_of_front))]
 fn write_numbers(alloc: Global, lanes: &[Role], out: &mut Vec<u8>) -> Result<(), Memory>
     requires lanes { length lanes.now ≤ most_roles }
     ensures ok { OnOk result (out.new.items ≡ out.old.items
@@ -156,7 +153,6 @@ fn write_head(alloc: Global, lanes: &[Role], out: &mut Vec<u8>) -> Result<(), Me
 }
 
 /// Appends so many lanes as a shape crosses them.
-#[tactic(auto, using(text_pieces::proofs::KeptFronts::front_of_front))]
 fn write_crossed(reach: usize, shape: Shape, count: usize, out: &mut Vec<u8>) -> Result<(), Memory>
     ensures ok { OnOk result (out.new.items ≡ out.old.items
         ++ pieces_below (cell reach shape) count) }
@@ -266,7 +262,6 @@ fn write_foot(lanes: &[Role], last: &Option<Last>, out: &mut Vec<u8>) -> Result<
 }
 
 /// Appends the entries, in their order.
-#[tactic(auto, using(text_pieces::proofs::KeptFronts::front_of_front))]
 fn write_entries(
     alloc: Global,
     lanes: &[Role],

@@ -1,9 +1,15 @@
-use Rattle.std.proofs.Common.{arith}
+use Rattle.std.proofs.Common.{take, arith}
+use Rattle.trace_picture.specs.Runs.{pieces_from}
 use Rattle.trace_picture.specs.Svg.{svg_entry}
-use Rattle.trace_picture.proofs.Repeats.{pieces_from_step}
+use Rattle.trace_picture.proofs.Repeats.{pieces_from_step, still_front}
 use Rattle.trace_picture.proofs.svg.write_entries.Goals as goal
 
 pub loop-row-preserved : goal.loop-row-preserved
 loop-row-preserved c =
     pieces_from_step (svg_entry c.args.columns c.args.lanes.now) c.args.entries.now c.loop-row.row c.index-entries-row.result c.args.out.now.items c.loop-row.out.items c.write_entry.new.out.items
     (omega arith) c.index-entries-row.is c.loop-row.invariant c.in_ok-write_entry.ensures.ok
+
+pub returns-in_err-write_entry-clause-memory : goal.returns-in_err-write_entry-clause-memory
+returns-in_err-write_entry-clause-memory c =
+    still_front _ c.args.out.now.items (pieces_from (svg_entry c.args.columns c.args.lanes.now) 0 (take c.loop-row.row c.args.entries.now)) c.loop-row.out.items c.write_entry.new.out.items
+    c.loop-row.invariant c.in_err-write_entry.ensures.memory

@@ -1,9 +1,15 @@
-use Rattle.std.proofs.Common.{arith}
+use Rattle.std.proofs.Common.{take, arith}
+use Rattle.trace_picture.specs.Runs.{pieces_from}
 use Rattle.trace_picture.specs.Terminal.{legend_line}
-use Rattle.trace_picture.proofs.Repeats.{pieces_from_step}
+use Rattle.trace_picture.proofs.Repeats.{pieces_from_step, still_front}
 use Rattle.trace_picture.proofs.terminal.write_legend.Goals as goal
 
 pub loop-lane-preserved : goal.loop-lane-preserved
 loop-lane-preserved c =
     pieces_from_step legend_line c.args.lanes.now c.loop-lane.lane c.index-lanes-lane.result c.args.out.now.items c.loop-lane.out.items c.write_legend_line.new.out.items
     (omega arith) c.index-lanes-lane.is c.loop-lane.invariant c.in_ok-write_legend_line.ensures.ok
+
+pub returns-in_err-write_legend_line-clause-memory : goal.returns-in_err-write_legend_line-clause-memory
+returns-in_err-write_legend_line-clause-memory c =
+    still_front _ c.args.out.now.items (pieces_from legend_line 0 (take c.loop-lane.lane c.args.lanes.now)) c.loop-lane.out.items c.write_legend_line.new.out.items
+    c.loop-lane.invariant c.in_err-write_legend_line.ensures.memory
