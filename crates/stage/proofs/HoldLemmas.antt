@@ -1,5 +1,5 @@
 -- A whole hold, from the equations that its calls give: what is found under the lock, what is there when it is left, and what the seat then knows.
-use Rattle.std.proofs.Common.{◌≡◌, List, [], ◌∷◌, ◌++◌, length, ℕ, Option, Some, None, IfSome, refl, sym, ap, ◌∙◌, subst}
+use Rattle.std.proofs.Common.{◌≡◌, ◌≢◌, List, [], ◌∷◌, ◌++◌, length, ℕ, Option, Some, None, IfSome, refl, sym, ap, ◌∙◌, subst}
 use Rattle.std.specs.Option.{option_map_or}
 use Rattle.dioc_terms.specs.declared.entries.Act.{Act}
 use Rattle.dioc_terms.specs.declared.entries.Act.TheVariants as act
@@ -20,12 +20,13 @@ use Rattle.turn_lock.specs.declared.views.View.{View}
 use Rattle.turn_lock.specs.Items.{Shares, items_of}
 use Rattle.turn_lock.specs.Views.{number, mine, entered, left, left_with}
 use Rattle.stage.proofs.HomeLemmas.{Laws, take_can}
-use Rattle.stage.proofs.SeatLemmas.{can_now, committed, committed_own, take_now}
+use Rattle.stage.proofs.SeatLemmas.{can_now, committed, committed_own, refused, take_now}
 use Rattle.stage.specs.declared.faults.CommitFault.{CommitFault}
+use Rattle.stage.specs.declared.faults.CommitFault.TheVariants as fault
 use Rattle.stage.specs.Homes.{HomeState, IsSoundHome, with_entry}
 use Rattle.stage.specs.Laws.{DeedsMove}
 use Rattle.stage.specs.Owners.{cast_place, owner_in}
-use Rattle.stage.specs.Seats.{Base, CanCommit, CanCommitOwn, CanReceive, Committed, CommittedOwn, IsClosed, StillStands}
+use Rattle.stage.specs.Seats.{Base, CanCommit, CanCommitOwn, CanReceive, Committed, CommittedOwn, IsClosed, RefusedFor, StillStands}
 
 -- A seat of the view v has the turn with the view u, and has found `home`. A call that was lent what was found has added the entry; what it left is `next`.
 pub record Grown (v u : View Entry Base) (home next : HomeState) (e : Entry) : Type 0 where
@@ -67,6 +68,13 @@ own_grown v u w home next e grown leaves =
 -- what the seat knows once it has left what it found
 pub left_same : (v u w : View Entry Base) (home : HomeState) → u ≡ entered v home.history → w ≡ left u → w ≡ left (entered v home.history)
 left_same v u w home view leaves = leaves ∙ ap (λ (x : View Entry Base). left x) view
+
+-- what a refusal leaves the seat, from what the calls of a hold say, of which one was lent the home as it was found
+pub refused_hold : (v u w : View Entry Base) (home lent : HomeState) → v.base ≡ Some (home.bundle, home.limit) → StillStands v home.history → IsSoundHome home
+    → u ≡ entered v home.history → lent ≡ home → w ≡ left u → (fault_of : HomeState → Option CommitFault) (f : CommitFault) → (f ≢ fault.Memory → fault_of lent ≡ Some f)
+    → RefusedFor fault_of v w f
+refused_hold v u w home lent base still sound view same leaves fault_of f first =
+    refused v home base still sound fault_of f (subst (λ (h : HomeState). f ≢ fault.Memory → fault_of h ≡ Some f) same first) w (left_same v u w home view leaves)
 
 pub if_some : {A : Type 0} (P Q : A → Type 0) (o : Option A) → IfSome o P → ((x : A) → P x → Q x) → IfSome o Q
 if_some P Q None h f = tt

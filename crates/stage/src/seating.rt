@@ -28,7 +28,7 @@ pub(crate) fn make_seats(
     for _role in cast {
         let (left, next) = turns.split(first);
         first = left;
-        seats.push(next)?;
+        seats.push_reserved(next);
     }
     seats.insert(0, first)?;
     Ok(seats)

@@ -18,12 +18,14 @@ loop-role-preserved c =
     let more : i + 1 ≡ suc i = omega arith in
     record {
       first = c.split-left.ensures.first.0;
-      others = subst (All (λ s. IsSeatOf c.args.turns.now s)) (sym c.in_ok-push.ensures.items)
+      others = subst (All (λ s. IsSeatOf c.args.turns.now s)) (sym c.push_reserved.ensures.items)
           (All-push (λ s. IsSeatOf c.args.turns.now s) c.loop-role.seats.items next so_far.others c.split-left.ensures.second.0);
       made = omega (arith, ap (λ (v : View Entry Base). v.made) c.split-left.ensures.first.1, so_far.made);
+      count = omega (arith, c.push_reserved.ensures.len, so_far.count);
+      room = omega (arith, c.push_reserved.ensures.capacity, so_far.room);
       views = λ base is. (
         splits_to base i (i + 1) (view c.loop-role.first) (view left) (so_far.views base is).0 c.split-left.ensures.first.1 more,
-        ap (map view) c.in_ok-push.ensures.items ∙ map-append view c.loop-role.seats.items (next ∷ [])
+        ap (map view) c.push_reserved.ensures.items ∙ map-append view c.loop-role.seats.items (next ∷ [])
             ∙ one_seat_more base i (i + 1) (view c.loop-role.first) (view next) (map view c.loop-role.seats.items) (so_far.views base is).0 c.split-left.ensures.second.1 (so_far.views base is).1 more,
       );
     }

@@ -1,6 +1,6 @@
 -- The script's next change, made in a hold.
 use Rattle.std.proofs.Common.{◌≡◌, None, Some, ◌∙◌, subst}
-use Rattle.stage.proofs.HoldLemmas.{grown_by, own_item}
+use Rattle.stage.proofs.HoldLemmas.{grown_by, own_item, refused_hold}
 use Rattle.stage.proofs.MarkLemmas.{did_change, owns_change}
 use Rattle.stage.specs.Changes.{next_entry}
 use Rattle.stage.specs.Faults.{feeder_fault}
@@ -30,3 +30,9 @@ returns-in-Ok-clause-done g c =
     (subst (λ (h : HomeState). feeder_fault h ≡ None) c.home.ensures.value c.in-Ok.ensures.free) changed.entry is
     (grown_by v u home c.home.result.now c.home-in-Ok.result.now changed.entry c.enter-turn.ensures.view c.home.ensures.value (c.home-in-Ok.ensures.value ∙ changed.added))
     (record { view = c.leave_with-seat.ensures.view; own = c.leave_with-seat.ensures.met })
+
+pub returns-in-Err-clause-refused : goal.returns-in-Err-clause-refused
+returns-in-Err-clause-refused g c =
+    refused_hold (view c.args.seat) (turn_view c.enter-turn.result) (view c.leave.result) c.enter-turn.result.home c.home.result.now
+    c.enter-turn.ensures.base c.enter-turn.ensures.still c.enter-turn.ensures.sound c.enter-turn.ensures.view c.home.ensures.value c.leave.ensures.view
+    feeder_fault c.in-Err.fault c.in-Err.ensures.first

@@ -1,8 +1,7 @@
 -- What a role can do alone, done in a hold.
-use Rattle.std.proofs.Common.{◌≡◌, ◌≢◌, None, Some, sym, ◌∙◌, subst}
-use Rattle.stage.proofs.HoldLemmas.{did_own, grown_by, left_same, own_entry, own_item}
-use Rattle.stage.proofs.SeatLemmas.{can_add_now, refused}
-use Rattle.stage.specs.declared.faults.CommitFault.TheVariants as fault
+use Rattle.std.proofs.Common.{◌≡◌, None, sym, ◌∙◌, subst}
+use Rattle.stage.proofs.HoldLemmas.{did_own, grown_by, own_entry, own_item, refused_hold}
+use Rattle.stage.proofs.SeatLemmas.{can_add_now}
 use Rattle.stage.specs.Faults.{role_fault}
 use Rattle.stage.specs.Homes.{HomeState}
 use Rattle.stage.specs.Roles.{CanAdd}
@@ -39,8 +38,6 @@ returns-in-Ok-clause-done g c =
 
 pub returns-in-Err-clause-refused : goal.returns-in-Err-clause-refused
 returns-in-Err-clause-refused g c =
-    let v = view c.args.seat in
-    let home = c.enter-turn.result.home in
-    refused v home c.enter-turn.ensures.base c.enter-turn.ensures.still c.enter-turn.ensures.sound role_fault c.in-Err.fault
-    (subst (λ (h : HomeState). c.in-Err.fault ≢ fault.Memory → role_fault h ≡ Some c.in-Err.fault) c.home.ensures.value c.in-Err.ensures.first)
-    (view c.leave.result) (left_same v (turn_view c.enter-turn.result) (view c.leave.result) home c.enter-turn.ensures.view c.leave.ensures.view)
+    refused_hold (view c.args.seat) (turn_view c.enter-turn.result) (view c.leave.result) c.enter-turn.result.home c.home.result.now
+    c.enter-turn.ensures.base c.enter-turn.ensures.still c.enter-turn.ensures.sound c.enter-turn.ensures.view c.home.ensures.value c.leave.ensures.view
+    role_fault c.in-Err.fault c.in-Err.ensures.first

@@ -4,7 +4,7 @@ use Rattle.dioc_terms.specs.declared.entries.Act.TheVariants as acts
 use Rattle.dioc_terms.specs.declared.entries.Entry.TheVariants as entry
 use Rattle.dioc_terms.specs.Processes.{load, noted}
 use Rattle.process_steps.specs.Steps.{Alone, Puts}
-use Rattle.stage.proofs.HoldLemmas.{did_alone, grown_by, own_item, place_of}
+use Rattle.stage.proofs.HoldLemmas.{did_alone, grown_by, own_item, place_of, refused_hold}
 use Rattle.stage.proofs.SeatLemmas.{can_now}
 use Rattle.stage.specs.Faults.{role_fault}
 use Rattle.stage.specs.Homes.{HomeState}
@@ -47,3 +47,9 @@ returns-in-Ok-clause-done g c =
     k.from (acts.Put k) (Puts k l) c.requires.can refl refl refl
     (grown_by v u home c.home.result.now c.home-in-Ok.result.now e c.enter-turn.ensures.view c.home.ensures.value (c.home-in-Ok.ensures.value ∙ c.in-Ok.ensures.added))
     (record { view = c.leave_with-seat.ensures.view; own = c.leave_with-seat.ensures.met })
+
+pub returns-in-Err-clause-refused : goal.returns-in-Err-clause-refused
+returns-in-Err-clause-refused g c =
+    refused_hold (view c.args.seat) (turn_view c.enter-turn.result) (view c.leave.result) c.enter-turn.result.home c.home.result.now
+    c.enter-turn.ensures.base c.enter-turn.ensures.still c.enter-turn.ensures.sound c.enter-turn.ensures.view c.home.ensures.value c.leave.ensures.view
+    role_fault c.in-Err.fault c.in-Err.ensures.first

@@ -1,7 +1,7 @@
 -- A scope that its leader can begin, begun in a hold.
 use Rattle.std.proofs.Common.{◌≡◌, None, sym, ap, ◌∙◌, subst}
 use Rattle.dioc_terms.specs.KeptStores.{store_of}
-use Rattle.stage.proofs.HoldLemmas.{Grown, grown_by, own_item}
+use Rattle.stage.proofs.HoldLemmas.{Grown, grown_by, own_item, refused_hold}
 use Rattle.stage.proofs.MarkLemmas.{begin_now, did_begin, owns_begin}
 use Rattle.stage.specs.Begins.{CanBegin, begin_in, update_in}
 use Rattle.stage.specs.Faults.{role_fault}
@@ -43,3 +43,9 @@ returns-in-Ok-clause-done g c =
     (grown_by v u home c.home.result.now c.home-in-Ok.result.now (begin_in c.home.result.now c.args.head.now s) c.enter-turn.ensures.view c.home.ensures.value
     (c.home-in-Ok.ensures.value ∙ c.in-Ok.ensures.added)))
     (record { view = c.leave_with-seat.ensures.view; own = c.leave_with-seat.ensures.met })
+
+pub returns-in-Err-clause-refused : goal.returns-in-Err-clause-refused
+returns-in-Err-clause-refused g c =
+    refused_hold (view c.args.seat) (turn_view c.enter-turn.result) (view c.leave.result) c.enter-turn.result.home c.home.result.now
+    c.enter-turn.ensures.base c.enter-turn.ensures.still c.enter-turn.ensures.sound c.enter-turn.ensures.view c.home.ensures.value c.leave.ensures.view
+    role_fault c.in-Err.fault c.in-Err.ensures.first

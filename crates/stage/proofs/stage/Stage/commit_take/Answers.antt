@@ -1,13 +1,12 @@
 -- A take whose message is there, done in a hold.
-use Rattle.std.proofs.Common.{◌≡◌, ◌≢◌, None, Some, sym, ◌∙◌, subst}
+use Rattle.std.proofs.Common.{◌≡◌, None, Some, sym, ◌∙◌, subst}
 use Rattle.dioc_terms.specs.declared.entries.Entry.TheVariants as entry
 use Rattle.dioc_terms.specs.Processes.{load}
 use Rattle.marked_laws.specs.Network.{pending_at}
 use Rattle.role_network.specs.Nets.{network_at}
 use Rattle.stage.proofs.HomeLemmas.{Laws}
-use Rattle.stage.proofs.HoldLemmas.{did_take, grown_by, left_same, own_item}
-use Rattle.stage.proofs.SeatLemmas.{refused, take_now}
-use Rattle.stage.specs.declared.faults.CommitFault.TheVariants as fault
+use Rattle.stage.proofs.HoldLemmas.{did_take, grown_by, own_item, refused_hold}
+use Rattle.stage.proofs.SeatLemmas.{take_now}
 use Rattle.stage.specs.Faults.{take_fault}
 use Rattle.stage.specs.Homes.{HomeState}
 use Rattle.stage.specs.Roles.{CanTake}
@@ -50,9 +49,6 @@ returns-in-Ok-clause-done g c =
 
 pub returns-in-Err-clause-refused : goal.returns-in-Err-clause-refused
 returns-in-Err-clause-refused g c =
-    let v = view c.args.seat in
-    let home = c.enter-turn.result.home in
-    let k = c.args.key.now in
-    refused v home c.enter-turn.ensures.base c.enter-turn.ensures.still c.enter-turn.ensures.sound (take_fault k) c.in-Err.fault
-    (subst (λ (h : HomeState). c.in-Err.fault ≢ fault.Memory → take_fault k h ≡ Some c.in-Err.fault) c.home.ensures.value c.in-Err.ensures.first)
-    (view c.leave.result) (left_same v (turn_view c.enter-turn.result) (view c.leave.result) home c.enter-turn.ensures.view c.leave.ensures.view)
+    refused_hold (view c.args.seat) (turn_view c.enter-turn.result) (view c.leave.result) c.enter-turn.result.home c.home.result.now
+    c.enter-turn.ensures.base c.enter-turn.ensures.still c.enter-turn.ensures.sound c.enter-turn.ensures.view c.home.ensures.value c.leave.ensures.view
+    (take_fault c.args.key.now) c.in-Err.fault c.in-Err.ensures.first
