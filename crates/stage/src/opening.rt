@@ -53,7 +53,7 @@ fn no_marks(alloc: Global, cast: &[Role]) -> Result<Vec<bool>, Memory>
 {
     let mut marks = Vec::with_capacity(alloc, cast.len())?;
     for _role in cast {
-        marks.push(false)?;
+        marks.push_reserved(false);
     }
     Ok(marks)
 }
@@ -64,7 +64,7 @@ fn keep_names(alloc: Global, rules: &[Rule]) -> Result<Vec<Name>, Memory>
 {
     let mut names = Vec::with_capacity(alloc, rules.len())?;
     for rule in rules {
-        names.push(rule.name.copy(alloc)?)?;
+        names.push_reserved(rule.name.copy(alloc)?);
     }
     Ok(names)
 }

@@ -7,5 +7,9 @@ use Rattle.stage.proofs.opening.keep_names.Goals as goal
 pub loop-rule-preserved : goal.loop-rule-preserved
 loop-rule-preserved c =
     let name = c.in_ok-copy.ensures ∙ ap (λ (rule : Rule). rule.name) c.rule-item.is in
-    c.in_ok-push.ensures.items ∙ (λ i. c.loop-rule.invariant i ++ name i ∷ [])
-    ∙ sym (map_more (λ (rule : Rule). rule.name) c.args.rules.now c.loop-rule.rule-index c.rule-item.result (omega arith))
+    record {
+      names = c.push_reserved.ensures.items ∙ (λ i. c.loop-rule.invariant.names i ++ name i ∷ [])
+          ∙ sym (map_more (λ (rule : Rule). rule.name) c.args.rules.now c.loop-rule.rule-index c.rule-item.result (omega arith));
+      count = omega (arith, c.push_reserved.ensures.len, c.loop-rule.invariant.count);
+      room = omega (arith, c.push_reserved.ensures.capacity, c.loop-rule.invariant.room);
+    }
