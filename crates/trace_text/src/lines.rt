@@ -5,7 +5,9 @@ ghost use Rattle.dioc_terms.specs.declared.entries.Entry.TheVariants as entry;
 ghost use Rattle.text_pieces.specs.Pieces.{KeepsFront};
 ghost use Rattle.trace_text.specs.Lines.{line, last_line, index_text, value_text};
 
-use crate::pieces::{write_choice, write_index, write_key, write_note, write_variable};
+use crate::pieces::{
+    write_choice, write_index, write_indexed, write_key, write_note, write_three, write_variable,
+};
 use dioc_terms::{Chosen, Entry, Index, Key, Last, Memory, Name, Note, Role, Value};
 use text_pieces::{Minus, cut_back, write_bytes, write_number, write_truth, write_value};
 
@@ -111,11 +113,8 @@ fn write_setting(
         ++ codes " " ++ index_text index ++ codes " = " ++ value_text value.now)) }
     ensures memory { OnErr result (KeepsFront out.old.items out.new.items) }
 {
-    write_bytes(var.bytes(), out)?;
-    write_bytes(b"@", out)?;
-    write_bytes(role.0.bytes(), out)?;
-    write_bytes(b" ", out)?;
-    write_index(index, out)?;
+    write_three(var.bytes(), b"@", role.0.bytes(), out)?;
+    write_indexed(b" ", index, out)?;
     write_bytes(b" = ", out)?;
     write_value(value, Minus::Close, out)
 }
@@ -125,9 +124,7 @@ fn write_pick(index: Index, role: &Role, flag: bool, out: &mut Vec<u8>) -> Resul
         line (entry.Pick index role.now flag)) }
     ensures memory { OnErr result (KeepsFront out.old.items out.new.items) }
 {
-    write_bytes(b"pick ", out)?;
-    write_bytes(role.0.bytes(), out)?;
-    write_bytes(b" ", out)?;
+    write_three(b"pick ", role.0.bytes(), b" ", out)?;
     write_index(index, out)?;
     write_bytes(b" ", out)?;
     write_truth(flag, out)
@@ -138,9 +135,7 @@ fn write_scope(index: Index, role: &Role, chosen: &Chosen, out: &mut Vec<u8>) ->
         line (entry.Scope index role.now chosen.now)) }
     ensures memory { OnErr result (KeepsFront out.old.items out.new.items) }
 {
-    write_bytes(b"scope ", out)?;
-    write_bytes(role.0.bytes(), out)?;
-    write_bytes(b" ", out)?;
+    write_three(b"scope ", role.0.bytes(), b" ", out)?;
     write_index(index, out)?;
     write_bytes(b" ", out)?;
     write_choice(chosen, out)
@@ -150,9 +145,7 @@ fn write_environment(key: &Name, value: &Value, out: &mut Vec<u8>) -> Result<(),
     ensures ok { OnOk result (out.new.items ≡ out.old.items ++ line (entry.Env key.now value.now)) }
     ensures memory { OnErr result (KeepsFront out.old.items out.new.items) }
 {
-    write_bytes(b"env ", out)?;
-    write_bytes(key.bytes(), out)?;
-    write_bytes(b" = ", out)?;
+    write_three(b"env ", key.bytes(), b" = ", out)?;
     write_value(value, Minus::Close, out)
 }
 

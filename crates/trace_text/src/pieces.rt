@@ -9,6 +9,23 @@ ghost use Rattle.trace_text.specs.Lines.{index_text, tag_text, note_text, key_te
 use dioc_terms::{Chosen, Index, Key, Memory, Name, Note, Tag};
 use text_pieces::{Minus, write_bytes, write_number, write_truth, write_value};
 
+/// Three texts in a row.
+pub fn write_three(
+    first: &[u8],
+    second: &[u8],
+    third: &[u8],
+    out: &mut Vec<u8>,
+) -> Result<(), Memory>
+    ensures ok { OnOk result (out.new.items ≡ out.old.items ++
+        (first.now ++ second.now ++ third.now)) }
+    ensures memory { OnErr result (KeepsFront out.old.items out.new.items) }
+{
+    write_bytes(first, out)?;
+    write_bytes(second, out)?;
+    write_bytes(third, out)
+}
+
+/// As `#0.3`.
 pub fn write_index(index: Index, out: &mut Vec<u8>) -> Result<(), Memory>
     ensures ok { OnOk result (out.new.items ≡ out.old.items ++ index_text index) }
     ensures memory { OnErr result (KeepsFront out.old.items out.new.items) }
@@ -17,6 +34,15 @@ pub fn write_index(index: Index, out: &mut Vec<u8>) -> Result<(), Memory>
     write_number(u64::from(index.epoch), out)?;
     write_bytes(b".", out)?;
     write_number(u64::from(index.place), out)
+}
+
+/// A word and an index.
+pub fn write_indexed(word: &[u8], index: Index, out: &mut Vec<u8>) -> Result<(), Memory>
+    ensures ok { OnOk result (out.new.items ≡ out.old.items ++ (word.now ++ index_text index)) }
+    ensures memory { OnErr result (KeepsFront out.old.items out.new.items) }
+{
+    write_bytes(word, out)?;
+    write_index(index, out)
 }
 
 fn write_tag(tag: &Tag, out: &mut Vec<u8>) -> Result<(), Memory>
@@ -55,9 +81,7 @@ pub fn write_key(key: &Key, out: &mut Vec<u8>) -> Result<(), Memory>
     ensures ok { OnOk result (out.new.items ≡ out.old.items ++ key_text key.now) }
     ensures memory { OnErr result (KeepsFront out.old.items out.new.items) }
 {
-    write_bytes(key.from.0.bytes(), out)?;
-    write_bytes(b" -> ", out)?;
-    write_bytes(key.to.0.bytes(), out)?;
+    write_three(key.from.0.bytes(), b" -> ", key.to.0.bytes(), out)?;
     write_bytes(b" ", out)?;
     write_tag(&key.tag, out)?;
     write_index(key.index, out)
@@ -84,9 +108,7 @@ pub fn write_choice(chosen: &Chosen, out: &mut Vec<u8>) -> Result<(), Memory>
     match chosen {
         Chosen::Keep => write_bytes(b"keep", out),
         Chosen::Rule { name, epoch } => {
-            write_bytes(b"rule ", out)?;
-            write_bytes(name.bytes(), out)?;
-            write_bytes(b" as ", out)?;
+            write_three(b"rule ", name.bytes(), b" as ", out)?;
             write_number(u64::from(*epoch), out)
         }
     }

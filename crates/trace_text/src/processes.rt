@@ -7,7 +7,7 @@ ghost use Rattle.text_pieces.specs.Pieces.{KeepsFront};
 ghost use Rattle.trace_text.specs.Lines.{index_text};
 ghost use Rattle.trace_text.specs.Process.{has_text, expression_text, next_role_text, roles_text, property_text, next_property_text, properties_text, tell_text, from_text, head_text, process_text};
 
-use crate::pieces::write_index;
+use crate::pieces::{write_indexed, write_three};
 use dioc_terms::{Expr, Index, Memory, Name, Proc, Role, ScopeHead, Value};
 use text_pieces::{Minus, cut_back, write_bytes, write_value};
 
@@ -26,6 +26,7 @@ pub fn write_process(proc: &Proc, out: &mut Vec<u8>) -> Result<(), Memory>
     cut_back(written, start, out)
 }
 
+#[cycle(part)]
 fn write_part(proc: &Proc, out: &mut Vec<u8>) -> Result<(), Memory>
     requires { has_text (process proc.now) ≡ true }
     ensures ok { OnOk result (out.new.items ≡ out.old.items ++ process_text (process proc.now)) }
@@ -34,34 +35,39 @@ fn write_part(proc: &Proc, out: &mut Vec<u8>) -> Result<(), Memory>
     write_head(proc, out)?;
     match proc {
         Proc::Seq(first, second) => {
-            write_part(first, out)?;
-            write_bytes(b"; ", out)?;
-            write_part(second, out)?;
-            write_bytes(b")", out)
+            write_before(first, b"; ", out)?;
+            write_before(second, b")", out)
         }
         Proc::Par(first, second) => {
-            write_part(first, out)?;
-            write_bytes(b" | ", out)?;
-            write_part(second, out)?;
-            write_bytes(b")", out)
+            write_before(first, b" | ", out)?;
+            write_before(second, b")", out)
         }
         Proc::IfLead { yes, no, .. } | Proc::IfFollow { yes, no, .. } => {
             write_bytes(b" { ", out)?;
-            write_part(yes, out)?;
-            write_bytes(b" } else { ", out)?;
-            write_part(no, out)?;
-            write_bytes(b" }", out)
+            write_before(yes, b" } else { ", out)?;
+            write_before(no, b" }", out)
         }
         Proc::WhileLead { body, .. }
         | Proc::WhileFollow { body, .. }
         | Proc::ScopeLead { body, .. }
         | Proc::ScopeFollow { body, .. } => {
             write_bytes(b" { ", out)?;
-            write_part(body, out)?;
-            write_bytes(b" }", out)
+            write_before(body, b" }", out)
         }
         _ => Ok(()),
     }
+}
+
+/// A part of a process, and the sign behind it.
+#[cycle(part)]
+fn write_before(part: &Proc, sign: &[u8], out: &mut Vec<u8>) -> Result<(), Memory>
+    requires { has_text (process part.now) ≡ true }
+    ensures ok { OnOk result (out.new.items ≡ out.old.items ++
+        (process_text (process part.now) ++ sign.now)) }
+    ensures memory { OnErr result (KeepsFront out.old.items out.new.items) }
+{
+    write_part(part, out)?;
+    write_bytes(sign, out)
 }
 
 /// What stands before the parts of a process; of a step, its text.
@@ -143,9 +149,7 @@ fn write_receive(
     ensures memory { OnErr result (KeepsFront out.old.items out.new.items) }
 {
     write_indexed(op.bytes(), index, out)?;
-    write_bytes(b"(", out)?;
-    write_bytes(var.bytes(), out)?;
-    write_bytes(b")", out)?;
+    write_three(b"(", var.bytes(), b")", out)?;
     write_from(from, out)
 }
 
@@ -194,15 +198,6 @@ fn write_scope(head: &ScopeHead, others: &[Role], out: &mut Vec<u8>) -> Result<(
     write_bytes(b" prop [", out)?;
     write_properties(head.props.as_slice(), out)?;
     write_bytes(b"]", out)
-}
-
-/// A word and an index.
-fn write_indexed(word: &[u8], index: Index, out: &mut Vec<u8>) -> Result<(), Memory>
-    ensures ok { OnOk result (out.new.items ≡ out.old.items ++ (word.now ++ index_text index)) }
-    ensures memory { OnErr result (KeepsFront out.old.items out.new.items) }
-{
-    write_bytes(word, out)?;
-    write_index(index, out)
 }
 
 fn write_from(leader: &Role, out: &mut Vec<u8>) -> Result<(), Memory>
