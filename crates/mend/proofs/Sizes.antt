@@ -1,11 +1,11 @@
 -- How building grows a term, and how far.
-use Rattle.std.proofs.Common.{suc, ◌+◌, ◌≤◌, ◌<◌, List, Bool, true, false, ◌&&◌, Option, Some, None, arith}
+use Rattle.std.proofs.Common.{suc, ◌+◌, ◌≤◌, List, Bool, true, false, ◌&&◌, Option, Some, None, arith}
 use Rattle.std.proofs.lemmas.Bool.{cond_both}
 use Rattle.dioc_terms.specs.declared.names.Role.{Role}
 use Rattle.dioc_terms.specs.Equality.{role_eq}
 use Rattle.dioc_terms.specs.Terms.{Term, Skip, Com, Set, Input, Seq, Par, If, While, Scope, empty, is_in, nodes}
 use Rattle.connectedness.specs.Connected.{linked}
-use Rattle.mend.specs.Mended.{told, led_in, closed, opened, first_starter, through, join}
+use Rattle.mend.specs.Mended.{told, led_in, closed, opened, first_starter, through, join, relinked}
 
 told-grows : (t : Bool) (W : Term) (r k : Role) → nodes W ≤ nodes (told t W r k)
 told-grows true W r k = omega arith
@@ -64,13 +64,25 @@ pub join_grows : (cast : List Role) (I J : Term) → suc (nodes I + nodes J) ≤
 join_grows cast I J = cond_both (linked I J) (Seq I J) (through (first_starter cast J) I J) (λ T. suc (nodes I + nodes J) ≤ nodes T)
     (λ yes. omega arith) (λ no. through_grows (first_starter cast J) I J)
 
-pub has_node : (I : Term) → 0 < nodes I
-has_node Skip = omega arith
-has_node (Com i o a e b x) = omega arith
-has_node (Set i x r e) = omega arith
-has_node (Input i x r) = omega arith
-has_node (Seq I J) = omega arith
-has_node (Par I J) = omega arith
-has_node (If i r g I J) = omega arith
-has_node (While i r g I) = omega arith
-has_node (Scope i r I extra props level) = omega arith
+pub relinked_grows : (cast : List Role) (I : Term) → nodes I ≤ nodes (relinked cast I)
+relinked_grows cast Skip = omega arith
+relinked_grows cast (Com i o a e b x) = omega arith
+relinked_grows cast (Set i x r e) = omega arith
+relinked_grows cast (Input i x r) = omega arith
+relinked_grows cast (Seq I J) =
+    let one : nodes I ≤ nodes (relinked cast I) = relinked_grows cast I in
+    let other : nodes J ≤ nodes (relinked cast J) = relinked_grows cast J in
+    let both : suc (nodes (relinked cast I) + nodes (relinked cast J)) ≤ nodes (join cast (relinked cast I) (relinked cast J))
+    = join_grows cast (relinked cast I) (relinked cast J) in
+    omega (arith, one, other, both)
+relinked_grows cast (Par I J) =
+    let one : nodes I ≤ nodes (relinked cast I) = relinked_grows cast I in
+    let other : nodes J ≤ nodes (relinked cast J) = relinked_grows cast J in
+    omega (arith, one, other)
+relinked_grows cast (If i r g I J) =
+    let one : nodes I ≤ nodes (relinked cast I) = relinked_grows cast I in
+    let other : nodes J ≤ nodes (relinked cast J) = relinked_grows cast J in
+    omega (arith, one, other)
+relinked_grows cast (While i r g I) = let one : nodes I ≤ nodes (relinked cast I) = relinked_grows cast I in omega (arith, one)
+relinked_grows cast (Scope i r I extra props level) =
+    let one : nodes I ≤ nodes (relinked cast I) = relinked_grows cast I in omega (arith, one)

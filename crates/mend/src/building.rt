@@ -1,18 +1,22 @@
 //! The pieces of a mended choreography: added messages, and constructs with one behind or before
 //! them. Each counts the nodes that it adds.
+//!
+//! A part is changed in its place: what is held while something may fail is let go at each such
+//! place, and that is proved through all forms of a choreography.
 
 ghost use Rattle.std.specs.Prelude.{◌≡◌, ◌+◌, ◌<◌, true, OnOk, IfOk, IfErr};
 ghost use Rattle.dioc_terms.specs.Equality.{role_eq};
-ghost use Rattle.dioc_terms.specs.Expressions.{expression};
 ghost use Rattle.dioc_terms.specs.Names.{is_name};
-ghost use Rattle.dioc_terms.specs.Terms.{term, Seq, Par, If, is_in, nodes};
+ghost use Rattle.dioc_terms.specs.Terms.{term, is_in, nodes};
 ghost use Rattle.mend.specs.Building.{IsStopOf};
 ghost use Rattle.mend.specs.Mended.{message, told, led_in};
 
 use crate::ends::names;
-use crate::faults::Stop;
+use crate::faults::{Stop, stopped};
 use dioc_terms::{Choreo, Expr, Index, Memory, Name, NameFault, Role, Value, new_box};
+use index_marks::nodes;
 use std::alloc::Global;
+use std::mem;
 
 /// A name of these bytes.
 pub(crate) fn name(alloc: Global, bytes: &[u8]) -> Result<Name, Memory>
@@ -41,7 +45,7 @@ fn message(alloc: Global, from: &Role, to: &Role) -> Result<Choreo, Memory>
 }
 
 /// Spends so many of the nodes that are left.
-pub(crate) fn spend(left: &mut u32, count: u32) -> Result<(), Stop>
+fn spend(left: &mut u32, count: u32) -> Result<(), Stop>
     ensures spent { OnOk result (left.new + count ≡ left.old) }
     ensures stop { IfErr result (IsStopOf left.old count) }
 {
@@ -52,91 +56,100 @@ pub(crate) fn spend(left: &mut u32, count: u32) -> Result<(), Stop>
     Ok(())
 }
 
-/// The two parts, one after the other.
-pub(crate) fn sequence(alloc: Global, first: Choreo, second: Choreo) -> Result<Choreo, Memory>
-    ensures { IfOk result (λ made. term made ≡ Seq (term first) (term second)) }
+/// Spends as many nodes as the part has.
+pub(crate) fn spend_nodes(left: &mut u32, part: &Choreo) -> Result<(), Stop>
+    ensures spent { OnOk result (left.new + nodes (term part.now) ≡ left.old) }
+    ensures stop { IfErr result (IsStopOf left.old (nodes (term part.now))) }
 {
-    let first = new_box(alloc, first)?;
-    let second = new_box(alloc, second)?;
-    Ok(Choreo::Seq(first, second))
+    let count = nodes(part);
+    if (*left as usize) < count {
+        return Err(Stop::TooMany);
+    }
+    *left -= count as u32;
+    Ok(())
 }
 
-/// The two parts, side by side.
-pub(crate) fn both(alloc: Global, one: Choreo, other: Choreo) -> Result<Choreo, Memory>
-    ensures { IfOk result (λ made. term made ≡ Par (term one) (term other)) }
+/// A message to add, in a box, with its nodes and those of the sequence with it spent.
+fn added(alloc: Global, left: &mut u32, from: &Role, to: &Role) -> Result<Box<Choreo>, Stop>
+    ensures made { IfOk result (λ made. term made.value ≡ message from.now to.now) }
+    ensures spent { OnOk result (left.new + 2 ≡ left.old) }
+    ensures stop { IfErr result (IsStopOf left.old 2) }
 {
-    let one = new_box(alloc, one)?;
-    let other = new_box(alloc, other)?;
-    Ok(Choreo::Par(one, other))
+    spend(left, 2)?;
+    let added = message(alloc, from, to)?;
+    Ok(new_box(alloc, added)?)
 }
 
-/// A choice of the two branches.
-pub(crate) fn choice(
-    alloc: Global,
-    index: Index,
-    leader: Role,
-    guard: Expr,
-    yes: Choreo,
-    no: Choreo,
-) -> Result<Choreo, Memory>
-    ensures { IfOk result (λ made. term made ≡ If index leader (expression guard) (term yes)
-        (term no)) }
+/// The part, taken out into a box of its own; nothing is left in its place.
+fn taken_out(alloc: Global, part: &mut Choreo) -> Result<Box<Choreo>, Memory>
+    ensures { IfOk result (λ taken. taken.value ≡ part.old) }
 {
-    let yes = new_box(alloc, yes)?;
-    let no = new_box(alloc, no)?;
-    Ok(Choreo::If {
-        index,
-        leader,
-        guard,
-        yes,
-        no,
-    })
+    let mut taken = new_box(alloc, Choreo::Skip)?;
+    mem::swap(&mut *taken, part);
+    Ok(taken)
 }
 
-/// The part, and behind it a message from one of its last roles to the role, unless the part has
-/// it.
+/// Puts another choreography in place of the part.
+fn put(part: &mut Choreo, choreo: Choreo)
+    ensures { part.new ≡ choreo }
+{
+    drop(mem::replace(part, choreo));
+}
+
+/// Puts a message from one of its last roles to the role behind the part, unless the part has the
+/// role.
 pub(crate) fn tell(
     alloc: Global,
     left: &mut u32,
-    part: Choreo,
+    part: &mut Choreo,
     last: &Role,
     role: &Role,
-) -> Result<Choreo, Stop>
-    ensures made { IfOk result (λ made. term made ≡ told (is_in role.now (term part)) (term part)
-        last.now role.now) }
-    ensures spent { IfOk result (λ made. left.new + nodes (term made) ≡ left.old
-        + nodes (term part)) }
-    ensures stop { IfErr result (IsStopOf (left.old + nodes (term part))
-        (nodes (told (is_in role.now (term part)) (term part) last.now role.now))) }
+) -> Result<(), Stop>
+    ensures made { OnOk result (term part.new
+        ≡ told (is_in role.now (term part.old)) (term part.old) last.now role.now) }
+    ensures spent { OnOk result (left.new + nodes (term part.new)
+        ≡ left.old + nodes (term part.old)) }
+    ensures stop { IfErr result (IsStopOf (left.old + nodes (term part.old))
+        (nodes (told (is_in role.now (term part.old)) (term part.old) last.now role.now))) }
 {
-    if names(&part, role) {
-        return Ok(part);
+    if names(part, role) {
+        return Ok(());
     }
-    spend(left, 2)?;
-    let added = message(alloc, last, role)?;
-    Ok(sequence(alloc, part, added)?)
+    let added = added(alloc, left, last, role)?;
+    match taken_out(alloc, part) {
+        Ok(whole) => {
+            put(part, Choreo::Seq(whole, added));
+            Ok(())
+        }
+        Err(_) => stopped(added, Stop::Memory),
+    }
 }
 
-/// The part, and before it a message from the role to the role that begins it, unless they are the
+/// Puts a message from the role to the role that begins it before the part, unless they are the
 /// same.
 pub(crate) fn ask(
     alloc: Global,
     left: &mut u32,
-    part: Choreo,
+    part: &mut Choreo,
     first: &Role,
     role: &Role,
-) -> Result<Choreo, Stop>
-    ensures made { IfOk result (λ made. term made ≡ led_in (role_eq role.now first.now) (term part)
-        first.now role.now) }
-    ensures spent { IfOk result (λ made. left.new + nodes (term made) ≡ left.old
-        + nodes (term part)) }
-    ensures stop { IfErr result (IsStopOf (left.old + nodes (term part))
-        (nodes (led_in (role_eq role.now first.now) (term part) first.now role.now))) }
+) -> Result<(), Stop>
+    ensures made { OnOk result (term part.new
+        ≡ led_in (role_eq role.now first.now) (term part.old) first.now role.now) }
+    ensures spent { OnOk result (left.new + nodes (term part.new)
+        ≡ left.old + nodes (term part.old)) }
+    ensures stop { IfErr result (IsStopOf (left.old + nodes (term part.old))
+        (nodes (led_in (role_eq role.now first.now) (term part.old) first.now role.now))) }
 {
     if role == first {
-        return Ok(part);
+        return Ok(());
     }
-    spend(left, 2)?;
-    let added = message(alloc, role, first)?;
-    Ok(sequence(alloc, added, part)?)
+    let added = added(alloc, left, role, first)?;
+    match taken_out(alloc, part) {
+        Ok(whole) => {
+            put(part, Choreo::Seq(added, whole));
+            Ok(())
+        }
+        Err(_) => stopped(added, Stop::Memory),
+    }
 }

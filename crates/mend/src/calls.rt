@@ -13,7 +13,7 @@ use crate::laws::{drops_to_input, mended_connected};
 use crate::mending::joined;
 use crate::names::first_taken;
 use crate::numbering::number;
-use dioc_terms::{Choreo, Memory, Role};
+use dioc_terms::{Choreo, Memory, Role, give_up};
 use index_marks::mark;
 use std::alloc::Global;
 
@@ -80,7 +80,11 @@ fn finished(alloc: Global, joined: Choreo) -> Result<Choreo, Memory>
     ensures { IfOk result (λ made. term made ≡ indexed (with_numbers 0 (term joined))) }
 {
     let mut made = joined;
-    number(alloc, &mut made, 0)?;
-    mark(&mut made);
-    Ok(made)
+    match number(alloc, &mut made, 0) {
+        Ok(_) => {
+            mark(&mut made);
+            Ok(made)
+        }
+        Err(fault) => give_up(made, fault),
+    }
 }

@@ -1,6 +1,6 @@
 //! Why mending stops.
 
-ghost use Rattle.std.specs.Prelude.{◌≡◌};
+ghost use Rattle.std.specs.Prelude.{◌≡◌, Err};
 ghost use Rattle.mend.specs.declared.faults.MendFault.TheVariants as fault;
 ghost use Rattle.mend.specs.declared.faults.Stop.TheVariants as stop;
 
@@ -26,6 +26,13 @@ pub(crate) enum Stop {
     TooMany,
     /// Memory ran out.
     Memory,
+}
+
+/// Lets go of a value that is not built further.
+pub(crate) fn stopped<T: Drop, U: Drop>(_value: T, why: Stop) -> Result<U, Stop>
+    ensures { result ≡ Err why }
+{
+    Err(why)
 }
 
 impl From<Memory> for MendFault {

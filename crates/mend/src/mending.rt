@@ -1,14 +1,14 @@
 //! Closing, opening and joining, from the inside out.
 
-ghost use Rattle.std.specs.Prelude.{◌≡◌, ◌+◌, false, Some, IfOk, IfErr};
+ghost use Rattle.std.specs.Prelude.{◌≡◌, ◌+◌, false, Some, IfOk, IfErr, OnOk};
 ghost use Rattle.dioc_terms.specs.Terms.{term, Seq, nodes};
 ghost use Rattle.mend.specs.Building.{IsStopOf, beginner, is_joint, is_pair, teller};
 ghost use Rattle.mend.specs.Mended.{closed, opened, through, join, relinked};
 
-use crate::building::{ask, both, choice, sequence, spend, tell};
+use crate::building::{ask, spend_nodes, tell};
 use crate::ends::{are_empty, first_beginner, is_empty, is_linked};
-use crate::faults::Stop;
-use dioc_terms::{Choreo, Memory, Role, new_box};
+use crate::faults::{Stop, stopped};
+use dioc_terms::{Choreo, Memory, Role};
 use std::alloc::Global;
 
 /// The role that tells of a construct.
@@ -39,168 +39,179 @@ fn beginner(alloc: Global, part: &Choreo) -> Result<Option<Role>, Memory>
     }
 }
 
-/// A construct, closed for the role, or nothing.
+/// Closes a construct, or nothing, for the role.
 #[tactic(auto, using(crate::proofs::Closing::closed_none, crate::proofs::Closing::closed_told))]
-fn closed_whole(alloc: Global, left: &mut u32, part: Choreo, role: &Role) -> Result<Choreo, Stop>
-    requires { is_joint (term part) ≡ false }
-    ensures made { IfOk result (λ made. term made ≡ closed role.now (term part)) }
-    ensures spent { IfOk result (λ made. left.new + nodes (term made) ≡ left.old
-        + nodes (term part)) }
-    ensures stop { IfErr result (IsStopOf (left.old + nodes (term part))
-        (nodes (closed role.now (term part)))) }
+fn close_whole(alloc: Global, left: &mut u32, part: &mut Choreo, role: &Role) -> Result<(), Stop>
+    requires { is_joint (term part.old) ≡ false }
+    ensures made { OnOk result (term part.new ≡ closed role.now (term part.old)) }
+    ensures spent { OnOk result (left.new + nodes (term part.new)
+        ≡ left.old + nodes (term part.old)) }
+    ensures stop { IfErr result (IsStopOf (left.old + nodes (term part.old))
+        (nodes (closed role.now (term part.old)))) }
 {
-    match teller(alloc, &part)? {
-        None => Ok(part),
+    match teller(alloc, part)? {
+        None => Ok(()),
         Some(last) => tell(alloc, left, part, &last, role),
     }
 }
 
-/// A construct, opened for the role, or nothing.
+/// Opens a construct, or nothing, for the role.
 #[tactic(auto, using(crate::proofs::Closing::opened_none, crate::proofs::Closing::opened_asked))]
-fn opened_whole(alloc: Global, left: &mut u32, part: Choreo, role: &Role) -> Result<Choreo, Stop>
-    requires { is_pair (term part) ≡ false }
-    ensures made { IfOk result (λ made. term made ≡ opened role.now (term part)) }
-    ensures spent { IfOk result (λ made. left.new + nodes (term made) ≡ left.old
-        + nodes (term part)) }
-    ensures stop { IfErr result (IsStopOf (left.old + nodes (term part))
-        (nodes (opened role.now (term part)))) }
+fn open_whole(alloc: Global, left: &mut u32, part: &mut Choreo, role: &Role) -> Result<(), Stop>
+    requires { is_pair (term part.old) ≡ false }
+    ensures made { OnOk result (term part.new ≡ opened role.now (term part.old)) }
+    ensures spent { OnOk result (left.new + nodes (term part.new)
+        ≡ left.old + nodes (term part.old)) }
+    ensures stop { IfErr result (IsStopOf (left.old + nodes (term part.old))
+        (nodes (opened role.now (term part.old)))) }
 {
-    match beginner(alloc, &part)? {
-        None => Ok(part),
+    match beginner(alloc, part)? {
+        None => Ok(()),
         Some(first) => ask(alloc, left, part, &first, role),
     }
 }
 
-/// The part, closed for the role: each of its endings has it.
+/// Closes the part for the role: each of its endings then has it.
 #[tactic(auto, using(crate::proofs::Sizes::closed_grows))]
-fn closed(alloc: Global, left: &mut u32, part: Choreo, role: &Role) -> Result<Choreo, Stop>
-    ensures made { IfOk result (λ made. term made ≡ closed role.now (term part)) }
-    ensures spent { IfOk result (λ made. left.new + nodes (term made) ≡ left.old
-        + nodes (term part)) }
-    ensures stop { IfErr result (IsStopOf (left.old + nodes (term part))
-        (nodes (closed role.now (term part)))) }
+fn close(alloc: Global, left: &mut u32, part: &mut Choreo, role: &Role) -> Result<(), Stop>
+    ensures made { OnOk result (term part.new ≡ closed role.now (term part.old)) }
+    ensures spent { OnOk result (left.new + nodes (term part.new)
+        ≡ left.old + nodes (term part.old)) }
+    ensures stop { IfErr result (IsStopOf (left.old + nodes (term part.old))
+        (nodes (closed role.now (term part.old)))) }
 {
     match part {
         Choreo::Seq(first, second) => {
-            if is_empty(&second) {
-                let first = closed(alloc, left, Box::into_inner(first), role)?;
-                let first = new_box(alloc, first)?;
-                Ok(Choreo::Seq(first, second))
+            if is_empty(second) {
+                close(alloc, left, first, role)
             } else {
-                let second = closed(alloc, left, Box::into_inner(second), role)?;
-                let second = new_box(alloc, second)?;
-                Ok(Choreo::Seq(first, second))
+                close(alloc, left, second, role)
             }
         }
         Choreo::Par(one, other) => {
-            let one = closed(alloc, left, Box::into_inner(one), role)?;
-            let other = closed(alloc, left, Box::into_inner(other), role)?;
-            Ok(both(alloc, one, other)?)
+            close(alloc, left, one, role)?;
+            close(alloc, left, other, role)
         }
         Choreo::If {
-            index,
             leader,
-            guard,
             yes,
             no,
+            ..
         } => {
-            if are_empty(&yes, &no) {
+            if are_empty(yes, no) {
                 let last = leader.copy(alloc)?;
-                let whole = Choreo::If {
-                    index,
-                    leader,
-                    guard,
-                    yes,
-                    no,
-                };
-                tell(alloc, left, whole, &last, role)
+                tell(alloc, left, part, &last, role)
             } else {
-                let yes = closed(alloc, left, Box::into_inner(yes), role)?;
-                let no = closed(alloc, left, Box::into_inner(no), role)?;
-                Ok(choice(alloc, index, leader, guard, yes, no)?)
+                close(alloc, left, yes, role)?;
+                close(alloc, left, no, role)
             }
         }
-        whole => closed_whole(alloc, left, whole, role),
+        whole => close_whole(alloc, left, whole, role),
     }
 }
 
-/// The part, opened for the role: nobody else begins it.
+/// Opens the part for the role: nobody else then begins it.
 #[tactic(auto, using(crate::proofs::Sizes::opened_grows))]
-fn opened(alloc: Global, left: &mut u32, part: Choreo, role: &Role) -> Result<Choreo, Stop>
-    ensures made { IfOk result (λ made. term made ≡ opened role.now (term part)) }
-    ensures spent { IfOk result (λ made. left.new + nodes (term made) ≡ left.old
-        + nodes (term part)) }
-    ensures stop { IfErr result (IsStopOf (left.old + nodes (term part))
-        (nodes (opened role.now (term part)))) }
+fn open(alloc: Global, left: &mut u32, part: &mut Choreo, role: &Role) -> Result<(), Stop>
+    ensures made { OnOk result (term part.new ≡ opened role.now (term part.old)) }
+    ensures spent { OnOk result (left.new + nodes (term part.new)
+        ≡ left.old + nodes (term part.old)) }
+    ensures stop { IfErr result (IsStopOf (left.old + nodes (term part.old))
+        (nodes (opened role.now (term part.old)))) }
 {
     match part {
         Choreo::Seq(earlier, later) => {
-            if is_empty(&earlier) {
-                let later = opened(alloc, left, Box::into_inner(later), role)?;
-                let later = new_box(alloc, later)?;
-                Ok(Choreo::Seq(earlier, later))
+            if is_empty(earlier) {
+                open(alloc, left, later, role)
             } else {
-                let earlier = opened(alloc, left, Box::into_inner(earlier), role)?;
-                let earlier = new_box(alloc, earlier)?;
-                Ok(Choreo::Seq(earlier, later))
+                open(alloc, left, earlier, role)
             }
         }
         Choreo::Par(one, other) => {
-            let one = opened(alloc, left, Box::into_inner(one), role)?;
-            let other = opened(alloc, left, Box::into_inner(other), role)?;
-            Ok(both(alloc, one, other)?)
+            open(alloc, left, one, role)?;
+            open(alloc, left, other, role)
         }
-        whole => opened_whole(alloc, left, whole, role),
+        whole => open_whole(alloc, left, whole, role),
     }
 }
 
-/// A sequence that goes through a role, where there is one.
+/// Makes a sequence of these two parts go through a role.
 #[tactic(auto, using(crate::proofs::Sizes::closed_grows, crate::proofs::Sizes::opened_grows))]
 fn go_through(
     alloc: Global,
     left: &mut u32,
     role: &Role,
-    first: Choreo,
-    second: Choreo,
-) -> Result<Choreo, Stop>
-    ensures made { IfOk result (λ made. term made ≡ through (Some role.now) (term first)
-        (term second)) }
-    ensures spent { IfOk result (λ made. left.new + nodes (term made) ≡ left.old
-        + nodes (Seq (term first) (term second))) }
-    ensures stop { IfErr result (IsStopOf (left.old + nodes (Seq (term first) (term second)))
-        (nodes (through (Some role.now) (term first) (term second)))) }
+    first: &mut Choreo,
+    second: &mut Choreo,
+) -> Result<(), Stop>
+    ensures made { OnOk result (Seq (term first.new) (term second.new)
+        ≡ through (Some role.now) (term first.old) (term second.old)) }
+    ensures spent { OnOk result (left.new + nodes (Seq (term first.new) (term second.new))
+        ≡ left.old + nodes (Seq (term first.old) (term second.old))) }
+    ensures stop { IfErr result
+        (IsStopOf (left.old + nodes (Seq (term first.old) (term second.old)))
+        (nodes (through (Some role.now) (term first.old) (term second.old)))) }
 {
-    let first = closed(alloc, left, first, role)?;
-    let second = opened(alloc, left, second, role)?;
-    Ok(sequence(alloc, first, second)?)
+    close(alloc, left, first, role)?;
+    open(alloc, left, second, role)
 }
 
-/// A sequence of the two parts, linked.
+/// Links a sequence of these two parts.
 fn join(
     alloc: Global,
     left: &mut u32,
     cast: &[Role],
-    first: Choreo,
-    second: Choreo,
-) -> Result<Choreo, Stop>
-    ensures made { IfOk result (λ made. term made ≡ join cast.now (term first) (term second)) }
-    ensures spent { IfOk result (λ made. left.new + nodes (term made) ≡ left.old
-        + nodes (Seq (term first) (term second))) }
-    ensures stop { IfErr result (IsStopOf (left.old + nodes (Seq (term first) (term second)))
-        (nodes (join cast.now (term first) (term second)))) }
+    first: &mut Choreo,
+    second: &mut Choreo,
+) -> Result<(), Stop>
+    ensures made { OnOk result (Seq (term first.new) (term second.new)
+        ≡ join cast.now (term first.old) (term second.old)) }
+    ensures spent { OnOk result (left.new + nodes (Seq (term first.new) (term second.new))
+        ≡ left.old + nodes (Seq (term first.old) (term second.old))) }
+    ensures stop { IfErr result
+        (IsStopOf (left.old + nodes (Seq (term first.old) (term second.old)))
+        (nodes (join cast.now (term first.old) (term second.old)))) }
 {
-    if is_linked(&first, &second) {
-        return Ok(sequence(alloc, first, second)?);
+    if is_linked(first, second) {
+        return Ok(());
     }
-    match first_beginner(cast, &second) {
-        None => Ok(sequence(alloc, first, second)?),
+    match first_beginner(cast, second) {
+        None => Ok(()),
         Some(role) => go_through(alloc, left, role, first, second),
     }
 }
 
-/// A copy of the choreography with each sequence inside joined, inner ones first. Each of its nodes
-/// is spent.
-#[tactic(auto, using(crate::proofs::Sizes::join_grows, crate::proofs::Sizes::has_node))]
+/// Joins each sequence inside, inner ones first.
+#[tactic(auto, using(crate::proofs::Sizes::join_grows, crate::proofs::Sizes::relinked_grows))]
+fn relink(alloc: Global, left: &mut u32, cast: &[Role], choreo: &mut Choreo) -> Result<(), Stop>
+    ensures made { OnOk result (term choreo.new ≡ relinked cast.now (term choreo.old)) }
+    ensures spent { OnOk result (left.new + nodes (term choreo.new)
+        ≡ left.old + nodes (term choreo.old)) }
+    ensures stop { IfErr result (IsStopOf (left.old + nodes (term choreo.old))
+        (nodes (relinked cast.now (term choreo.old)))) }
+{
+    match choreo {
+        Choreo::Seq(first, second) => {
+            relink(alloc, left, cast, first)?;
+            relink(alloc, left, cast, second)?;
+            join(alloc, left, cast, first, second)
+        }
+        Choreo::Par(one, other) => {
+            relink(alloc, left, cast, one)?;
+            relink(alloc, left, cast, other)
+        }
+        Choreo::If { yes, no, .. } => {
+            relink(alloc, left, cast, yes)?;
+            relink(alloc, left, cast, no)
+        }
+        Choreo::While { body, .. } => relink(alloc, left, cast, body),
+        Choreo::Scope { body, .. } => relink(alloc, left, cast, body),
+        Choreo::Skip | Choreo::Com { .. } | Choreo::Set { .. } | Choreo::Input { .. } => Ok(()),
+    }
+}
+
+/// A copy of the choreography with each sequence inside joined. Each of its nodes is spent.
+#[tactic(auto, using(crate::proofs::Sizes::relinked_grows))]
 pub(crate) fn joined(
     alloc: Global,
     left: &mut u32,
@@ -211,63 +222,10 @@ pub(crate) fn joined(
     ensures spent { IfOk result (λ made. left.new + nodes (term made) ≡ left.old) }
     ensures stop { IfErr result (IsStopOf left.old (nodes (relinked cast.now (term choreo.now)))) }
 {
-    spend(left, 1)?;
-    match choreo {
-        Choreo::Seq(first, second) => {
-            let first = joined(alloc, left, cast, first)?;
-            let second = joined(alloc, left, cast, second)?;
-            join(alloc, left, cast, first, second)
-        }
-        Choreo::Par(one, other) => {
-            let one = joined(alloc, left, cast, one)?;
-            let other = joined(alloc, left, cast, other)?;
-            Ok(both(alloc, one, other)?)
-        }
-        Choreo::If {
-            index,
-            leader,
-            guard,
-            yes,
-            no,
-        } => {
-            let yes = joined(alloc, left, cast, yes)?;
-            let no = joined(alloc, left, cast, no)?;
-            let leader = leader.copy(alloc)?;
-            let guard = guard.copy(alloc)?;
-            Ok(choice(alloc, *index, leader, guard, yes, no)?)
-        }
-        Choreo::While {
-            index,
-            leader,
-            guard,
-            body,
-        } => {
-            let body = joined(alloc, left, cast, body)?;
-            Ok(Choreo::While {
-                index: *index,
-                leader: leader.copy(alloc)?,
-                guard: guard.copy(alloc)?,
-                body: new_box(alloc, body)?,
-            })
-        }
-        Choreo::Scope {
-            index,
-            leader,
-            body,
-            extra,
-            props,
-            level,
-        } => {
-            let body = joined(alloc, left, cast, body)?;
-            Ok(Choreo::Scope {
-                index: *index,
-                leader: leader.copy(alloc)?,
-                body: new_box(alloc, body)?,
-                extra: extra.copy(alloc)?,
-                props: props.copy(alloc)?,
-                level: *level,
-            })
-        }
-        leaf => Ok(leaf.copy(alloc)?),
+    spend_nodes(left, choreo)?;
+    let mut made = choreo.copy(alloc)?;
+    match relink(alloc, left, cast, &mut made) {
+        Ok(()) => Ok(made),
+        Err(why) => stopped(made, why),
     }
 }
