@@ -10,7 +10,6 @@ use text_pieces::{Minus, write_bytes, write_number, write_truth, write_value};
 use trace_text::{write_index, write_last};
 
 /// Appends the last line of a trace with its end.
-#[tactic(auto, using(text_pieces::proofs::KeptFronts::front_of_front))]
 pub fn write_last_line(last: &Last, out: &mut Vec<u8>) -> Result<(), Memory>
     ensures ok { OnOk result (out.new.items ≡ out.old.items ++ ended_text last.now) }
     ensures memory { OnErr result (KeepsFront out.old.items out.new.items) }

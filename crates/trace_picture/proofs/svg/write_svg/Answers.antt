@@ -1,0 +1,10 @@
+-- Where memory runs out behind what was written before, what stood in front stands there still.
+use Rattle.text_pieces.proofs.KeptFronts.{err_front}
+use Rattle.trace_picture.proofs.Repeats.{still_front}
+use Rattle.trace_picture.proofs.svg.write_svg.Goals as goal
+
+pub returns-in_err-write_entries-clause-memory : goal.returns-in_err-write_entries-clause-memory
+returns-in_err-write_entries-clause-memory c = still_front _ _ _ _ _ c.in_ok-write_head.ensures.ok c.in_err-write_entries.ensures.memory
+
+pub returns-clause-memory : goal.returns-clause-memory
+returns-clause-memory c = err_front _ _ _ _ _ c.in_ok-write_head.ensures.ok (err_front _ _ _ _ _ c.in_ok-write_entries.ensures.ok c.write_tail.ensures.memory)
