@@ -18,8 +18,8 @@ start-requires c = c.accepted_is_sound.ensures (plain c.args.bundle.now) c.requi
 pub make_line-line-requires : goal.make_line-line-requires
 make_line-line-requires c = omega (arith, few_nodes (plain c.args.bundle.now) c.requires.accepted)
 
-pub returns-in_ok-line : goal.returns-in_ok-line
-returns-in_ok-line c =
+pub returns-in_ok-line-in-Ok : goal.returns-in_ok-line-in-Ok
+returns-in_ok-line-in-Ok c =
     let b = made c.args.number c.args.size in
     let new = c.run_seeded.new.net in
     let how = c.in-Ok.finish in
