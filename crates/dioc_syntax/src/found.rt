@@ -147,7 +147,10 @@ pub fn loop_of(
     ensures next { IfOk result (λ found. found.next ≡ inner.next) }
 {
     let (depth, at, next) = (inner.depth + 1, inner.at, inner.next);
-    let body = new_box(alloc, inner.choreo)?;
+    let body = match new_box(alloc, inner.choreo) {
+        Ok(body) => body,
+        Err(fault) => return give_up(guard, fault),
+    };
     Ok(FoundChoreo {
         choreo: Choreo::While {
             index: Index {
@@ -165,7 +168,7 @@ pub fn loop_of(
 }
 
 /// What a scope has beside its body.
-#[derive(Debug, Drop)]
+#[derive(Drop)]
 pub struct ScopeParts {
     pub leader: Role,
     pub extra: Roles,

@@ -9,7 +9,7 @@ use dioc_terms::{Expr, Memory, Role, give_up};
 use expr_syntax::{ExprKind, expr_at};
 
 /// A guard and its leader.
-#[derive(Debug, Drop)]
+#[derive(Drop)]
 pub struct Guard {
     pub expr: Expr,
     pub leader: Role,

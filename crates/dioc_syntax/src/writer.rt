@@ -30,6 +30,7 @@ pub fn write_choreo(choreo: &Choreo, out: &mut Vec<u8>) -> Result<(), Memory>
     cut_back(written, start, out)
 }
 
+#[cycle(part)]
 fn write_part(choreo: &Choreo, out: &mut Vec<u8>) -> Result<(), Memory>
     ensures ok { OnOk result (out.new.items ≡ out.old.items
         ++ choreography_text (term choreo.now)) }
@@ -42,8 +43,7 @@ fn write_part(choreo: &Choreo, out: &mut Vec<u8>) -> Result<(), Memory>
             let right = is_parallel(second);
             write_part(first, out)?;
             write_between(is_joined(first), b" ; ", right, out)?;
-            write_part(second, out)?;
-            write_closing(right, out)
+            write_before(second, closing(right), out)
         }
         Choreo::Par(first, second) => {
             write_part(first, out)?;
@@ -51,27 +51,32 @@ fn write_part(choreo: &Choreo, out: &mut Vec<u8>) -> Result<(), Memory>
             write_part(second, out)
         }
         Choreo::If { yes, no, .. } => {
-            write_part(yes, out)?;
-            write_bytes(b" } else { ", out)?;
-            write_part(no, out)?;
-            write_bytes(b" }", out)
+            write_before(yes, b" } else { ", out)?;
+            write_before(no, b" }", out)
         }
-        Choreo::While { body, .. } => {
-            write_part(body, out)?;
-            write_bytes(b" }", out)
-        }
+        Choreo::While { body, .. } => write_before(body, b" }", out),
         Choreo::Scope {
             body,
             extra,
             props,
             ..
         } => {
-            write_part(body, out)?;
-            write_bytes(b" }", out)?;
+            write_before(body, b" }", out)?;
             write_roles(extra.as_slice(), out)?;
             write_properties(props.as_slice(), out)
         }
     }
+}
+
+/// A part of a choreography, and the sign behind it.
+#[cycle(part)]
+fn write_before(part: &Choreo, sign: &[u8], out: &mut Vec<u8>) -> Result<(), Memory>
+    ensures ok { OnOk result (out.new.items ≡ out.old.items
+        ++ (choreography_text (term part.now) ++ sign.now)) }
+    ensures memory { OnErr result (KeepsFront out.old.items out.new.items) }
+{
+    write_part(part, out)?;
+    write_bytes(sign, out)
 }
 
 /// What stands before the parts of a choreography; of a step, its text.
@@ -102,8 +107,8 @@ fn write_head(choreo: &Choreo, out: &mut Vec<u8>) -> Result<(), Memory>
             write_target(var, role, out)?;
             write_bytes(b"input ( )", out)
         }
-        Choreo::Seq(first, _) => write_opening(is_joined(first), out),
-        Choreo::Par(first, _) => write_opening(is_parallel(first), out),
+        Choreo::Seq(first, _) => write_bytes(opening(is_joined(first)), out),
+        Choreo::Par(first, _) => write_bytes(opening(is_parallel(first)), out),
         Choreo::If { leader, guard, .. } => write_guarded(b"if ", guard, leader, out),
         Choreo::While { leader, guard, .. } => write_guarded(b"while ", guard, leader, out),
         Choreo::Scope { leader, .. } => {
@@ -139,9 +144,7 @@ fn write_interaction(
         ++ codes " ( " ++ expression_text (expression expr.now) ++ receiver_text to.now var.now)) }
     ensures memory { OnErr result (KeepsFront out.old.items out.new.items) }
 {
-    write_bytes(op.bytes(), out)?;
-    write_bytes(b" : ", out)?;
-    write_bytes(from.0.bytes(), out)?;
+    write_three(op.bytes(), b" : ", from.0.bytes(), out)?;
     write_bytes(b" ( ", out)?;
     write_expression(expr, out)?;
     write_receiver(to, var, out)
@@ -151,9 +154,7 @@ fn write_receiver(to: &Role, var: &Name, out: &mut Vec<u8>) -> Result<(), Memory
     ensures ok { OnOk result (out.new.items ≡ out.old.items ++ receiver_text to.now var.now) }
     ensures memory { OnErr result (KeepsFront out.old.items out.new.items) }
 {
-    write_bytes(b" ) -> ", out)?;
-    write_bytes(to.0.bytes(), out)?;
-    write_bytes(b" ( ", out)?;
+    write_three(b" ) -> ", to.0.bytes(), b" ( ", out)?;
     write_bytes(var.bytes(), out)?;
     write_bytes(b" )", out)
 }
@@ -163,9 +164,7 @@ fn write_target(var: &Name, role: &Role, out: &mut Vec<u8>) -> Result<(), Memory
     ensures ok { OnOk result (out.new.items ≡ out.old.items ++ target_text var.now role.now) }
     ensures memory { OnErr result (KeepsFront out.old.items out.new.items) }
 {
-    write_bytes(var.bytes(), out)?;
-    write_bytes(b" @ ", out)?;
-    write_bytes(role.0.bytes(), out)?;
+    write_three(var.bytes(), b" @ ", role.0.bytes(), out)?;
     write_bytes(b" = ", out)
 }
 
@@ -174,9 +173,7 @@ fn write_leader(leader: &Role, out: &mut Vec<u8>) -> Result<(), Memory>
     ensures ok { OnOk result (out.new.items ≡ out.old.items ++ leader_text leader.now) }
     ensures memory { OnErr result (KeepsFront out.old.items out.new.items) }
 {
-    write_bytes(b" @ ", out)?;
-    write_bytes(leader.0.bytes(), out)?;
-    write_bytes(b" { ", out)
+    write_three(b" @ ", leader.0.bytes(), b" { ", out)
 }
 
 /// A word, a guard and a leader.
@@ -263,32 +260,22 @@ fn write_property(property: &(Name, Value), out: &mut Vec<u8>) -> Result<(), Mem
     ensures ok { OnOk result (out.new.items ≡ out.old.items ++ property_text property.now) }
     ensures memory { OnErr result (KeepsFront out.old.items out.new.items) }
 {
-    write_bytes(b"N . ", out)?;
-    write_bytes(property.0.bytes(), out)?;
-    write_bytes(b" = ", out)?;
+    write_three(b"N . ", property.0.bytes(), b" = ", out)?;
     write_value(&property.1, out)
 }
 
-fn write_opening(bracketed: bool, out: &mut Vec<u8>) -> Result<(), Memory>
-    ensures ok { OnOk result (out.new.items ≡ out.old.items ++ opening_text bracketed) }
-    ensures memory { OnErr result (KeepsFront out.old.items out.new.items) }
+/// The bracket before a part, where it has one.
+fn opening(bracketed: bool) -> &'static [u8]
+    ensures { result.now ≡ opening_text bracketed }
 {
-    if bracketed {
-        write_bytes(b"( ", out)
-    } else {
-        Ok(())
-    }
+    if bracketed { b"( " } else { b"" }
 }
 
-fn write_closing(bracketed: bool, out: &mut Vec<u8>) -> Result<(), Memory>
-    ensures ok { OnOk result (out.new.items ≡ out.old.items ++ closing_text bracketed) }
-    ensures memory { OnErr result (KeepsFront out.old.items out.new.items) }
+/// The bracket behind a part, where it has one.
+fn closing(bracketed: bool) -> &'static [u8]
+    ensures { result.now ≡ closing_text bracketed }
 {
-    if bracketed {
-        write_bytes(b" )", out)
-    } else {
-        Ok(())
-    }
+    if bracketed { b" )" } else { b"" }
 }
 
 /// What stands between two parts, with the brackets beside it.
@@ -296,9 +283,18 @@ fn write_between(left: bool, sign: &[u8], right: bool, out: &mut Vec<u8>) -> Res
     ensures ok { OnOk result (out.new.items ≡ out.old.items ++ between_text left sign.now right) }
     ensures memory { OnErr result (KeepsFront out.old.items out.new.items) }
 {
-    write_closing(left, out)?;
-    write_bytes(sign, out)?;
-    write_opening(right, out)
+    write_three(closing(left), sign, opening(right), out)
+}
+
+/// Three texts in a row.
+fn write_three(first: &[u8], second: &[u8], third: &[u8], out: &mut Vec<u8>) -> Result<(), Memory>
+    ensures ok { OnOk result (out.new.items ≡ out.old.items
+        ++ (first.now ++ second.now ++ third.now)) }
+    ensures memory { OnErr result (KeepsFront out.old.items out.new.items) }
+{
+    write_bytes(first, out)?;
+    write_bytes(second, out)?;
+    write_bytes(third, out)
 }
 
 fn write_expression(expr: &Expr, out: &mut Vec<u8>) -> Result<(), Memory>

@@ -1,0 +1,10 @@
+use Rattle.std.proofs.Common.{arith}
+use Rattle.std.proofs.lemmas.Grind.{common_steps}
+use Rattle.text_pieces.proofs.KeptFronts.{front_of_front}
+use Rattle.dioc_syntax.proofs.writer.write_next_roles.Goals as goal
+
+pub loop-next-preserved : goal.loop-next-preserved
+loop-next-preserved c = grind (arith, common_steps)
+
+pub returns-in_err-write_next_role-clause-memory : goal.returns-in_err-write_next_role-clause-memory
+returns-in_err-write_next_role-clause-memory c = grind (arith, front_of_front)
