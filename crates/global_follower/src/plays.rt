@@ -56,8 +56,7 @@ pub(crate) fn play<'a>(
     ensures same { OnErr result (running left.new ≡ running left.old) }
 {
     if plays_itself(left) {
-        let played = play_whole(alloc, left, rules, scene)?;
-        return Ok(replace(left, played));
+        return play_here(alloc, left, rules, scene);
     }
     match left {
         Running::Seq(first, _) => {
@@ -86,6 +85,23 @@ pub(crate) fn play<'a>(
         Running::Again(_, inside) => play(alloc, inside, rules, scene),
         _ => unreachable!(),
     }
+}
+
+/// Plays the entry where what is left plays it itself, as `play` does.
+fn play_here<'a>(
+    alloc: Global,
+    left: &mut Running<'a>,
+    rules: RuleList<'a>,
+    scene: &Scene<'_>,
+) -> Result<Option<Effect>, Memory>
+    requires { plays_itself left.old ≡ true }
+    ensures played { IfOk result (λ effect. attempt_with effect (running left.new)
+        ≡ plays_in (rules_of rules.entry) scene.now (running left.old)) }
+    ensures stays { IfOk result (λ effect. effect ≡ None → running left.new ≡ running left.old) }
+    ensures same { OnErr result (running left.new ≡ running left.old) }
+{
+    let played = play_whole(alloc, left, rules, scene)?;
+    Ok(replace(left, played))
 }
 
 /// Whether the entry may be played after this part: nothing is left of it but messages in flight,
