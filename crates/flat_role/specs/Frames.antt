@@ -25,6 +25,11 @@ frame_process done (frame.Par' left_over _ F right_over _ G) =
     Par (marked_over left_over (frame_process done F))
     (marked_over right_over (frame_process done G))
 
+-- the second part of a sequence
+abbrev pub second_of : Frame → Frame
+second_of (frame.Seq' first_over _ F _ G) = G
+second_of F = F
+
 -- each place in the frame is one of the first n of the code
 abbrev pub is_placed : ℕ → Frame → Bool
 is_placed n (frame.At p) = nat_lt p n

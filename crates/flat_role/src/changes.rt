@@ -6,7 +6,7 @@ ghost use Rattle.dioc_terms.specs.Processes.{Process, Tell, Gather, letters};
 ghost use Rattle.dpoc_process.specs.Acting.{acting};
 ghost use Rattle.dpoc_process.specs.Changes.{changed, replaced, rest_of};
 ghost use Rattle.flat_code.specs.Places.{processes};
-ghost use Rattle.flat_role.specs.Frames.{frame_process, is_open, is_placed, marked_over};
+ghost use Rattle.flat_role.specs.Frames.{frame_process, is_open, is_placed, second_of};
 ghost use Rattle.flat_role.specs.Growths.{is_change_placed, part_change};
 
 use crate::frames::{Frame, gathering, is_ended, put, telling};
@@ -42,18 +42,16 @@ pub(crate) fn replace(me: &Role, act: &Act, code: &Code, frame: &mut Frame, by: 
         Frame::Seq(first_over, first, second) => {
             if *first_over || is_ended(code, first) {
                 replace(me, act, code, second, by);
-                let rest = mem::replace(&mut **second, Frame::Ended);
-                put(frame, rest);
+                keep_second(frame);
                 return;
             }
             replace(me, act, code, first, by);
             if is_ended(code, first) {
-                let rest = mem::replace(&mut **second, Frame::Ended);
-                put(frame, rest);
+                keep_second(frame);
             }
         }
         Frame::Par(left_over, left, right_over, right) => {
-            if acts_in(me, act, code, *left_over, left) {
+            if can_act(me, act, code, *left_over, left) {
                 replace(me, act, code, left, by);
                 *left_over = is_ended(code, left);
                 return;
@@ -65,14 +63,17 @@ pub(crate) fn replace(me: &Role, act: &Act, code: &Code, frame: &mut Frame, by: 
     }
 }
 
-/// Whether a part of a parallel does the act. It doesn't look into a part that is over.
-#[tactic(auto, using(crate::proofs::FrameLemmas::acting_marked))]
-fn acts_in(me: &Role, act: &Act, code: &Code, over: bool, part: &Frame) -> bool
-    requires { is_placed (length code.now.ops.items) part.now ≡ true }
-    ensures { result ≡ is_some (acting me.now act.now
-        (marked_over over (frame_process (processes code.now.ops.items) part.now))) }
+/// Puts the second part of a sequence in its place; the first is let go.
+fn keep_second(frame: &mut Frame)
+    ensures { frame.new ≡ second_of frame.old }
 {
-    !over && can_act(me, act, code, part)
+    match frame {
+        Frame::Seq(_, _, second) => {
+            let rest = mem::replace(&mut **second, Frame::Ended);
+            put(frame, rest);
+        }
+        _ => (),
+    }
 }
 
 /// Changes a part that is neither a sequence nor a parallel.

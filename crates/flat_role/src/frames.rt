@@ -15,7 +15,7 @@ use std::mem;
 
 /// What is still to be done, over code that stays as it is. A leaf is a place of the code, what is
 /// left of a tell or of a gather, or a part that has come and isn't linked to the code yet.
-#[derive(Debug, Drop)]
+#[derive(Drop)]
 pub(crate) enum Frame {
     /// Nothing.
     Ended,
@@ -136,10 +136,24 @@ pub(crate) fn in_order(
         ≡ (if first_over || ended (frame_process done first) then is_open done second
         else is_open done first)) }
 {
-    let first = match new_box(alloc, first) {
-        Ok(first) => first,
-        Err(fault) => return give_up(second, fault),
-    };
-    let second = new_box(alloc, second)?;
+    let (first, second) = boxed(alloc, first, second)?;
     Ok(Frame::Seq(first_over, first, second))
+}
+
+/// Boxes with these two frames.
+pub(crate) fn boxed(
+    alloc: Global,
+    first: Frame,
+    second: Frame,
+) -> Result<(Box<Frame>, Box<Frame>), Memory>
+    ensures first { IfOk result (λ made. made.0.value ≡ first) }
+    ensures second { IfOk result (λ made. made.1.value ≡ second) }
+{
+    match new_box(alloc, first) {
+        Ok(first) => match new_box(alloc, second) {
+            Ok(second) => Ok((first, second)),
+            Err(fault) => give_up(first, fault),
+        },
+        Err(fault) => give_up(second, fault),
+    }
 }

@@ -8,19 +8,19 @@ ghost use Rattle.dpoc_process.specs.Handed.{handed};
 ghost use Rattle.flat_code.specs.Places.{at, processes};
 ghost use Rattle.flat_role.specs.Frames.{frame_process, is_placed};
 ghost use Rattle.flat_role.specs.declared.growth.Growth.TheVariants as growths;
-ghost use Rattle.flat_role.specs.Growths.{Grows, IsFollowing, IsInside, IsLeading, flat_grown, is_change_placed, is_growth_placed, part_change, part_process, picked};
+ghost use Rattle.flat_role.specs.Growths.{Grows, IsFollowing, IsInside, IsLeading, flat_grown, grown_part, grown_scope, is_change_placed, is_growth_placed, part_change, part_process, picked};
 ghost use Rattle.process_steps.specs.Steps.{after, gather, key, send_one, tell};
 
 use crate::changes::Change;
-use crate::frames::{Frame, gathering, in_order, joined, put, telling, then};
+use crate::frames::{Frame, boxed, gathering, in_order, joined, put, telling, then};
 use crate::offered::Part;
-use dioc_terms::{Index, Memory, Messages, Parts, Payload, Role, Tag, Value, give_up, new_box};
+use dioc_terms::{Index, Memory, Parts, Payload, Role, Tag, Value, give_up};
 use dpoc_process::Got;
 use dpoc_process::growth::is_true;
-use dpoc_process::makers::{keys_from, letters_to, more};
-use dpoc_process::offered::key_of;
+use dpoc_process::makers::{keys_from, letters_to};
 use flat_code::{Code, Op};
 use std::alloc::Global;
+use std::slice;
 
 /// A change, or what is known of it before it is known what comes with the act.
 #[derive(Drop)]
@@ -284,20 +284,10 @@ fn followed_turn(
         (at (processes code.now.ops.items) place))) }
     ensures placed { IfOk result (λ frame. is_placed (length code.now.ops.items) frame ≡ true) }
 {
-    let end = sent(alloc, me, leader, index, Tag::Turn)?;
+    let others = slice::from_ref(leader);
+    let end = told(alloc, me, index, others, &Tag::Turn, Payload::Done)?;
     let last = in_order(alloc, false, end, Frame::At(place))?;
     joined(alloc, code, Frame::At(body), last)
-}
-
-/// Sends one message that carries nothing but its tag.
-fn sent(alloc: Global, me: &Role, to: &Role, index: Index, tag: Tag) -> Result<Frame, Memory>
-    ensures stands { IfOk result (λ frame. (done : List Process) → frame_process done frame
-        ≡ send_one (key me.now to.now index tag) Done) }
-    ensures placed { IfOk result (λ frame. (n : ℕ) → is_placed n frame ≡ true) }
-{
-    let key = key_of(alloc, me, to, index, tag)?;
-    let messages = more(alloc, key, Payload::Done, Messages::Nothing)?;
-    Ok(Frame::Telling(messages))
 }
 
 /// The begin of a scope: what is told where it keeps its body, and what follows the body.
@@ -327,20 +317,17 @@ fn led_entrance(alloc: Global, first: Frame, body: usize, last: Frame) -> Result
         → is_placed n last ≡ true → IfOk result (IsLeading done n (frame_process done first)
         (at done body) (frame_process done last)) }
 {
-    let first = match new_box(alloc, first) {
-        Ok(first) => first,
-        Err(fault) => return give_up(last, fault),
-    };
-    let last = new_box(alloc, last)?;
-    let own = new_box(alloc, Frame::Ended)?;
-    let inner = new_box(alloc, Frame::Ended)?;
-    Ok(Growth::Leading(Lead {
-        first,
-        body,
-        last,
-        own,
-        inner,
-    }))
+    let (first, last) = boxed(alloc, first, last)?;
+    match boxed(alloc, Frame::Ended, Frame::Ended) {
+        Ok((own, inner)) => Ok(Growth::Leading(Lead {
+            first,
+            body,
+            last,
+            own,
+            inner,
+        })),
+        Err(fault) => give_up((first, last), fault),
+    }
 }
 
 /// What the leader of a scope does after its part: it takes the ends of the others, and tells them
@@ -375,8 +362,7 @@ fn followed_scope(
         (at done body) (follower_end me.now leader.now index)) }
 {
     let last = follower_end(alloc, me, leader, index)?;
-    let last = new_box(alloc, last)?;
-    let own = new_box(alloc, Frame::Ended)?;
+    let (last, own) = boxed(alloc, last, Frame::Ended)?;
     Ok(Growth::Following(Follow { body, last, own }))
 }
 
@@ -386,22 +372,12 @@ fn follower_end(alloc: Global, me: &Role, leader: &Role, index: Index) -> Result
         ≡ follower_end me.now leader.now index) }
     ensures placed { IfOk result (λ frame. (n : ℕ) → is_placed n frame ≡ true) }
 {
-    let end = sent(alloc, me, leader, index, Tag::End)?;
-    match release(alloc, me, leader, index) {
+    let others = slice::from_ref(leader);
+    let end = told(alloc, me, index, others, &Tag::End, Payload::Done)?;
+    match gathered(alloc, me, index, others, &Tag::Out) {
         Ok(release) => in_order(alloc, false, end, release),
         Err(fault) => give_up(end, fault),
     }
-}
-
-/// Takes the release of a scope.
-fn release(alloc: Global, me: &Role, leader: &Role, index: Index) -> Result<Frame, Memory>
-    ensures stands { IfOk result (λ frame. (done : List Process) → frame_process done frame
-        ≡ Gather (key leader.now me.now index tags.Out ∷ [])) }
-    ensures placed { IfOk result (λ frame. (n : ℕ) → is_placed n frame ≡ true) }
-{
-    let mut keys = Vec::with_capacity(alloc, 1)?;
-    keys.push(key_of(alloc, leader, me, index, Tag::Out)?)?;
-    Ok(Frame::Gathering(keys))
 }
 
 /// The change, once it is known what comes with the act. It takes no memory.
@@ -462,17 +438,29 @@ fn led_by(code: &Code, lead: Lead, got: Got) -> Change
         own,
         inner,
     } = lead;
+    let (first, part) = led_parts(got, first, body);
+    let rest = then(code, filled(own, part), last);
+    Change::Becomes(then(code, first, filled(inner, rest)))
+}
+
+/// What is told first, and what stands in the scope's place: the leader's part of an update, with
+/// what tells the others, or else the body.
+#[tactic(auto, using(crate::proofs::FrameLemmas::at_placed))]
+fn led_parts(got: Got, first: Box<Frame>, body: usize) -> (Box<Frame>, Frame)
+    ensures stands { (done : List Process) (last : Process) →
+        after (frame_process done result.0.value) (after (frame_process done result.1) last)
+        ≡ grown_scope (frame_process done first.value) (at done body) last (handed got) }
+    ensures first { (n : ℕ) → is_placed n first.value ≡ true → is_placed n result.0.value ≡ true }
+    ensures part { (n : ℕ) → body < n → is_placed n result.1 ≡ true }
+{
     match got {
         Got::Parts(parts) => {
-            let Parts { own: part, tell } = parts;
-            let rest = then(code, filled(own, Frame::Arrived(part)), last);
-            let first = filled(first, telling(tell));
-            Change::Becomes(then(code, first, filled(inner, rest)))
+            let Parts { own, tell } = parts;
+            (filled(first, telling(tell)), Frame::Arrived(own))
         }
         other => {
             drop(other);
-            let rest = then(code, filled(own, Frame::At(body)), last);
-            Change::Becomes(then(code, first, filled(inner, rest)))
+            (first, Frame::At(body))
         }
     }
 }
@@ -485,13 +473,22 @@ fn followed_by(code: &Code, follow: Follow, got: Got) -> Change
     ensures placed { is_change_placed (length code.now.ops.items) result ≡ true }
 {
     let Follow { body, last, own } = follow;
+    let part = followed_part(got, body);
+    Change::Becomes(then(code, filled(own, part), last))
+}
+
+/// What stands in the scope's place: the part of an update that came, or else the body.
+#[tactic(auto, using(crate::proofs::FrameLemmas::at_placed))]
+fn followed_part(got: Got, body: usize) -> Frame
+    ensures stands { (done : List Process) (last : Process) →
+        after (frame_process done result) last ≡ grown_part (at done body) last (handed got) }
+    ensures placed { (n : ℕ) → body < n → is_placed n result ≡ true }
+{
     match got {
-        Got::Payload(Payload::Part { proc, .. }) => {
-            Change::Becomes(then(code, filled(own, Frame::Arrived(proc)), last))
-        }
+        Got::Payload(Payload::Part { proc, .. }) => Frame::Arrived(proc),
         other => {
             drop(other);
-            Change::Becomes(then(code, filled(own, Frame::At(body)), last))
+            Frame::At(body)
         }
     }
 }

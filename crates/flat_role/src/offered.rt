@@ -4,7 +4,7 @@ ghost use Rattle.std.specs.Prelude.{◌≡◌, ◌<◌, ◌++◌, true, IfSome, 
 ghost use Rattle.std.specs.Option.{is_some, option_to_list};
 ghost use Rattle.dpoc_process.specs.Acting.{acting};
 ghost use Rattle.flat_code.specs.Places.{at, processes};
-ghost use Rattle.flat_role.specs.Frames.{frame_process, is_open, is_placed};
+ghost use Rattle.flat_role.specs.Frames.{frame_process, is_open, is_placed, marked_over};
 ghost use Rattle.flat_role.specs.Growths.{IsInside, part_process};
 ghost use Rattle.process_steps.specs.Steps.{offers};
 
@@ -79,13 +79,16 @@ fn add_act(offer: Option<Act>, acts: &mut Vec<Act>) -> Result<(), Memory>
     Ok(())
 }
 
-/// Whether a frame offers the act.
+/// Whether a frame offers the act. It doesn't look into what is over.
 #[tactic(auto, using(crate::proofs::FrameLemmas::placed_at, crate::proofs::FrameLemmas::acting_marked))]
-pub(crate) fn can_act(me: &Role, act: &Act, code: &Code, frame: &Frame) -> bool
+pub(crate) fn can_act(me: &Role, act: &Act, code: &Code, over: bool, frame: &Frame) -> bool
     requires { is_placed (length code.now.ops.items) frame.now ≡ true }
     ensures { result ≡ is_some (acting me.now act.now
-        (frame_process (processes code.now.ops.items) frame.now)) }
+        (marked_over over (frame_process (processes code.now.ops.items) frame.now))) }
 {
+    if over {
+        return false;
+    }
     match frame {
         Frame::Ended => false,
         Frame::At(place) => find_at(me, act, code, *place).is_some(),
@@ -94,13 +97,12 @@ pub(crate) fn can_act(me: &Role, act: &Act, code: &Code, frame: &Frame) -> bool
         Frame::Arrived(proc) => find_in(me, act, proc).is_some(),
         Frame::Seq(first_over, first, second) => {
             if *first_over || is_ended(code, first) {
-                return can_act(me, act, code, second);
+                return can_act(me, act, code, false, second);
             }
-            can_act(me, act, code, first)
+            can_act(me, act, code, false, first)
         }
         Frame::Par(left_over, left, right_over, right) => {
-            (!*left_over && can_act(me, act, code, left))
-                || (!*right_over && can_act(me, act, code, right))
+            can_act(me, act, code, *left_over, left) || can_act(me, act, code, *right_over, right)
         }
     }
 }

@@ -1,14 +1,14 @@
 //! Linking the parts that have come, and opening what may act. Neither changes the process that
 //! the frames stand for.
 
-ghost use Rattle.std.specs.Prelude.{◌≡◌, ◌<◌, true, IfOk, OnOk, length};
+ghost use Rattle.std.specs.Prelude.{◌≡◌, ◌<◌, ◌||◌, true, IfOk, OnOk, length};
 ghost use Rattle.dioc_terms.specs.Processes.{Par};
 ghost use Rattle.flat_code.specs.Places.{Extends, at, processes};
 ghost use Rattle.flat_role.specs.Frames.{frame_process, is_linked, is_open, is_placed};
 
-use crate::frames::{Frame, in_order, is_ended, put};
+use crate::frames::{Frame, boxed, in_order, is_ended, put};
 use crate::places::is_ended_at;
-use dioc_terms::{Memory, give_up, new_box};
+use dioc_terms::{Memory, give_up};
 use flat_code::{Code, Op, link};
 use std::alloc::Global;
 
@@ -22,20 +22,24 @@ pub(crate) fn settle(alloc: Global, code: &mut Code, frame: &mut Frame) -> Resul
     ensures placed { is_placed (length code.new.ops.items) frame.new ≡ true }
     ensures opened { OnOk result (is_open (processes code.new.ops.items) frame.new ≡ true) }
 {
-    link_parts(alloc, code, frame)?;
-    open_live(alloc, code, frame)
+    link_parts(alloc, code, false, frame)?;
+    open_live(alloc, code, false, frame)
 }
 
-/// Appends each part that has come to the code. After an error parts may be left that are not.
+/// Appends each part that has come to the code, where the frame isn't over. After an error parts may
+/// be left that are not.
 #[tactic(auto, using(crate::proofs::FrameLemmas::linked_at, crate::proofs::FrameLemmas::placed_longer, crate::proofs::FrameLemmas::keeps_frame, crate::proofs::FrameLemmas::longer_itself, crate::proofs::FrameLemmas::longer_through))]
-fn link_parts(alloc: Global, code: &mut Code, frame: &mut Frame) -> Result<(), Memory>
+fn link_parts(alloc: Global, code: &mut Code, over: bool, frame: &mut Frame) -> Result<(), Memory>
     requires { is_placed (length code.old.ops.items) frame.old ≡ true }
     ensures extends { Extends code.old.ops.items code.new.ops.items }
     ensures same { frame_process (processes code.new.ops.items) frame.new
         ≡ frame_process (processes code.old.ops.items) frame.old }
     ensures placed { is_placed (length code.new.ops.items) frame.new ≡ true }
-    ensures linked { OnOk result (is_linked frame.new ≡ true) }
+    ensures linked { OnOk result ((over || is_linked frame.new) ≡ true) }
 {
+    if over {
+        return Ok(());
+    }
     match frame {
         Frame::Arrived(proc) => {
             let place = link(alloc, code, proc)?;
@@ -43,39 +47,32 @@ fn link_parts(alloc: Global, code: &mut Code, frame: &mut Frame) -> Result<(), M
             Ok(())
         }
         Frame::Seq(first_over, first, second) => {
-            if *first_over {
-                return link_parts(alloc, code, second);
-            }
-            link_parts(alloc, code, first)?;
-            link_parts(alloc, code, second)
+            link_parts(alloc, code, *first_over, first)?;
+            link_parts(alloc, code, false, second)
         }
         Frame::Par(left_over, left, right_over, right) => {
-            if *left_over {
-                if *right_over {
-                    return Ok(());
-                }
-                return link_parts(alloc, code, right);
-            }
-            link_parts(alloc, code, left)?;
-            if *right_over {
-                return Ok(());
-            }
-            link_parts(alloc, code, right)
+            link_parts(alloc, code, *left_over, left)?;
+            link_parts(alloc, code, *right_over, right)
         }
         _ => Ok(()),
     }
 }
 
-/// Opens the sequences, parallels, tells and gathers of the code that may act, as frames.
+/// Opens the sequences, parallels, tells and gathers of the code that may act, as frames, where the
+/// frame isn't over.
 #[tactic(auto, using(crate::proofs::FrameLemmas::placed_at))]
-fn open_live(alloc: Global, code: &Code, frame: &mut Frame) -> Result<(), Memory>
+fn open_live(alloc: Global, code: &Code, over: bool, frame: &mut Frame) -> Result<(), Memory>
     requires placed { is_placed (length code.now.ops.items) frame.old ≡ true }
-    requires linked { is_linked frame.old ≡ true }
+    requires linked { (over || is_linked frame.old) ≡ true }
     ensures same { frame_process (processes code.now.ops.items) frame.new
         ≡ frame_process (processes code.now.ops.items) frame.old }
     ensures placed { is_placed (length code.now.ops.items) frame.new ≡ true }
-    ensures opened { OnOk result (is_open (processes code.now.ops.items) frame.new ≡ true) }
+    ensures opened { OnOk result
+        ((over || is_open (processes code.now.ops.items) frame.new) ≡ true) }
 {
+    if over {
+        return Ok(());
+    }
     match frame {
         Frame::At(place) => {
             let opened = opened_at(alloc, code, *place)?;
@@ -85,22 +82,13 @@ fn open_live(alloc: Global, code: &Code, frame: &mut Frame) -> Result<(), Memory
         Frame::Arrived(_) => unreachable!(),
         Frame::Seq(first_over, first, second) => {
             if *first_over || is_ended(code, first) {
-                return open_live(alloc, code, second);
+                return open_live(alloc, code, false, second);
             }
-            open_live(alloc, code, first)
+            open_live(alloc, code, false, first)
         }
         Frame::Par(left_over, left, right_over, right) => {
-            if *left_over {
-                if *right_over {
-                    return Ok(());
-                }
-                return open_live(alloc, code, right);
-            }
-            open_live(alloc, code, left)?;
-            if *right_over {
-                return Ok(());
-            }
-            open_live(alloc, code, right)
+            open_live(alloc, code, *left_over, left)?;
+            open_live(alloc, code, *right_over, right)
         }
         _ => Ok(()),
     }
@@ -152,11 +140,6 @@ fn side_by_side(alloc: Global, code: &Code, left: Frame, right: Frame) -> Result
 {
     let left_over = is_ended(code, &left);
     let right_over = is_ended(code, &right);
-    match new_box(alloc, left) {
-        Ok(left) => {
-            let right = new_box(alloc, right)?;
-            Ok(Frame::Par(left_over, left, right_over, right))
-        }
-        Err(fault) => give_up(right, fault),
-    }
+    let (left, right) = boxed(alloc, left, right)?;
+    Ok(Frame::Par(left_over, left, right_over, right))
 }

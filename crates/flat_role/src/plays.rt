@@ -33,6 +33,7 @@ pub fn play<R: Runs>(
         Some((act, got)) => match make_ready(alloc, role, &act, entries) {
             Ok(()) => {
                 role.advance(&act, got);
+                drop(act);
                 play(alloc, role, acts, entries)
             }
             Err(fault) => give_up(((act, got), acts), fault),

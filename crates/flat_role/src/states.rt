@@ -70,7 +70,7 @@ impl Runs for FlatRole {
 
     fn prepare(&mut self, alloc: Global, act: &Act) -> Result<Prepared, PrepareFault> {
         clear(&mut self.ready);
-        if !can_act(&self.role, act, &self.code, &self.frame) {
+        if !can_act(&self.role, act, &self.code, false, &self.frame) {
             return Err(PrepareFault::NoAct);
         }
         settle(alloc, &mut self.code, &mut self.frame)?;

@@ -6,16 +6,16 @@ use Rattle.flat_role.specs.declared.frames.Frame.{the_lemmas}
 use Rattle.flat_role.specs.Frames.{is_placed}
 use Rattle.flat_role.proofs.opening.+link_parts.Goals as goal
 
-pub link_parts-requires-in-Seq-2 : goal.link_parts-requires-in-Seq-2
-link_parts-requires-in-Seq-2 t c =
+pub link_parts-requires-in-Seq : goal.link_parts-requires-in-Seq
+link_parts-requires-in-Seq t c =
     let n = length c.args.code.now.ops.items in
     let both = rw c.in-Seq.is at c.requires in
-    let second = ap (is_placed n) c.deref_mut-in-Seq-2.ensures.value
+    let second = ap (is_placed n) c.deref_mut-in-Seq.ensures.value
     ∙ (and_parts (is_placed n c.in-Seq.first.value) (is_placed n c.in-Seq.second.value) both).1 in (
       search (rules, the_lemmas),
       placed_longer c.args.code.now.ops.items
-          c.link_parts-in-Seq.new.code.ops.items c.deref_mut-in-Seq-2.result.now
-          c.link_parts-in-Seq.ensures.extends second,
+          c.link_parts.new.code.ops.items c.deref_mut-in-Seq.result.now
+          c.link_parts.ensures.extends second,
     )
 
 pub link_parts-requires-in-Par-2 : goal.link_parts-requires-in-Par-2
