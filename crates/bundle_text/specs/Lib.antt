@@ -7,3 +7,4 @@ pub mod SessionReaders
 pub mod Writing
 pub mod Pieces
 pub mod Laws
+pub mod Appended

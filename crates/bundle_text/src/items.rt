@@ -1,9 +1,10 @@
 //! The items of sections, each up to the `}` behind them.
 
-ghost use Rattle.std.specs.Prelude.{◌≡◌, ◌≢◌, ◌≤◌, length, map, IfOk, IfErr};
+ghost use Rattle.std.specs.Prelude.{◌≡◌, ◌≢◌, ◌≤◌, length, map, None, IfOk, IfErr};
 ghost use Rattle.limits.specs.Limits.{greatest_place};
 ghost use Rattle.dioc_terms.specs.Plain.{plain_rule};
 ghost use Rattle.rule_syntax.specs.Grammar.{IsRule};
+ghost use Rattle.bundle_text.specs.Appended.{IsAppended};
 ghost use Rattle.bundle_text.specs.Grammar.{inside_limit, IsBound, IsInput, IsTimed};
 ghost use Rattle.bundle_text.specs.Readers.{plain_timed, TakesItems, ItemAt, TimedAt, ValuesAt};
 ghost use Rattle.bundle_text.specs.Stops.{place_in, EndsAmong};
@@ -32,6 +33,22 @@ const COMMA: Sort = Sort::Symbol(Punctuator::Comma);
 /// `r :`
 const INPUT: [Sort; 2] = [Sort::Name, Sort::Symbol(Punctuator::Colon)];
 
+/// Appends an item that was read. The answer is the place behind it. Where none was read, the text
+/// is not read on at the place where it was looked for.
+fn append<T: Drop>(found: Option<(T, usize)>, at: usize, items: &mut Vec<T>) -> Result<usize, Stop>
+    ensures found { IfOk result (λ next. IsAppended found items.old.items items.new.items next) }
+    ensures stopped { IfErr result (λ stop. stop ≢ Stop.Memory →
+        (found ≡ None) × (place_in stop ≡ at)) }
+{
+    match found {
+        Some((item, next)) => {
+            items.push(item)?;
+            Ok(next)
+        }
+        None => Err(Stop::At(at)),
+    }
+}
+
 /// Appends the rules that stand at a place of the text up to a `}`. The answer is the place behind
 /// that.
 ///
@@ -53,13 +70,8 @@ pub fn rules_at(
 {
     let mut next = at;
     while !text.has(next, CLOSING) {
-        match rule_at(alloc, text, version, INSIDE_LIMIT, next)? {
-            Some((rule, behind)) => {
-                rules.push(rule)?;
-                next = behind;
-            }
-            None => return Err(Stop::At(next)),
-        }
+        let found = rule_at(alloc, text, version, INSIDE_LIMIT, next)?;
+        next = append(found, next, rules)?;
     }
     Ok(next + 1)
 }
@@ -103,13 +115,8 @@ pub fn environment_at(
 {
     let mut next = at;
     while !text.has(next, CLOSING) {
-        match bound_at(alloc, text, next)? {
-            Some((bound, behind)) => {
-                env.push(bound)?;
-                next = behind;
-            }
-            None => return Err(Stop::At(next)),
-        }
+        let found = bound_at(alloc, text, next)?;
+        next = append(found, next, env)?;
     }
     Ok(next + 1)
 }
@@ -181,13 +188,8 @@ pub fn inputs_at(
 {
     let mut next = at;
     while !text.has(next, CLOSING) {
-        match input_at(alloc, text, next)? {
-            Some((input, behind)) => {
-                inputs.push(input)?;
-                next = behind;
-            }
-            None => return Err(Stop::At(next)),
-        }
+        let found = input_at(alloc, text, next)?;
+        next = append(found, next, inputs)?;
     }
     Ok(next + 1)
 }
@@ -236,13 +238,8 @@ pub fn script_at(
 {
     let mut next = at;
     while !text.has(next, CLOSING) {
-        match timed_at(alloc, text, version, next)? {
-            Some((timed, behind)) => {
-                script.push(timed)?;
-                next = behind;
-            }
-            None => return Err(Stop::At(next)),
-        }
+        let found = timed_at(alloc, text, version, next)?;
+        next = append(found, next, script)?;
     }
     Ok(next + 1)
 }

@@ -2,6 +2,7 @@ use Rattle.std.proofs.Common.{sym, subst, arith}
 use Rattle.bundle_text.specs.Grammar.{IsBound}
 use Rattle.bundle_text.specs.Readers.{ItemAt}
 use Rattle.bundle_text.proofs.Repeated.{SoFar, none_yet, one_further, all_taken, ends_among}
+use Rattle.std.proofs.lemmas.Result.{err_from_is_err_and}
 use Rattle.bundle_text.proofs.items.environment_at.Goals as goal
 
 pub loop-alloc-init : goal.loop-alloc-init
@@ -9,21 +10,28 @@ loop-alloc-init c = none_yet IsBound c.args.text.now c.args.at c.args.env.now.it
 
 pub loop-alloc-preserved : goal.loop-alloc-preserved
 loop-alloc-preserved c =
-    subst (λ list. SoFar IsBound c.args.text.now c.args.at c.args.env.now.items list c.in-Some.behind) (sym (c.in_ok-push-in-Some.ensures.items))
-    (one_further IsBound c.args.text.now c.args.at c.args.env.now.items c.loop-alloc.env.items (c.in-Some.bound) c.loop-alloc.next c.in-Some.behind c.loop-alloc.invariant
-    (subst (ItemAt IsBound c.args.text.now c.loop-alloc.next) c.in-Some.is c.in_ok-bound.ensures))
+    let put = c.in_ok-next.ensures.found in
+    subst (λ list. SoFar IsBound c.args.text.now c.args.at c.args.env.now.items list c.in_ok-next.next) (sym put.items)
+    (one_further IsBound c.args.text.now c.args.at c.args.env.now.items c.loop-alloc.env.items put.item c.loop-alloc.next c.in_ok-next.next c.loop-alloc.invariant
+    (subst (ItemAt IsBound c.args.text.now c.loop-alloc.next) put.was c.in_ok-found.ensures))
 
 pub loop-alloc-smaller : goal.loop-alloc-smaller
 loop-alloc-smaller c =
-    let found = subst (ItemAt IsBound c.args.text.now c.loop-alloc.next) c.in-Some.is c.in_ok-bound.ensures in
+    let put = c.in_ok-next.ensures.found in
+    let found = subst (ItemAt IsBound c.args.text.now c.loop-alloc.next) put.was c.in_ok-found.ensures in
     let after = found.after in
     let within = found.within in
     omega arith
 
-pub returns-in-None-clause-stopped : goal.returns-in-None-clause-stopped
-returns-in-None-clause-stopped c = λ other.
-    ends_among IsBound c.args.text.now c.args.at c.args.env.now.items c.loop-alloc.env.items c.loop-alloc.next c.loop-alloc.invariant
-    (subst (ItemAt IsBound c.args.text.now c.loop-alloc.next) c.in-None.is c.in_ok-bound.ensures) (λ is. let found = c.has.ensures.value.1 is in let missed = c.loop-alloc-test.true in cc)
+pub returns-in_err-next-clause-stopped : goal.returns-in_err-next-clause-stopped
+returns-in_err-next-clause-stopped c =
+    let p = err_from_is_err_and c.from_residual-in_err-next.result c.from_residual-in_err-next.ensures.1 in
+    rw (p.1, p.2)
+    (λ other.
+    let told = c.in_err-next.ensures.stopped other in
+    rw told.1
+    (ends_among IsBound c.args.text.now c.args.at c.args.env.now.items c.loop-alloc.env.items c.loop-alloc.next c.loop-alloc.invariant
+    (subst (ItemAt IsBound c.args.text.now c.loop-alloc.next) told.0 c.in_ok-found.ensures) (λ is. let found = c.has.ensures.value.1 is in let missed = c.loop-alloc-test.true in cc)))
 
 pub returns-clause-found : goal.returns-clause-found
 returns-clause-found c =

@@ -6,6 +6,7 @@ use Rattle.rule_syntax.specs.Grammar.{IsRule}
 use Rattle.bundle_text.specs.Grammar.{inside_limit}
 use Rattle.rule_syntax.specs.Readers.{RuleAt, rule_seen}
 use Rattle.bundle_text.proofs.Repeated.{SoFar, none_yet, one_further, all_taken, ends_among}
+use Rattle.std.proofs.lemmas.Result.{err_from_is_err_and}
 use Rattle.bundle_text.proofs.items.rules_at.Goals as goal
 
 pub loop-alloc-init : goal.loop-alloc-init
@@ -13,21 +14,28 @@ loop-alloc-init c = none_yet (IsRule c.args.version inside_limit) c.args.text.no
 
 pub loop-alloc-preserved : goal.loop-alloc-preserved
 loop-alloc-preserved c =
-    subst (λ list. SoFar (IsRule c.args.version inside_limit) c.args.text.now c.args.at (map plain_rule c.args.rules.now.items) list c.in-Some.behind) (sym (ap (map plain_rule) c.in_ok-push-in-Some.ensures.items ∙ map-append plain_rule c.loop-alloc.rules.items (c.in-Some.rule ∷ [])))
-    (one_further (IsRule c.args.version inside_limit) c.args.text.now c.args.at (map plain_rule c.args.rules.now.items) (map plain_rule c.loop-alloc.rules.items) (plain_rule c.in-Some.rule) c.loop-alloc.next c.in-Some.behind c.loop-alloc.invariant
-    (subst (λ found. RuleAt c.args.version inside_limit c.args.text.now c.loop-alloc.next (option_map rule_seen found)) c.in-Some.is c.in_ok-rule.ensures))
+    let put = c.in_ok-next.ensures.found in
+    subst (λ list. SoFar (IsRule c.args.version inside_limit) c.args.text.now c.args.at (map plain_rule c.args.rules.now.items) list c.in_ok-next.next) (sym (ap (map plain_rule) put.items ∙ map-append plain_rule c.loop-alloc.rules.items (put.item ∷ [])))
+    (one_further (IsRule c.args.version inside_limit) c.args.text.now c.args.at (map plain_rule c.args.rules.now.items) (map plain_rule c.loop-alloc.rules.items) (plain_rule put.item) c.loop-alloc.next c.in_ok-next.next c.loop-alloc.invariant
+    (subst (λ found. RuleAt c.args.version inside_limit c.args.text.now c.loop-alloc.next (option_map rule_seen found)) put.was c.in_ok-found.ensures))
 
 pub loop-alloc-smaller : goal.loop-alloc-smaller
 loop-alloc-smaller c =
-    let found = subst (λ found. RuleAt c.args.version inside_limit c.args.text.now c.loop-alloc.next (option_map rule_seen found)) c.in-Some.is c.in_ok-rule.ensures in
+    let put = c.in_ok-next.ensures.found in
+    let found = subst (λ found. RuleAt c.args.version inside_limit c.args.text.now c.loop-alloc.next (option_map rule_seen found)) put.was c.in_ok-found.ensures in
     let after = found.after in
     let within = found.within in
     omega arith
 
-pub returns-in-None-clause-stopped : goal.returns-in-None-clause-stopped
-returns-in-None-clause-stopped c = λ other.
-    ends_among (IsRule c.args.version inside_limit) c.args.text.now c.args.at (map plain_rule c.args.rules.now.items) (map plain_rule c.loop-alloc.rules.items) c.loop-alloc.next c.loop-alloc.invariant
-    (subst (λ found. RuleAt c.args.version inside_limit c.args.text.now c.loop-alloc.next (option_map rule_seen found)) c.in-None.is c.in_ok-rule.ensures) (λ is. let found = c.has.ensures.value.1 is in let missed = c.loop-alloc-test.true in cc)
+pub returns-in_err-next-clause-stopped : goal.returns-in_err-next-clause-stopped
+returns-in_err-next-clause-stopped c =
+    let p = err_from_is_err_and c.from_residual-in_err-next.result c.from_residual-in_err-next.ensures.1 in
+    rw (p.1, p.2)
+    (λ other.
+    let told = c.in_err-next.ensures.stopped other in
+    rw told.1
+    (ends_among (IsRule c.args.version inside_limit) c.args.text.now c.args.at (map plain_rule c.args.rules.now.items) (map plain_rule c.loop-alloc.rules.items) c.loop-alloc.next c.loop-alloc.invariant
+    (subst (λ found. RuleAt c.args.version inside_limit c.args.text.now c.loop-alloc.next (option_map rule_seen found)) told.0 c.in_ok-found.ensures) (λ is. let found = c.has.ensures.value.1 is in let missed = c.loop-alloc-test.true in cc)))
 
 pub returns-clause-found : goal.returns-clause-found
 returns-clause-found c =

@@ -1,0 +1,13 @@
+use Rattle.std.proofs.Common.{arith}
+use Rattle.std.proofs.lemmas.Grind.{common_steps}
+use Rattle.std.proofs.lemmas.Result.{err_from_is_err_and}
+use Rattle.text_pieces.proofs.KeptFronts.{front_after}
+use Rattle.bundle_text.proofs.writer.write_each_input.Goals as goal
+
+pub loop-input-preserved : goal.loop-input-preserved
+loop-input-preserved c = grind (arith, common_steps)
+
+pub returns-in_err-write_input-clause-memory : goal.returns-in_err-write_input-clause-memory
+returns-in_err-write_input-clause-memory c =
+    let p = err_from_is_err_and c.from_residual.result c.from_residual.ensures.1 in
+    rw p.1 (front_after _ _ _ _ c.loop-input.invariant c.in_err-write_input.ensures.memory)

@@ -1,0 +1,13 @@
+use Rattle.std.proofs.Common.{arith}
+use Rattle.std.proofs.lemmas.Grind.{common_steps}
+use Rattle.std.proofs.lemmas.Result.{err_from_is_err_and}
+use Rattle.text_pieces.proofs.KeptFronts.{front_after}
+use Rattle.bundle_text.proofs.writer.write_entries.Goals as goal
+
+pub loop-entry-preserved : goal.loop-entry-preserved
+loop-entry-preserved c = grind (arith, common_steps)
+
+pub returns-in_err-write_entry-clause-memory : goal.returns-in_err-write_entry-clause-memory
+returns-in_err-write_entry-clause-memory c =
+    let p = err_from_is_err_and c.from_residual.result c.from_residual.ensures.1 in
+    rw p.1 (front_after _ _ _ _ c.loop-entry.invariant c.in_err-write_entry.ensures.memory)

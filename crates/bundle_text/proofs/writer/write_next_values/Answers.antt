@@ -1,0 +1,13 @@
+use Rattle.std.proofs.Common.{arith}
+use Rattle.std.proofs.lemmas.Grind.{common_steps}
+use Rattle.std.proofs.lemmas.Result.{err_from_is_err_and}
+use Rattle.text_pieces.proofs.KeptFronts.{front_after}
+use Rattle.bundle_text.proofs.writer.write_next_values.Goals as goal
+
+pub loop-next-preserved : goal.loop-next-preserved
+loop-next-preserved c = grind (arith, common_steps)
+
+pub returns-in_err-write_next_value-clause-memory : goal.returns-in_err-write_next_value-clause-memory
+returns-in_err-write_next_value-clause-memory c =
+    let p = err_from_is_err_and c.from_residual.result c.from_residual.ensures.1 in
+    rw p.1 (front_after _ _ _ _ c.loop-next.invariant c.in_err-write_next_value.ensures.memory)
