@@ -62,6 +62,10 @@ went_through u v w first then = record {
   met = then.met;
 }
 
+-- a seat that went on, and then looked on
+pub went_looked : (u v w : View Entry Base) → WentOn u v → LookedOn v w → WentOn u w
+went_looked u v w went looked = went_through u v w went (looked_went v w looked)
+
 pub went_nowhere : (v : View Entry Base) → HasMet v → WentOn v v
 went_nowhere v met = record { base = refl; number_is = refl; made = refl; met = met }
 
@@ -255,4 +259,10 @@ pub refused_not_behind : {t : Tried} {f : CommitFault} → t ≡ tried.Refused f
 refused_not_behind is behind = apart (sym is ∙ behind)
   where
     apart : {f : CommitFault} → tried.Refused f ≡ tried.Behind → ⊥
+    apart e = cc
+
+pub done_not_behind : {t : Tried} → t ≡ tried.Done → t ≡ tried.Behind → ⊥
+done_not_behind is behind = apart (sym is ∙ behind)
+  where
+    apart : tried.Done ≡ tried.Behind → ⊥
     apart e = cc
