@@ -19,7 +19,7 @@ use std::alloc::Global;
 
 /// The rules of the book's start with those that a script adds behind them, and the script with
 /// their numbers.
-#[derive(Debug, Drop)]
+#[derive(Drop)]
 struct ScriptWithRules {
     rules: Vec<Rule>,
     script: Vec<Timed>,

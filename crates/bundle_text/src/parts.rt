@@ -10,14 +10,14 @@ use std::alloc::Global;
 
 /// A change of a script as it is written, with the number of visible entries that must stand before
 /// it.
-#[derive(Debug, Drop)]
+#[derive(Drop)]
 pub struct ReadTimed {
     pub after: u64,
     pub change: ReadChange,
 }
 
 /// What the sections so far have, those of one kind joined in their order.
-#[derive(Debug, Drop)]
+#[derive(Drop)]
 pub struct Parts {
     pub choreo: Option<Choreo>,
     pub rules: Vec<Rule>,
