@@ -26,8 +26,8 @@ pub(crate) fn settle(alloc: Global, code: &mut Code, frame: &mut Frame) -> Resul
     open_live(alloc, code, false, frame)
 }
 
-/// Appends each part that has come to the code, where the frame isn't over. After an error parts may
-/// be left that are not.
+/// Appends each part that has come to the code, where the frame isn't over. After an error parts
+/// may be left that are not.
 #[tactic(auto, using(crate::proofs::FrameLemmas::linked_at, crate::proofs::FrameLemmas::placed_longer, crate::proofs::FrameLemmas::keeps_frame, crate::proofs::FrameLemmas::longer_itself, crate::proofs::FrameLemmas::longer_through))]
 fn link_parts(alloc: Global, code: &mut Code, over: bool, frame: &mut Frame) -> Result<(), Memory>
     requires { is_placed (length code.old.ops.items) frame.old ≡ true }
