@@ -32,6 +32,6 @@ returns-in_ok-line-in-Ok c =
     subst (λ (of : PlainBundle). (how ≡ finish.Ended) ↔ (network_ended of.cast (network_at of new.history) ≡ true)) owner ran.ended in
     let limit : (how ≡ finish.Limit) ↔ ((length new.history ≡ new.limit) × (network_ended b.cast (network_at b new.history) ≡ false)) =
     subst (λ (of : PlainBundle). (how ≡ finish.Limit) ↔ ((length new.history ≡ new.limit) × (network_ended of.cast (network_at of new.history) ≡ false))) owner ran.limit in
-    let written = c.in_ok-line.ensures ∙ (λ j. line_of_text (gen_line c.args.number c.args.size (c.requires.made j) new.history (network_at (owner j) new.history).updates)) in
+    let written = c.in_ok-line-in-Ok.ensures ∙ (λ j. line_of_text (gen_line c.args.number c.args.size (c.requires.made j) new.history (network_at (owner j) new.history).updates)) in
     gen_replied c.args.number c.args.size (subst IsAccepted c.requires.made c.requires.accepted) c.runs_are_sound.ensures new.history how
-    (record { end = c.end_of.result; text = c.in_ok-line.line }) same ended limit c.end_of.ensures written
+    (record { end = c.end_of.result; text = c.in_ok-line-in-Ok.field-0 }) same ended limit c.end_of.ensures written
