@@ -4,7 +4,7 @@ ghost use Rattle.std.specs.Prelude.{◌≡◌, ◌<◌, ◌++◌, [], ◌∷◌,
 ghost use Rattle.dioc_terms.specs.declared.entries.Entry.{Entry as OneEntry};
 ghost use Rattle.dioc_terms.specs.declared.names.Role.{Role as OneRole};
 ghost use Rattle.dioc_terms.specs.Equality.{role_eq};
-ghost use Rattle.dioc_terms.specs.Messages.{doer};
+ghost use Rattle.dioc_terms.specs.Messages.{act_of, doer};
 ghost use Rattle.dioc_terms.specs.Plain.{PlainBundle, plain};
 ghost use Rattle.marked_laws.specs.Laws.{IsSound};
 ghost use Rattle.dpoc_process.specs.KeptStates.{local_of};
@@ -19,7 +19,7 @@ use crate::others::believe;
 use crate::script::see_change;
 use crate::starting::opening_state;
 use crate::updates::Update;
-use dioc_terms::{Bundle, Entry, Memory, Role, give_up};
+use dioc_terms::{Act, Bundle, Entry, Memory, Role, give_up};
 use dpoc_process::RoleState;
 use role_mailbox::Mail;
 use rule_book::Book;
@@ -193,11 +193,29 @@ impl<'a> Monitor<'a> {
         ensures same { (b : PlainBundle) (r : OneRole) (entries : List OneEntry)
             → HasRead b r self.old entries → OnErr result (HasRead b r self.new entries) }
     {
+        match act_of(self.alloc, entry) {
+            Ok(act) => self.judge_act(entry, act),
+            Err(_) => Err(FeedFault::Memory),
+        }
+    }
+
+    /// Reads an entry of the role, which shows this act.
+    fn judge_act(&mut self, entry: &Entry, act: Act) -> Result<(), FeedFault>
+        requires read { (b : PlainBundle) × (r : OneRole) × (entries : List OneEntry)
+            × HasRead b r self.old entries × (length entries < 18446744073709551615) }
+        requires own { (q : OneRole) × (doer entry.now ≡ Some q)
+            × (role_eq q self.old.role.now ≡ true) }
+        requires act { act_of entry.now ≡ Some act }
+        ensures read { (b : PlainBundle) (r : OneRole) (entries : List OneEntry)
+            → HasRead b r self.old entries
+            → OnOk result (HasRead b r self.new (entries ++ entry.now ∷ [])) }
+        ensures deviates { (b : PlainBundle) (r : OneRole) (entries : List OneEntry)
+            → HasRead b r self.old entries → IfErr result (Deviated b r entries entry.now) }
+        ensures same { (b : PlainBundle) (r : OneRole) (entries : List OneEntry)
+            → HasRead b r self.old entries → OnErr result (HasRead b r self.new entries) }
+    {
         scope_leader::leaders_tell();
         marked_laws::mail_is_a_map();
-        let Ok(act) = act_of(self.alloc, entry) else {
-            return Err(FeedFault::Memory);
-        };
         match judge(
             self.alloc,
             self.bundle,

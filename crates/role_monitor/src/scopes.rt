@@ -21,7 +21,7 @@ ghost use Rattle.rule_book.specs.KeptBooks.{book_of, IsBookOf};
 ghost use Rattle.scope_leader.specs.Plans.{part_of};
 
 use crate::updates::Update;
-use dioc_terms::{Act, Bundle, Chosen, Entry, Memory, Name, Rule, ScopeHead};
+use dioc_terms::{Act, Bundle, Chosen, Entry, Memory, Name, Rule, ScopeHead, give_up};
 use dpoc_process::{Got, Prepared, Runs};
 use rule_book::Book;
 use scope_leader::plan_update;
@@ -65,14 +65,21 @@ pub(crate) fn judge_scope<R: Runs>(
     dioc_terms::mentions_are_roles();
     let head = prepared.into_head();
     match book.choose(&head, state.store()) {
-        None => Ok(keep(state, entry, act, head)),
+        None => {
+            let kept = keep(state, entry, act, &head);
+            drop(head);
+            Ok(kept)
+        }
         Some(number) => {
             let rule = rule_at(bundle, number);
             match replace(
-                alloc, bundle, updates, state, entry, act, head, rule, number,
+                alloc, bundle, updates, state, entry, act, &head, rule, number,
             ) {
-                Ok(kept) => Ok(kept),
-                Err(fault) => Err(fault),
+                Ok(kept) => {
+                    drop(head);
+                    Ok(kept)
+                }
+                Err(fault) => give_up(head, fault),
             }
         }
     }
@@ -87,19 +94,18 @@ fn rule_at(bundle: &Bundle, number: u32) -> &Rule
 }
 
 /// The scope keeps its body, where the entry shows so.
-fn keep<R: Runs>(state: &mut R, entry: &Entry, act: &Act, head: ScopeHead) -> bool
+fn keep<R: Runs>(state: &mut R, entry: &Entry, act: &Act, head: &ScopeHead) -> bool
     requires ready { R.is_ready state.old act.now }
     requires can { IsEnabled (R.local state.old) act.now Kept }
     requires led { (lead : Lead) × (acting_lead (R.local state.old) act.now ≡ Some lead)
-        × (lead.head ≡ head) }
+        × (lead.head ≡ head.now) }
     ensures shows { result ≡ entry_eq entry.now
-        (entries.Scope head.index head.leader chosen.Keep) }
-    ensures steps { OnTrue result ((decide : OneHead → Decision) → decide head ≡ Keeps
+        (entries.Scope head.now.index head.now.leader chosen.Keep) }
+    ensures steps { OnTrue result ((decide : OneHead → Decision) → decide head.now ≡ Keeps
         → IsStep (R.local state.old) act.now (FromBook decide) (R.local state.new)) }
     ensures same { OnFalse result (R.local state.new ≡ R.local state.old) }
 {
-    let kept = is_keep(entry, &head);
-    drop(head);
+    let kept = is_keep(entry, head);
     if kept {
         state.advance(act, Got::Keep);
     }
@@ -130,30 +136,30 @@ fn replace<R: Runs>(
     state: &mut R,
     entry: &Entry,
     act: &Act,
-    head: ScopeHead,
+    head: &ScopeHead,
     rule: &Rule,
     number: u32,
 ) -> Result<bool, Memory>
     requires ready { R.is_ready state.old act.now }
     requires can { IsEnabled (R.local state.old) act.now Kept }
     requires led { (lead : Lead) × (acting_lead (R.local state.old) act.now ≡ Some lead)
-        × (lead.head ≡ head) }
+        × (lead.head ≡ head.now) }
     requires tells { Tells bundle.now.cast (R.local state.old) act.now }
-    requires level { head.level < 16 }
+    requires level { head.now.level < 16 }
     requires body { (q : OneRole) → is_in q (term rule.now.body) ≡ true
         → member q bundle.now.cast ≡ true }
     ensures shows { IfOk result (λ kept. kept ≡ entry_eq entry.now
-        (entries.Scope head.index head.leader
+        (entries.Scope head.now.index head.now.leader
         (chosen.Rule rule.now.name (suc (length updates.old.items))))) }
-    ensures steps { IfOk result (λ kept. OnTrue kept ((decide : OneHead → Decision) → decide head
-        ≡ Replaces rule.now.name (suc (length updates.old.items))
-        (part_of bundle.now.cast head (suc (length updates.old.items)) (term rule.now.body))
+    ensures steps { IfOk result (λ kept. OnTrue kept ((decide : OneHead → Decision)
+        → decide head.now ≡ Replaces rule.now.name (suc (length updates.old.items))
+        (part_of bundle.now.cast head.now (suc (length updates.old.items)) (term rule.now.body))
         → IsStep (R.local state.old) act.now (FromBook decide) (R.local state.new))) }
     ensures listed { IfOk result (λ kept. OnTrue kept
         (updates.new.items ≡ updates.old.items ++ record {
           epoch = suc (length updates.old.items);
           rule = number;
-          level = suc head.level;
+          level = suc head.now.level;
         } ∷ [])) }
     ensures same_local { IfOk result
         (λ kept. OnFalse kept (R.local state.new ≡ R.local state.old)) }
@@ -162,14 +168,12 @@ fn replace<R: Runs>(
     ensures local_stays { OnErr result (R.local state.new ≡ R.local state.old) }
     ensures updates_stay { OnErr result (updates.new.items ≡ updates.old.items) }
 {
-    let Some(epoch) = shown_epoch(entry, &head, &rule.name, updates.len()) else {
-        drop(head);
+    let Some(epoch) = shown_epoch(entry, head, &rule.name, updates.len()) else {
         return Ok(false);
     };
     updates.reserve(1)?;
-    let parts = plan_update(alloc, &head, bundle.cast.as_slice(), epoch, &rule.body)?;
+    let parts = plan_update(alloc, head, bundle.cast.as_slice(), epoch, &rule.body)?;
     let level = head.level + 1;
-    drop(head);
     state.advance(act, Got::Parts(parts));
     updates.push_reserved(Update {
         epoch,

@@ -23,12 +23,12 @@ into_head-head-requires g c =
     let lead = lead_there (g.R.Runs.local c.args.state.now) c.args.act.now c.requires.scope c.requires.shown.can_act in
     subst (λ (o : Option ScopeHead). IsSome o) (sym (c.requires.shown.head ∙ ap (option_map lead_head) lead.1)) refl
 
-pub keep-requires-clause-can : goal.keep-requires-clause-can
-keep-requires-clause-can g c =
+pub keep-kept-requires-clause-can : goal.keep-kept-requires-clause-can
+keep-kept-requires-clause-can g c =
     can_begin c.offers_are_steps.ensures (g.R.Runs.local c.args.state.now) c.args.act.now c.requires.scope c.requires.shown.can_act
 
-pub keep-requires-clause-led : goal.keep-requires-clause-led
-keep-requires-clause-led g c =
+pub keep-kept-requires-clause-led : goal.keep-kept-requires-clause-led
+keep-kept-requires-clause-led g c =
     let lead = lead_there (g.R.Runs.local c.args.state.now) c.args.act.now c.requires.scope c.requires.shown.can_act in
     (lead.0, lead.1, some_same (sym (c.requires.shown.head ∙ ap (option_map lead_head) lead.1) ∙ c.into_head-head.ensures))
 
@@ -74,8 +74,8 @@ returns-in-None-clause-kept g c =
     let heads = some_same (sym (c.requires.shown.head ∙ ap (option_map lead_head) lead.1) ∙ c.into_head-head.ensures) in
     let picked : choose b.rules book head s.store ≡ None = ap (choose b.rules book head) (sym c.store.ensures) ∙ sym (c.choose.ensures b.rules c.requires.book) ∙ c.in-None.is in
     let decided : decides (setting b) s book us head ≡ Keeps = ap (decision b.cast (length us) head) (sym (choice_none b.rules book head s.store picked)) in
-    keep_kept (setting b) s book us c.args.entry.now a c.requires.scope lead.0 lead.1 (c.requires.tells lead.0 lead.1).leads head heads decided c.keep.result c.keep.ensures.shows
-    (g.R.Runs.local c.keep.new.state) (on_true c.keep.result (λ steps. steps (decides (setting b) s book us) decided) c.keep.ensures.steps)
+    keep_kept (setting b) s book us c.args.entry.now a c.requires.scope lead.0 lead.1 (c.requires.tells lead.0 lead.1).leads head heads decided c.keep-kept.result c.keep-kept.ensures.shows
+    (g.R.Runs.local c.keep-kept.new.state) (on_true c.keep-kept.result (λ steps. steps (decides (setting b) s book us) decided) c.keep-kept.ensures.steps)
 
 pub returns-in-None-clause-refused : goal.returns-in-None-clause-refused
 returns-in-None-clause-refused g c =
@@ -89,7 +89,7 @@ returns-in-None-clause-refused g c =
     let heads = some_same (sym (c.requires.shown.head ∙ ap (option_map lead_head) lead.1) ∙ c.into_head-head.ensures) in
     let picked : choose b.rules book head s.store ≡ None = ap (choose b.rules book head) (sym c.store.ensures) ∙ sym (c.choose.ensures b.rules c.requires.book) ∙ c.in-None.is in
     let decided : decides (setting b) s book us head ≡ Keeps = ap (decision b.cast (length us) head) (sym (choice_none b.rules book head s.store picked)) in
-    keep_refused (setting b) s book us c.args.entry.now a c.requires.scope lead.0 lead.1 (c.requires.tells lead.0 lead.1).leads head heads decided c.keep.result c.keep.ensures.shows
+    keep_refused (setting b) s book us c.args.entry.now a c.requires.scope lead.0 lead.1 (c.requires.tells lead.0 lead.1).leads head heads decided c.keep-kept.result c.keep-kept.ensures.shows
 
 pub returns-in-Ok-clause-kept : goal.returns-in-Ok-clause-kept
 returns-in-Ok-clause-kept g c =
