@@ -60,8 +60,14 @@ pub fn resume<R: Begins>(
     match redo(alloc, &mut net, entries) {
         Ok(Redone::Whole) => Ok(net),
         Ok(Redone::Full) => Err(ResumeFault::Full(net)),
-        Ok(Redone::Stray(number)) => Err(ResumeFault::Stray(number)),
-        Err(Memory) => Err(ResumeFault::Memory),
+        Ok(Redone::Stray(number)) => {
+            drop(net);
+            Err(ResumeFault::Stray(number))
+        }
+        Err(Memory) => {
+            drop(net);
+            Err(ResumeFault::Memory)
+        }
     }
 }
 

@@ -1,9 +1,10 @@
 //! A visible trace driven: its entries, each with the auxiliary moves that it needs before it.
 
-ghost use Rattle.std.specs.Prelude.{◌≡◌, ◌≤◌, [], true, false, not, IfErr, IfOk, OnOk, Some, length, map};
+ghost use Rattle.std.specs.Prelude.{◌≡◌, ◌≤◌, [], true, false, not, IfErr, IfOk, None, OnOk, Some, length, map};
 ghost use Rattle.std.specs.List.{list_all};
 ghost use Rattle.dioc_terms.specs.Messages.{is_aux, visible};
 ghost use Rattle.dioc_terms.specs.Plain.{plain};
+ghost use Rattle.marked_laws.specs.Laws.{IsSound};
 ghost use Rattle.net_drive.specs.Driven.{driven};
 ghost use Rattle.net_drive.specs.Driving.{HasRoom, IsDriven, Reaches, Settles};
 ghost use Rattle.net_drive.specs.Making.{shown_move};
@@ -57,12 +58,35 @@ pub fn drive<R: Begins>(
     ensures counted { IfErr result (LostCounted (plain bundle.now) trace.now) }
 {
     accepted_is_sound();
-    drive_strays_are_exact();
     let Ok(mut net) = Net::start(alloc, bundle, u64::MAX) else {
         return Err(DriveFault::Memory);
     };
-    match drive_through(&mut net, trace) {
-        Ok(None) => Ok(net),
+    match drive_whole(&mut net, trace) {
+        Ok(()) => Ok(net),
+        Err(fault) => {
+            drop(net);
+            Err(fault)
+        }
+    }
+}
+
+// Drives a net through all entries of a trace, or says why it can't.
+fn drive_whole<R: Runs>(net: &mut Net<R>, trace: &[Entry]) -> Result<(), DriveFault>
+    requires sound { IsSound net.old.bundle }
+    requires fresh { net.old.history ≡ [] }
+    requires room { HasRoom net.old }
+    requires shown { list_all (λ e. not (is_aux e)) trace.now ≡ true }
+    requires few { length trace.now ≤ 1000000 }
+    ensures driven { OnOk result (IsDriven net.old trace.now net.new None) }
+    ensures run { OnOk result (IsSoundRun net.new) }
+    ensures bundle { OnOk result (net.new.bundle ≡ net.old.bundle) }
+    ensures limit { OnOk result (net.new.limit ≡ net.old.limit) }
+    ensures stray { IfErr result (LostAt net.old.bundle trace.now) }
+    ensures counted { IfErr result (LostCounted net.old.bundle trace.now) }
+{
+    drive_strays_are_exact();
+    match drive_through(net, trace) {
+        Ok(None) => Ok(()),
         Ok(Some(number)) => Err(DriveFault::Stray(number)),
         Err(Memory) => Err(DriveFault::Memory),
     }
