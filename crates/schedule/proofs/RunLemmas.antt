@@ -1,6 +1,6 @@
 -- How a run by a schedule goes on from a net, and where it has finished.
-use Rattle.std.proofs.Common.{◌≡◌, ◌<◌, ◌≤◌, ◌+◌, ◌-◌, ◌↔◌, ℕ, zero, suc, List, [], ◌∷◌, ◌++◌, length, Bool, true, false, Option, Some, None, refl, sym, ap, ◌∙◌, subst, arith, append_assoc, length-append}
-use Rattle.std.specs.Prelude.{if◌then◌else◌, nat_le}
+use Rattle.std.proofs.Common.{◌≡◌, ◌<◌, ◌≤◌, ◌+◌, ◌-◌, ◌↔◌, ℕ, zero, suc, [], ◌∷◌, ◌++◌, length, Bool, true, false, Option, Some, None, refl, sym, ap, ◌∙◌, subst, arith, append_assoc, length-append}
+use Rattle.std.specs.Prelude.{if◌then◌else◌, nat_le, Result, Ok, Err, IfOk, OnOk}
 use Rattle.std.specs.Option.{option_map_or}
 use Rattle.std.proofs.lemmas.Bool.{both_ways, cond-false, cond-true, leb-false, leb-true}
 use Rattle.std.proofs.lemmas.List.{append-nil}
@@ -12,12 +12,8 @@ use Rattle.role_network.specs.Nets.{IsSoundRun, NetState, network_of}
 use Rattle.schedule.proofs.PromptLemmas.{prompt_turn}
 use Rattle.schedule.specs.declared.runs.Finish.{Finish}
 use Rattle.schedule.specs.declared.runs.Finish.TheVariants as finish
-use Rattle.schedule.specs.Runs.{IsOnTheWay, finish_at}
+use Rattle.schedule.specs.Runs.{Goes, HasGone, IsOnTheWay, finish_at, run_of}
 use Rattle.schedule.specs.Turns.{Advances, has_ended}
-
--- what the schedule takes from the net on
-abbrev pub run_of : NetState → Option ℕ → List Entry
-run_of net seed = continued (setting net.bundle) seed (net.limit - length net.history) (network_of net)
 
 -- the schedule of a net is its history and what the schedule takes from it on
 pub schedule_is : (net : NetState) (seed : Option ℕ) → IsSoundRun net → sched_from net.bundle net.history seed net.limit ≡ net.history ++ run_of net seed
@@ -83,17 +79,6 @@ has_finished net seed how run h = by_test (has_ended net) (nat_le net.limit (len
           limit = ((λ e. (same_count net.limit (length net.history) full run.within, goes)), (λ e. so));
         }
     by_test false false goes is k = cc
-
--- the entries made so far with the rest of the run make the run
-pub record Goes (old : NetState) (seed : Option ℕ) (new : NetState) (next : Option ℕ) : Type 0 where
-  pub made : List Entry
-  pub run : run_of old seed ≡ made ++ run_of new next
-  pub history : new.history ≡ old.history ++ made
-  pub bundle : new.bundle ≡ old.bundle
-  pub limit : new.limit ≡ old.limit
-  pub seedless : seed ≡ None → next ≡ None
-  pub prompt : seed ≡ None → IsPrompt old.bundle old.history → IsPrompt new.bundle new.history
-  pub began : IsSoundRun new → IsSoundRun old
 
 pub goes_here : (net : NetState) (seed : Option ℕ) → Goes net seed net seed
 goes_here net seed = record {
@@ -176,3 +161,21 @@ pub whole_run : (old new : NetState) (seed next : Option ℕ) (how : Finish) →
 whole_run old new seed next how far run is =
     sym (append-nil new.history) ∙ ap (λ r. new.history ++ r) (sym (has_finished new next how run is).over)
     ∙ sym (schedule_is new next run) ∙ same_schedule old new seed next far run
+
+-- ---- what a run leaves, by its answer
+
+module _ {E : Type 0} (new : NetState) (run : IsSoundRun new) where
+  pub left_whole : (old : NetState) (seed : Option ℕ) (answer : Result Finish E) → HasGone old seed new → IfOk answer (λ how. finish_at new ≡ Some how)
+      → OnOk answer (new.history ≡ sched_from old.bundle old.history seed old.limit)
+  left_whole old seed (Ok how) gone is = whole_run old new seed gone.next how gone.goes run is
+  left_whole old seed (Err fault) gone is = tt
+
+  pub left_ended : (answer : Result Finish E) → IfOk answer (λ how. finish_at new ≡ Some how)
+      → IfOk answer (λ how. (how ≡ finish.Ended) ↔ (has_ended new ≡ true))
+  left_ended (Ok how) is = (has_finished new None how run is).ended
+  left_ended (Err fault) is = tt
+
+  pub left_full : (answer : Result Finish E) → IfOk answer (λ how. finish_at new ≡ Some how)
+      → IfOk answer (λ how. (how ≡ finish.Limit) ↔ ((length new.history ≡ new.limit) × (has_ended new ≡ false)))
+  left_full (Ok how) is = (has_finished new None how run is).limit
+  left_full (Err fault) is = tt

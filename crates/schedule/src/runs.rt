@@ -1,17 +1,20 @@
 //! A run by a schedule, to its end or to its limit.
 
-ghost use Rattle.std.specs.Prelude.{◌≡◌, ◌≤◌, ◌↔◌, [], true, false, None, IfOk, OnErr, OnOk, length};
+ghost use Rattle.std.specs.Prelude.{◌≡◌, ◌≤◌, ◌<◌, ◌↔◌, [], true, false, None, Some, IfOk, OnErr, OnOk, length, map};
 ghost use Rattle.net_core.specs.Schedule.{IsPrompt, sched_from};
 ghost use Rattle.role_network.specs.Nets.{IsSoundRun};
-ghost use Rattle.schedule.specs.Runs.{IsOnTheWay, finish_at};
-ghost use Rattle.schedule.specs.Turns.{has_ended};
+ghost use Rattle.schedule.specs.Agendas.{IsStale, ready_seen};
+ghost use Rattle.schedule.specs.Runs.{HasGone, IsOnTheWay, finish_at};
+ghost use Rattle.schedule.specs.Turns.{Advances, has_ended};
 
-use crate::agenda::keep_up;
+use crate::agenda::{ReadyRole, keep_up};
 use crate::numbers::next_seed;
 use crate::turns::take_next;
 use dioc_terms::Memory;
 use dpoc_process::Runs;
+use net_core::Move;
 use role_network::Net;
+use std::mem;
 
 /// How a run finished: its network has ended, or its history is full.
 #[derive(Clone, Copy, Debug, PartialEq, Eq)]
@@ -42,17 +45,58 @@ pub fn run_seeded<R: Runs>(net: &mut Net<R>, seed: Option<u64>) -> Result<Finish
     ensures same_bundle { net.new.bundle ≡ net.old.bundle }
     ensures same_limit { net.new.limit ≡ net.old.limit }
 {
-    let mut numbers = seed;
     let mut made = None;
     let mut agenda = Vec::new(net.allocator());
+    let finish = take_turns(net, seed, &mut made, &mut agenda);
+    drop((made, agenda));
+    finish
+}
+
+/// Takes turns until the network has ended or its history is full, with the last move and the
+/// agenda from before it.
+fn take_turns<R: Runs>(
+    net: &mut Net<R>,
+    seed: Option<u64>,
+    made: &mut Option<Move>,
+    agenda: &mut Vec<ReadyRole>,
+) -> Result<Finish, Memory>
+    requires limit { net.old.limit ≤ 4294967295 }
+    requires stale { IsStale net.old made.old (map ready_seen agenda.old.items) }
+    ensures goes { HasGone net.old seed net.new }
+    ensures finish { IfOk result (λ finish. finish_at net.new ≡ Some finish) }
+    ensures run { IsSoundRun net.new }
+{
+    let mut numbers = seed;
     'turns: loop {
         if let Some(finish) = finish_of(net) {
             return Ok(finish);
         }
-        keep_up(net, &made, &mut agenda)?;
-        made = Some(take_next(net, agenda.as_slice(), numbers)?);
+        take_turn(net, numbers, made, agenda)?;
         numbers = next_seed(numbers);
     }
+}
+
+/// Takes one turn: brings the agenda up to date after the last move, and makes the next one. After
+/// a refusal the net is unchanged.
+fn take_turn<R: Runs>(
+    net: &mut Net<R>,
+    seed: Option<u64>,
+    made: &mut Option<Move>,
+    agenda: &mut Vec<ReadyRole>,
+) -> Result<(), Memory>
+    requires run { IsSoundRun net.old }
+    requires goes { has_ended net.old ≡ false }
+    requires room { length net.old.history < net.old.limit }
+    requires limit { net.old.limit ≤ 4294967295 }
+    requires stale { IsStale net.old made.old (map ready_seen agenda.old.items) }
+    ensures advanced { OnOk result (Advances net.old seed net.new) }
+    ensures stale { OnOk result (IsStale net.new made.new (map ready_seen agenda.new.items)) }
+    ensures err { OnErr result (net.new ≡ net.old) }
+{
+    keep_up(net, made, agenda)?;
+    let next = take_next(net, agenda.as_slice(), seed)?;
+    drop(mem::replace(made, Some(next)));
+    Ok(())
 }
 
 /// How a run has finished where the net stands, if it has.

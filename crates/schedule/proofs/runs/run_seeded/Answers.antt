@@ -1,47 +1,35 @@
 -- What a run leaves, by the entries that it has made and the rest of it.
-use Rattle.std.proofs.Common.{◌≡◌, List, Some, sym, ◌∙◌, subst}
-use Rattle.std.specs.Prelude.{map}
-use Rattle.role_network.specs.Nets.{IsSoundRun, NetState}
-use Rattle.schedule.proofs.RunLemmas.{Goes, goes_again, goes_more, has_finished, on_the_way, whole_run}
-use Rattle.schedule.specs.Agendas.{IsStale, ready_seen}
-use Rattle.schedule.specs.declared.agenda.ReadyRole.{ReadyRole}
+use Rattle.schedule.proofs.RunLemmas.{goes_again, left_ended, left_full, left_whole, on_the_way}
 use Rattle.schedule.proofs.runs.run_seeded.Goals as goal
 
-pub returns-in-Some-clause-history : goal.returns-in-Some-clause-history
-returns-in-Some-clause-history g c =
-    whole_run c.args.net.now c.turns.net c.args.seed c.turns.numbers c.in-Some.finish c.turns.invariant.goes c.finish_of.ensures.run
-    (sym c.finish_of.ensures.finish ∙ c.in-Some.is)
+pub returns-clause-history : goal.returns-clause-history
+returns-clause-history g c =
+    let ran = c.take_turns-finish in
+    left_whole ran.new.net ran.ensures.run c.args.net.now c.args.seed ran.result ran.ensures.goes ran.ensures.finish
 
-pub returns-in-Some-clause-limit : goal.returns-in-Some-clause-limit
-returns-in-Some-clause-limit g c =
-    (has_finished c.turns.net c.turns.numbers c.in-Some.finish c.finish_of.ensures.run (sym c.finish_of.ensures.finish ∙ c.in-Some.is)).limit
+pub returns-clause-ended : goal.returns-clause-ended
+returns-clause-ended g c =
+    let ran = c.take_turns-finish in left_ended ran.new.net ran.ensures.run ran.result ran.ensures.finish
 
-pub returns-in-Some-clause-way : goal.returns-in-Some-clause-way
-returns-in-Some-clause-way g c = on_the_way c.args.net.now c.turns.net c.args.seed c.turns.numbers c.turns.invariant.goes c.finish_of.ensures.run
+pub returns-clause-limit : goal.returns-clause-limit
+returns-clause-limit g c =
+    let ran = c.take_turns-finish in left_full ran.new.net ran.ensures.run ran.result ran.ensures.finish
 
-pub returns-in_err-keep_up-clause-way : goal.returns-in_err-keep_up-clause-way
-returns-in_err-keep_up-clause-way g c = on_the_way c.args.net.now c.turns.net c.args.seed c.turns.numbers c.turns.invariant.goes c.finish_of.ensures.run
+pub returns-clause-way : goal.returns-clause-way
+returns-clause-way g c =
+    let gone = c.take_turns-finish.ensures.goes in
+    on_the_way c.args.net.now c.take_turns-finish.new.net c.args.seed gone.next gone.goes c.take_turns-finish.ensures.run
 
-pub returns-in_err-keep_up-clause-again : goal.returns-in_err-keep_up-clause-again
-returns-in_err-keep_up-clause-again g c = goes_again c.args.net.now c.turns.net c.args.seed c.turns.numbers c.turns.invariant.goes c.finish_of.ensures.run
+pub returns-clause-again : goal.returns-clause-again
+returns-clause-again g c =
+    let gone = c.take_turns-finish.ensures.goes in
+    goes_again c.args.net.now c.take_turns-finish.new.net c.args.seed gone.next gone.goes c.take_turns-finish.ensures.run
 
-pub returns-in_err-take_next-clause-way : goal.returns-in_err-take_next-clause-way
-returns-in_err-take_next-clause-way g c =
-    let same : c.take_next.new.net ≡ c.turns.net = c.in_err-take_next.ensures.err in
-    on_the_way c.args.net.now c.take_next.new.net c.args.seed c.turns.numbers
-    (subst (λ (net : NetState). Goes c.args.net.now c.args.seed net c.turns.numbers) (sym same) c.turns.invariant.goes)
-    (subst IsSoundRun (sym same) c.finish_of.ensures.run)
+pub returns-clause-prompt : goal.returns-clause-prompt
+returns-clause-prompt g c = c.take_turns-finish.ensures.goes.goes.prompt
 
-pub returns-in_err-take_next-clause-again : goal.returns-in_err-take_next-clause-again
-returns-in_err-take_next-clause-again g c =
-    let same : c.take_next.new.net ≡ c.turns.net = c.in_err-take_next.ensures.err in
-    goes_again c.args.net.now c.take_next.new.net c.args.seed c.turns.numbers
-    (subst (λ (net : NetState). Goes c.args.net.now c.args.seed net c.turns.numbers) (sym same) c.turns.invariant.goes)
-    (subst IsSoundRun (sym same) c.finish_of.ensures.run)
+pub returns-clause-same_bundle : goal.returns-clause-same_bundle
+returns-clause-same_bundle g c = c.take_turns-finish.ensures.goes.goes.bundle
 
-pub turns-preserved : goal.turns-preserved
-turns-preserved g c = record {
-  goes = goes_more c.args.net.now c.turns.net c.take_next.new.net c.args.seed c.turns.numbers c.next_seed-numbers.result c.turns.invariant.goes
-      c.finish_of.ensures.run (sym c.finish_of.ensures.finish ∙ c.in_default.is) c.in_ok-take_next.ensures.advanced c.next_seed-numbers.ensures;
-  stale = subst (λ (listed : List ReadyRole). IsStale c.take_next.new.net (Some c.in_ok-take_next.field-0) (map ready_seen listed)) c.as_slice.ensures.value c.in_ok-take_next.ensures.stale;
-}
+pub returns-clause-same_limit : goal.returns-clause-same_limit
+returns-clause-same_limit g c = c.take_turns-finish.ensures.goes.goes.limit

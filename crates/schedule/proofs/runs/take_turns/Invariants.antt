@@ -1,9 +1,9 @@
 -- The entries made so far, with the rest of the run, make the run; the agenda is that from before the last move.
 use Rattle.std.proofs.Common.{◌-◌, length}
 use Rattle.std.specs.Prelude.{map}
-use Rattle.schedule.proofs.RunLemmas.{Goes}
+use Rattle.schedule.specs.Runs.{Goes}
 use Rattle.schedule.specs.Agendas.{IsStale, ready_seen}
-use Rattle.schedule.proofs.runs.run_seeded.Given as goal
+use Rattle.schedule.proofs.runs.take_turns.Given as goal
 
 abbrev pub invariant-turns : goal.invariant-turns
 invariant-turns g l = record {
