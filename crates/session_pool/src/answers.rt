@@ -1,12 +1,12 @@
 //! What one session is answered.
 
-ghost use Rattle.std.specs.Prelude.{◌≡◌, ◌≤◌, IfOk};
+ghost use Rattle.std.specs.Prelude.{◌≡◌, ◌≤◌, IfOk, Ok};
 ghost use Rattle.dioc_terms.specs.Bundles.{IsFormed};
 ghost use Rattle.dioc_terms.specs.Plain.{plain};
 ghost use Rattle.rule_checks.specs.Refusals.{IsAccepted};
-ghost use Rattle.session_pool.specs.Answers.{answer_of, answer_seen};
+ghost use Rattle.session_pool.specs.Answers.{answer_of, answer_seen, ended_after};
 
-use dioc_terms::{Bundle, Memory};
+use dioc_terms::{Bundle, Memory, give_up};
 use flat_role::FlatRole;
 use net_core::accepted_is_sound;
 use role_network::Net;
@@ -53,8 +53,17 @@ fn run(alloc: Global, bundle: &Bundle, seed: Option<u64>, limit: u64) -> Result<
 {
     accepted_is_sound();
     let mut net: Net<FlatRole> = Net::start(alloc, bundle, limit)?;
-    run_seeded(&mut net, seed)?;
+    match run_seeded(&mut net, seed) {
+        Ok(_) => Ok(answer_of_run(net)),
+        Err(fault) => give_up(net, fault),
+    }
+}
+
+/// The answer of a net that has run.
+fn answer_of_run(net: Net<FlatRole>) -> Answer
+    ensures { answer_seen result ≡ Ok (net.history, ended_after net.bundle net.history) }
+{
     let ended = net.is_ended();
     let history = net.into_history();
-    Ok(Answer::Ran { history, ended })
+    Answer::Ran { history, ended }
 }

@@ -8,15 +8,14 @@ use Rattle.session_pool.proofs.answers.run.Goals as goal
 pub start-requires : goal.start-requires
 start-requires c = c.accepted_is_sound.ensures (plain c.args.bundle.now) c.requires.accepted
 
-pub returns : goal.returns
-returns c =
+pub returns-in-Ok : goal.returns-in-Ok
+returns-in-Ok c =
     let b = plain c.args.bundle.now in
     let new = c.run_seeded.new.net in
-    let ran = c.in_ok-run_seeded.ensures in
+    let ran = c.in-Ok.ensures in
     let began = c.in_ok-net.ensures in
     let owner : new.bundle ≡ b = ran.same_bundle ∙ began.bundle in
     let same : new.history ≡ sched b c.args.seed c.args.limit =
     ran.history ∙ (λ j. sched_from (began.bundle j) (began.history j) c.args.seed (began.limit j)) in
-    let entries = c.into_history-history.ensures ∙ same in
-    let ended = c.is_ended-ended.ensures ∙ (λ j. ended_after (owner j) (same j)) in
-    (λ j. Ok (entries j, ended j)) ∙ sym (ap (answered b c.args.seed c.args.limit) c.requires.accepted.no_refusal)
+    c.answer_of_run.ensures ∙ (λ j. Ok (same j, ended_after (owner j) (same j)))
+    ∙ sym (ap (answered b c.args.seed c.args.limit) c.requires.accepted.no_refusal)
