@@ -1,18 +1,20 @@
 //! Names, texts, roles and indices.
 
-ghost use Rattle.std.specs.Prelude.{◌≡◌, ◌↔◌, true, false, IfOk, IsErrOf};
+ghost use Rattle.std.specs.Prelude.{◌≡◌, ◌≤◌, ◌↔◌, true, false, length, IsOk, IfOk, IsErrOf};
 ghost use Rattle.std.specs.List.{list_all};
 ghost use Rattle.dioc_terms.specs.Names.{is_letter, is_word, is_printable, is_name, is_text};
 
 use crate::faults::{Memory, NameFault, TextFault};
+use smallvec::SmallVec;
 use std::alloc::Global;
 use std::hash::{Hash, Hasher};
 use std::marker::Model;
 
 /// A name: a letter, then letters, digits and `_`, 1 to 64 bytes in all. Contracts see its bytes.
+/// One of at most 16 bytes keeps them in place, and takes no memory.
 #[derive(Debug, Drop)]
 pub struct Name {
-    bytes: Vec<u8>,
+    bytes: SmallVec<u8, 16>,
 }
 
 impl Model for Name {
@@ -39,7 +41,7 @@ impl Name {
         if !is_name(bytes) {
             return Err(NameFault::NotAName);
         }
-        let bytes = copy_of_bytes(alloc, bytes)?;
+        let bytes = kept_bytes(alloc, bytes)?;
         Ok(Name { bytes })
     }
 
@@ -56,7 +58,7 @@ impl Name {
     pub fn copy(&self, alloc: Global) -> Result<Name, Memory>
         ensures { IfOk result (λ copy. copy ≡ self.now) }
     {
-        let bytes = copy_of_bytes(alloc, &self.bytes)?;
+        let bytes = kept_bytes(alloc, self.bytes.as_slice())?;
         Ok(Name { bytes })
     }
 }
@@ -237,6 +239,14 @@ pub struct Index {
     pub epoch: u32,
     /// The place in that text.
     pub place: u32,
+}
+
+/// These bytes, in place where they are at most 16.
+fn kept_bytes(alloc: Global, bytes: &[u8]) -> Result<SmallVec<u8, 16>, Memory>
+    ensures same { IfOk result (λ kept. kept.items ≡ bytes.now) }
+    ensures short { length bytes.now ≤ 16 → IsOk result }
+{
+    Ok(SmallVec::from_slice(alloc, bytes)?)
 }
 
 fn copy_of_bytes(alloc: Global, bytes: &[u8]) -> Result<Vec<u8>, Memory>
