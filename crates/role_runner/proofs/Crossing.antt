@@ -5,6 +5,8 @@ use Rattle.std.proofs.Crossing.{crosses}
 use Rattle.dioc_terms.proofs.choreographies.Choreo.TheLaws.TheKnot as choreo_knot
 use Rattle.dioc_terms.proofs.expressions.Expr.TheLaws.TheKnot as expr_knot
 use Rattle.dioc_terms.proofs.processes.Messages.TheLaws.TheKnot as messages_knot
+use Rattle.dioc_terms.proofs.names.Name.TheSendSync as name_sends
+use Rattle.dioc_terms.proofs.names.Role.TheSendSync as role_sends
 use Rattle.dioc_terms.specs.contracts.bundles.Bundle as bundle
 use Rattle.flat_role.proofs.Crossing.{flat_sends}
 use Rattle.turn_lock.proofs.turns.Seat.TheSendSync as seat_sends
@@ -19,20 +21,22 @@ job_sends = declared_send job.the_type (
   (search (flat_sends, parts) depth 60 fits 20000, tt),
 )
 
+ruleset names = (name_sends.the_sync, role_sends.the_field_sync, role_sends.the_sync, parts)
+
 pub bundle_syncs : IsSync bundle.the_row
 bundle_syncs = declared_sync bundle.the_type (
-  search parts depth 60 fits 20000,
+  search names depth 60 fits 20000,
   (
-    search parts depth 60 fits 20000,
+    search names depth 60 fits 20000,
     (
-      search parts depth 60 fits 20000,
+      search names depth 60 fits 20000,
       (
-        search parts depth 60 fits 20000,
+        search names depth 60 fits 20000,
         (
-          search parts depth 60 fits 20000,
+          search names depth 60 fits 20000,
           (
-            search parts depth 60 fits 20000,
-            (search parts depth 60 fits 20000, (search parts depth 60 fits 20000, (search parts depth 60 fits 20000, tt))),
+            search names depth 60 fits 20000,
+            (search names depth 60 fits 20000, (search names depth 60 fits 20000, (search names depth 60 fits 20000, tt))),
           ),
         ),
       ),

@@ -77,22 +77,22 @@ coming_sends = search (change_sends.the_send, parts) depth 60 fits 20000
 
 pub home_sends : IsSend home.the_row
 home_sends = view_send inside.the_row _ _ _ _ (declared_send inside.the_type (
-  search parts depth 30,
+  search parts depth 60 fits 20000,
   (
-    search parts depth 30,
+    search parts depth 60 fits 20000,
     (
-      search parts depth 30,
+      search parts depth 60 fits 20000,
       (
-        search parts depth 30,
+        search parts depth 60 fits 20000,
         (
-          search parts depth 30,
+          search parts depth 60 fits 20000,
           (
             mail_sends,
             (
               book_sends,
               (
-                search (coming_sends, parts) depth 30,
-                (search parts depth 30, (history_sends, (search parts depth 30, (search parts depth 30, tt)))),
+                search (coming_sends, parts) depth 60 fits 20000,
+                (search parts depth 60 fits 20000, (history_sends, (search parts depth 60 fits 20000, (search parts depth 60 fits 20000, tt)))),
               ),
             ),
           ),
