@@ -8,7 +8,7 @@ ghost use Rattle.dioc_terms.specs.Plain.{plain};
 use crate::turns::{begun, coming, turn};
 use bundle_text::read_bundle;
 use dioc_terms::{Act, Bundle, Entry, Memory, Name, Role, Store, give_up};
-use dpoc_process::{RoleState, Runs};
+use dpoc_process::{Prepared, RoleState, Runs};
 use flat_role::FlatRole;
 use std::alloc::Global;
 use std::test::Fail;
@@ -132,6 +132,39 @@ fn is_same_value(first: &Store, second: &Store, entry: &Option<Entry>) -> bool {
     }
 }
 
+/// What a role shows of a turn by an act, `None` where it refuses it.
+fn shown_by<R: Runs>(
+    alloc: Global,
+    update: &Bundle,
+    role: &Role,
+    state: &mut R,
+    act: &Act,
+    number: u32,
+) -> Result<Option<Prepared>, Memory>
+    requires { IsFormed (plain update.now) }
+{
+    let got = coming(alloc, update, role, act, number)?;
+    match turn(alloc, state, act, got) {
+        Ok(shown) => Ok(Some(shown)),
+        Err(_) => Ok(None),
+    }
+}
+
+/// Whether both show the same entry, and these stores have the same value where it sets one.
+fn is_alike(
+    shown: &Option<Prepared>,
+    other: &Option<Prepared>,
+    first: &Store,
+    second: &Store,
+) -> bool {
+    match (shown, other) {
+        (Some(shown), Some(other)) => {
+            shown.entry == other.entry && is_same_value(first, second, &shown.entry)
+        }
+        _ => false,
+    }
+}
+
 /// A turn by the same act of a role over flat code and of one over a tree. Whether both showed the
 /// same entry, and have the same value where it sets one.
 fn is_same_turn(
@@ -145,18 +178,15 @@ fn is_same_turn(
 ) -> Result<bool, Memory>
     requires { IsFormed (plain update.now) }
 {
-    let got = coming(alloc, update, role, act, number)?;
-    let Ok(shown) = turn(alloc, flat, act, got) else {
-        return Ok(false);
-    };
-    let got = coming(alloc, update, role, act, number)?;
-    let Ok(other) = turn(alloc, tree, act, got) else {
-        return Ok(false);
-    };
-    let same = shown.entry == other.entry
-        && is_same_value(flat.store(), tree.store(), &shown.entry);
-    drop((shown, other));
-    Ok(same)
+    let shown = shown_by(alloc, update, role, flat, act, number)?;
+    match shown_by(alloc, update, role, tree, act, number) {
+        Ok(other) => {
+            let same = is_alike(&shown, &other, flat.store(), tree.store());
+            drop((shown, other));
+            Ok(same)
+        }
+        Err(fault) => give_up(shown, fault),
+    }
 }
 
 /// How many turns a role makes until it offers nothing, over flat code and over a tree side by
