@@ -5,7 +5,7 @@ ghost use Rattle.dioc_terms.specs.Expressions.{expression};
 ghost use Rattle.dioc_terms.specs.Terms.{term, index_at, Seq, Par, If, While, Scope};
 
 use crate::guards::Guard;
-use dioc_terms::{Bindings, Choreo, Index, Memory, Role, Roles, give_up, new_box};
+use dioc_terms::{Bindings, Choreo, Index, Memory, Role, Roles, give_up, new_box, new_boxes};
 use std::alloc::Global;
 
 /// A choreography that was read.
@@ -28,20 +28,6 @@ pub fn nothing_found<T: Drop>(_value: T) -> Option<FoundChoreo>
     None
 }
 
-/// Boxes with these two.
-fn boxes(alloc: Global, first: Choreo, second: Choreo) -> Result<(Box<Choreo>, Box<Choreo>), Memory>
-    ensures first { IfOk result (λ made. made.0.value ≡ first) }
-    ensures second { IfOk result (λ made. made.1.value ≡ second) }
-{
-    match new_box(alloc, first) {
-        Ok(first) => match new_box(alloc, second) {
-            Ok(second) => Ok((first, second)),
-            Err(fault) => give_up(first, fault),
-        },
-        Err(fault) => give_up(second, fault),
-    }
-}
-
 /// Two sequences side by side.
 pub fn parallel_of(
     alloc: Global,
@@ -58,7 +44,7 @@ pub fn parallel_of(
 {
     let depth = first.depth.max(second.depth) + 1;
     let (at, next) = (second.at, second.next);
-    let (first, second) = boxes(alloc, first.choreo, second.choreo)?;
+    let (first, second) = new_boxes(alloc, first.choreo, second.choreo)?;
     Ok(FoundChoreo {
         choreo: Choreo::Par(first, second),
         depth,
@@ -83,7 +69,7 @@ pub fn sequence_of(
 {
     let depth = first.depth.max(second.depth) + 1;
     let (at, next) = (second.at, second.next);
-    let (first, second) = boxes(alloc, first.choreo, second.choreo)?;
+    let (first, second) = new_boxes(alloc, first.choreo, second.choreo)?;
     Ok(FoundChoreo {
         choreo: Choreo::Seq(first, second),
         depth,
@@ -111,7 +97,7 @@ pub fn choice_of(
 {
     let depth = first.depth.max(second.depth) + 1;
     let (at, next) = (second.at, second.next);
-    let (yes, no) = match boxes(alloc, first.choreo, second.choreo) {
+    let (yes, no) = match new_boxes(alloc, first.choreo, second.choreo) {
         Ok(made) => made,
         Err(fault) => return give_up(guard, fault),
     };

@@ -76,6 +76,24 @@ pub fn new_box<T: Drop>(alloc: Global, value: T) -> Result<Box<T>, Memory>
     Ok(Box::new(alloc, value)?)
 }
 
+/// Boxes with these two.
+pub fn new_boxes<T: Drop, U: Drop>(
+    alloc: Global,
+    first: T,
+    second: U,
+) -> Result<(Box<T>, Box<U>), Memory>
+    ensures first { IfOk result (λ made. made.0.value ≡ first) }
+    ensures second { IfOk result (λ made. made.1.value ≡ second) }
+{
+    match new_box(alloc, first) {
+        Ok(first) => match new_box(alloc, second) {
+            Ok(second) => Ok((first, second)),
+            Err(fault) => give_up(first, fault),
+        },
+        Err(fault) => give_up(second, fault),
+    }
+}
+
 /// Lets go of a value, for want of memory.
 pub fn give_up<T: Drop, U: Drop>(_value: T, fault: Memory) -> Result<U, Memory>
     ensures { result ≡ Err fault }

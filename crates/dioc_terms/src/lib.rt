@@ -25,7 +25,7 @@ mod visibility;
 
 pub use bundles::{Bundle, Change, Last, Rule, Timed, Trace};
 pub use choreographies::Choreo;
-pub use copies::{TryCopy, give_up, new_box};
+pub use copies::{TryCopy, give_up, new_box, new_boxes};
 pub use entries::{Act, Chosen, Entry, Note};
 pub use equality::equality_decides;
 pub use evaluation::{conditions_join_nothing, eval, test};

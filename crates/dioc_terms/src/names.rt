@@ -10,11 +10,14 @@ use std::alloc::Global;
 use std::hash::{Hash, Hasher};
 use std::marker::Model;
 
+/// So many bytes a name keeps in place; a longer one takes memory.
+pub const BYTES_IN_PLACE: usize = 16;
+
 /// A name: a letter, then letters, digits and `_`, 1 to 64 bytes in all. Contracts see its bytes.
-/// One of at most 16 bytes keeps them in place, and takes no memory.
+/// One of at most `BYTES_IN_PLACE` bytes takes no memory.
 #[derive(Debug, Drop)]
 pub struct Name {
-    bytes: SmallVec<u8, 16>,
+    bytes: SmallVec<u8, BYTES_IN_PLACE>,
 }
 
 impl Model for Name {
@@ -241,10 +244,10 @@ pub struct Index {
     pub place: u32,
 }
 
-/// These bytes, in place where they are at most 16.
-fn kept_bytes(alloc: Global, bytes: &[u8]) -> Result<SmallVec<u8, 16>, Memory>
+/// These bytes, in place where they are at most `BYTES_IN_PLACE`.
+fn kept_bytes(alloc: Global, bytes: &[u8]) -> Result<SmallVec<u8, BYTES_IN_PLACE>, Memory>
     ensures same { IfOk result (λ kept. kept.items ≡ bytes.now) }
-    ensures short { length bytes.now ≤ 16 → IsOk result }
+    ensures short { length bytes.now ≤ BYTES_IN_PLACE → IsOk result }
 {
     Ok(SmallVec::from_slice(alloc, bytes)?)
 }

@@ -17,6 +17,6 @@ mod runs;
 mod states;
 
 pub use laws::{advances_are_steps, prepared_is_done};
-pub use roles::Runs;
+pub use roles::{Begins, Runs};
 pub use runs::{Got, PrepareFault, Prepared};
 pub use states::RoleState;

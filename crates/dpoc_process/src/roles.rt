@@ -3,13 +3,14 @@
 ghost use Rattle.std.specs.Prelude.{◌≡◌, ◌↔◌, false, IfOk, IsErrOf, OnErr, OnOk};
 ghost use Rattle.dioc_terms.specs.declared.entries.Act.{Act as OneAct};
 ghost use Rattle.dioc_terms.specs.KeptStores.{store_of};
+ghost use Rattle.dioc_terms.specs.Processes.{process};
 ghost use Rattle.dpoc_process.specs.Handed.{handed, Brings, IsEnabled};
 ghost use Rattle.dpoc_process.specs.RoleSteps.{IsPrepared, IsStep};
 ghost use Rattle.dpoc_process.specs.LocalStates.{LocalState, offered};
 ghost use Rattle.process_steps.specs.Steps.{Given, ended, is_offered};
 
 use crate::runs::{Got, PrepareFault, Prepared};
-use dioc_terms::{Act, Memory, Store};
+use dioc_terms::{Act, Memory, Proc, Role, Store};
 use std::alloc::Global;
 
 /// A role with its process and its store, which runs act by act: an act is prepared, with all the
@@ -58,4 +59,12 @@ pub trait Runs: Drop {
     /// The variables of the role, and the inputs that it has left. It takes no memory.
     fn store(&self) -> &Store
         ensures { store_of result.now ≡ (local self.now).store };
+}
+
+/// A role that runs, made of its process and its store.
+pub trait Begins: Runs {
+    /// The role before its first act.
+    fn begin(alloc: Global, role: Role, proc: Proc, store: Store) -> Result<Self, Memory>
+        ensures { IfOk result (λ state. Self.local state
+            ≡ record { role = role; process = process proc; store = store_of store }) };
 }

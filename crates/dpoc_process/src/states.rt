@@ -6,7 +6,7 @@ ghost use Rattle.dioc_terms.specs.Processes.{process};
 
 use crate::offered::{add_offers, is_ended};
 use crate::ready::{Ready, advanced, clear, keep_ready, make_ready};
-use crate::roles::Runs;
+use crate::roles::{Begins, Runs};
 use crate::runs::{Got, PrepareFault, Prepared};
 use dioc_terms::{Act, Memory, Proc, Role, Store};
 use std::alloc::Global;
@@ -76,5 +76,11 @@ impl Runs for RoleState {
 
     fn store(&self) -> &Store {
         &self.store
+    }
+}
+
+impl Begins for RoleState {
+    fn begin(_alloc: Global, role: Role, proc: Proc, store: Store) -> Result<RoleState, Memory> {
+        Ok(RoleState::new(role, proc, store))
     }
 }

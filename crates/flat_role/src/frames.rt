@@ -7,7 +7,7 @@ ghost use Rattle.flat_role.specs.Frames.{frame_process, is_open, is_placed, mark
 ghost use Rattle.process_steps.specs.Steps.{after, ended, gathering, telling};
 
 use crate::places::is_ended_at;
-use dioc_terms::{Key, Memory, Messages, Proc, give_up, new_box};
+use dioc_terms::{Key, Memory, Messages, Proc, new_boxes};
 use dpoc_process::offered::is_ended as has_ended;
 use flat_code::Code;
 use std::alloc::Global;
@@ -136,24 +136,6 @@ pub(crate) fn in_order(
         ≡ (if first_over || ended (frame_process done first) then is_open done second
         else is_open done first)) }
 {
-    let (first, second) = boxed(alloc, first, second)?;
+    let (first, second) = new_boxes(alloc, first, second)?;
     Ok(Frame::Seq(first_over, first, second))
-}
-
-/// Boxes with these two frames.
-pub(crate) fn boxed(
-    alloc: Global,
-    first: Frame,
-    second: Frame,
-) -> Result<(Box<Frame>, Box<Frame>), Memory>
-    ensures first { IfOk result (λ made. made.0.value ≡ first) }
-    ensures second { IfOk result (λ made. made.1.value ≡ second) }
-{
-    match new_box(alloc, first) {
-        Ok(first) => match new_box(alloc, second) {
-            Ok(second) => Ok((first, second)),
-            Err(fault) => give_up(first, fault),
-        },
-        Err(fault) => give_up(second, fault),
-    }
 }

@@ -12,9 +12,9 @@ ghost use Rattle.flat_role.specs.Growths.{Grows, IsFollowing, IsInside, IsLeadin
 ghost use Rattle.process_steps.specs.Steps.{after, gather, key, send_one, tell};
 
 use crate::changes::Change;
-use crate::frames::{Frame, boxed, gathering, in_order, joined, put, telling, then};
+use crate::frames::{Frame, gathering, in_order, joined, put, telling, then};
 use crate::offered::Part;
-use dioc_terms::{Index, Memory, Parts, Payload, Role, Tag, Value, give_up};
+use dioc_terms::{Index, Memory, Parts, Payload, Role, Tag, Value, give_up, new_boxes};
 use dpoc_process::Got;
 use dpoc_process::growth::is_true;
 use dpoc_process::makers::{keys_from, letters_to};
@@ -317,8 +317,8 @@ fn led_entrance(alloc: Global, first: Frame, body: usize, last: Frame) -> Result
         → is_placed n last ≡ true → IfOk result (IsLeading done n (frame_process done first)
         (at done body) (frame_process done last)) }
 {
-    let (first, last) = boxed(alloc, first, last)?;
-    match boxed(alloc, Frame::Ended, Frame::Ended) {
+    let (first, last) = new_boxes(alloc, first, last)?;
+    match new_boxes(alloc, Frame::Ended, Frame::Ended) {
         Ok((own, inner)) => Ok(Growth::Leading(Lead {
             first,
             body,
@@ -362,7 +362,7 @@ fn followed_scope(
         (at done body) (follower_end me.now leader.now index)) }
 {
     let last = follower_end(alloc, me, leader, index)?;
-    let (last, own) = boxed(alloc, last, Frame::Ended)?;
+    let (last, own) = new_boxes(alloc, last, Frame::Ended)?;
     Ok(Growth::Following(Follow { body, last, own }))
 }
 

@@ -6,9 +6,9 @@ ghost use Rattle.dioc_terms.specs.Processes.{Par};
 ghost use Rattle.flat_code.specs.Places.{Extends, at, processes};
 ghost use Rattle.flat_role.specs.Frames.{frame_process, is_linked, is_open, is_placed};
 
-use crate::frames::{Frame, boxed, in_order, is_ended, put};
+use crate::frames::{Frame, in_order, is_ended, put};
 use crate::places::is_ended_at;
-use dioc_terms::{Memory, give_up};
+use dioc_terms::{Memory, give_up, new_boxes};
 use flat_code::{Code, Op, link};
 use std::alloc::Global;
 
@@ -140,6 +140,6 @@ fn side_by_side(alloc: Global, code: &Code, left: Frame, right: Frame) -> Result
 {
     let left_over = is_ended(code, &left);
     let right_over = is_ended(code, &right);
-    let (left, right) = boxed(alloc, left, right)?;
+    let (left, right) = new_boxes(alloc, left, right)?;
     Ok(Frame::Par(left_over, left, right_over, right))
 }

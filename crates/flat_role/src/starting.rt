@@ -2,8 +2,8 @@
 
 use crate::states::FlatRole;
 use dioc_terms::{Memory, Proc, Role, Store, give_up};
+use dpoc_process::Begins;
 use flat_code::compile;
-use role_network::Begins;
 use std::alloc::Global;
 
 impl Begins for FlatRole {

@@ -10,9 +10,8 @@ ghost use Rattle.process_steps.specs.Laws.{given_fits, load_fits};
 use dioc_terms::{
     Act, Bundle, Items, Memory, Messages, Parts, Payload, Proc, Role, Store, Tag, Value,
 };
-use dpoc_process::{Got, PrepareFault, Prepared, Runs};
+use dpoc_process::{Begins, Got, PrepareFault, Prepared, Runs};
 use projection::project;
-use role_network::Begins;
 use std::alloc::Global;
 
 /// A role of a bundle before its first act, with one input.

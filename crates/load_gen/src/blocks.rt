@@ -12,10 +12,10 @@ ghost use Rattle.load_gen.specs.Pieces.{is_even_token, number_literal, role_numb
 use crate::draws::Kind;
 use crate::pieces::{
     UNMARKED, binary, is_even_token, name, next, number, numbered, role, sending, sequence,
-    setting, token, token_plus, two_boxes,
+    setting, token, token_plus,
 };
 use dioc_terms::{
-    Bindings, Choreo, Expr, Items, Memory, Name, Oper, Role, Value, give_up, new_box,
+    Bindings, Choreo, Expr, Items, Memory, Name, Oper, Role, Value, give_up, new_box, new_boxes,
 };
 use std::alloc::Global;
 
@@ -88,7 +88,7 @@ fn branches(alloc: Global, b: u32, c: u32) -> Result<(Box<Choreo>, Box<Choreo>),
 {
     let yes = message(alloc, b, c, 1)?;
     match message(alloc, b, c, 2) {
-        Ok(no) => two_boxes(alloc, yes, no),
+        Ok(no) => new_boxes(alloc, yes, no),
         Err(fault) => give_up(yes, fault),
     }
 }

@@ -7,7 +7,7 @@ ghost use Rattle.dioc_terms.specs.Terms.{term, Seq};
 ghost use Rattle.load_gen.specs.Pieces.{is_even_token, next, number_literal, numbered_name, role_numbered, sending, setting_variable, token, token_plus, with_digit};
 
 use dioc_terms::{
-    Choreo, Expr, Index, Memory, Name, NameFault, Oper, Role, Value, give_up, new_box,
+    Choreo, Expr, Index, Memory, Name, NameFault, Oper, Role, Value, give_up, new_boxes,
 };
 use itoa::Buffer;
 use std::alloc::Global;
@@ -70,25 +70,11 @@ pub(crate) fn next(j: u32) -> u32
     (j + 1) % 8
 }
 
-/// Both in boxes.
-pub(crate) fn two_boxes<T: Drop>(
-    alloc: Global,
-    one: T,
-    other: T,
-) -> Result<(Box<T>, Box<T>), Memory>
-    ensures one { IfOk result (λ boxes. boxes.0.value ≡ one) }
-    ensures other { IfOk result (λ boxes. boxes.1.value ≡ other) }
-{
-    let one = new_box(alloc, one)?;
-    let other = new_box(alloc, other)?;
-    Ok((one, other))
-}
-
 /// The two parts, one after the other.
 pub(crate) fn sequence(alloc: Global, first: Choreo, second: Choreo) -> Result<Choreo, Memory>
     ensures { IfOk result (λ made. term made ≡ Seq (term first) (term second)) }
 {
-    let (first, second) = two_boxes(alloc, first, second)?;
+    let (first, second) = new_boxes(alloc, first, second)?;
     Ok(Choreo::Seq(first, second))
 }
 
@@ -104,7 +90,7 @@ pub(crate) fn binary(alloc: Global, oper: Oper, left: Expr, right: Expr) -> Resu
     ensures { IfOk result (λ made. expression made ≡ Bin oper (expression left)
         (expression right)) }
 {
-    let (left, right) = two_boxes(alloc, left, right)?;
+    let (left, right) = new_boxes(alloc, left, right)?;
     Ok(Expr::Bin(oper, left, right))
 }
 

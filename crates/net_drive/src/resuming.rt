@@ -11,9 +11,9 @@ ghost use Rattle.rule_checks.specs.Refusals.{IsAccepted};
 
 use crate::steps::{is_noted, make, move_of};
 use dioc_terms::{Bundle, Entry, Memory};
-use dpoc_process::Runs;
+use dpoc_process::{Begins, Runs};
 use net_core::{Move, accepted_is_sound};
-use role_network::{Begins, Net};
+use role_network::Net;
 use std::alloc::Global;
 
 /// Why a run isn't resumed to its last entry.

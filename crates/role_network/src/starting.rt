@@ -6,11 +6,8 @@ ghost use Rattle.std.specs.List.{AllByRecursion};
 ghost use Rattle.dioc_terms.specs.declared.names.Role.{Role as OneRole};
 ghost use Rattle.dioc_terms.specs.Bundles.{adds};
 ghost use Rattle.dioc_terms.specs.Equality.{member};
-ghost use Rattle.dioc_terms.specs.KeptStores.{store_of};
 ghost use Rattle.dioc_terms.specs.Plain.{plain, plain_rule};
-ghost use Rattle.dioc_terms.specs.Processes.{process};
 ghost use Rattle.dioc_terms.specs.Terms.{is_in, term};
-ghost use Rattle.dpoc_process.specs.LocalStates.{LocalState};
 ghost use Rattle.global_steps.specs.Follow.{change_entry, inputs_of};
 ghost use Rattle.marked_laws.specs.Network.{network_start};
 ghost use Rattle.role_network.specs.KeptParts.{body_seen, due_seen};
@@ -18,26 +15,12 @@ ghost use Rattle.role_network.specs.Standing.{body_of, due_of, local_in};
 
 use crate::bodies::{Coming, RuleBody};
 use dioc_terms::{
-    Bundle, Change, Entry, Items, Memory, Proc, Role, Rule, Store, Timed, Value, Values, give_up,
+    Bundle, Change, Entry, Items, Memory, Role, Rule, Store, Timed, Value, Values, give_up,
 };
-use dpoc_process::{RoleState, Runs};
+use dpoc_process::Begins;
 use projection::project;
 use std::alloc::Global;
 use std::collections::VecDeque;
-
-/// A role that runs, made of its process and its store.
-pub trait Begins: Runs {
-    /// The role before its first act.
-    fn begin(alloc: Global, role: Role, proc: Proc, store: Store) -> Result<Self, Memory>
-        ensures { IfOk result (λ state. Self.local state
-            ≡ record { role = role; process = process proc; store = store_of store }) };
-}
-
-impl Begins for RoleState {
-    fn begin(_alloc: Global, role: Role, proc: Proc, store: Store) -> Result<RoleState, Memory> {
-        Ok(RoleState::new(role, proc, store))
-    }
-}
 
 /// The roles of the cast, in its order, each with its projection and its inputs.
 pub(crate) fn role_states<R: Begins>(alloc: Global, bundle: &Bundle) -> Result<Vec<R>, Memory>

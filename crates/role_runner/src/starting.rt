@@ -11,9 +11,9 @@ ghost use Rattle.marked_laws.specs.Network.{network_start};
 ghost use Rattle.role_network.specs.Standing.{local_in};
 
 use dioc_terms::{Bundle, Items, Memory, Role, Store, Value, Values, give_up};
+use dpoc_process::Begins;
 use flat_role::FlatRole;
 use projection::project;
-use role_network::Begins;
 use std::alloc::Global;
 
 /// The role with its projection and its inputs.
