@@ -1,5 +1,5 @@
 -- Frames: what is known to be over, and what stays as more ops come.
-use Rattle.std.proofs.Common.{◌≡◌, ◌<◌, ℕ, List, [], ◌∷◌, ◌++◌, Bool, true, false, ◌||◌, if◌then◌else◌, Option, Some, None, refl, sym, ap, ap₂, ◌∙◌, subst, ⊎_elim, ◌⊎◌, inl, inr, length, arith}
+use Rattle.std.proofs.Common.{◌≡◌, ◌<◌, ℕ, List, [], ◌∷◌, ◌++◌, Bool, true, false, not, ◌&&◌, ◌||◌, if◌then◌else◌, Option, Some, None, refl, sym, ap, ap₂, ◌∙◌, subst, ⊎_elim, ◌⊎◌, inl, inr, length, arith}
 use Rattle.std.proofs.lemmas.List.{append-nil}
 use Rattle.std.proofs.lemmas.Bool.{and_parts, and_from, cases_Bool, cond-true, cond-false, ltb-true, lt-ltb}
 use Rattle.std.specs.Option.{is_some, option_or}
@@ -36,6 +36,11 @@ marked_ended P = ⊎_elim
     (λ no. ap (λ b. marked_over b P) no)
     (cases_Bool (ended P))
 
+-- to mark it once more as over or not changes nothing
+pub marked_again : (b : Bool) (P : Process) → marked_over (b || ended P) P ≡ marked_over b P
+marked_again true P = refl
+marked_again false P = marked_ended P
+
 over_offers : (me : Role) (P : Process) → ended P ≡ true → offers me P ≡ []
 over_offers me Skip h = refl
 over_offers me (Seq P Q) h =
@@ -49,6 +54,14 @@ over_offers me (Tell (More k l ms)) h = cc
 over_offers me (Gather []) h = refl
 over_offers me (Gather (k ∷ ks)) h = cc
 over_offers me P h = cc
+
+-- the first part of a sequence has ended, so it adds nothing to what the second offers
+pub second_offered : (me : Role) (P Q : Process) (acts : List Act) → true ≡ ended P
+    → (acts ++ offers me P) ++ offers me Q ≡ acts ++ offers me (Seq P Q)
+second_offered me P Q acts over =
+    let yes = sym over in
+    ap (λ x. x ++ offers me Q) (ap (λ x. acts ++ x) (over_offers me P yes) ∙ append-nil acts)
+    ∙ ap (λ x. acts ++ x) (sym (cond-true (ended P) (offers me Q) (offers me P) yes))
 
 -- what is marked as over offers nothing and does nothing
 pub offers_marked : (me : Role) (P : Process) → offers me (marked_over true P) ≡ []
@@ -77,6 +90,24 @@ nothing (Some x) h = cc
 pub acting_marked : (me : Role) (a : Act) (P : Process) → acting me a (marked_over true P) ≡ None
 acting_marked me a P = nothing (acting me a (marked_over true P))
     (acting-offered me a (marked_over true P) ∙ ap (is_offered a) (offers_marked me P))
+
+-- what is over does no act
+pub acts_unended : (me : Role) (a : Act) (P : Process)
+    → (not (ended P) && is_some (acting me a P)) ≡ is_some (acting me a P)
+acts_unended me a P = ⊎_elim
+    (λ yes. ap (λ b. not b && is_some (acting me a P)) yes
+    ∙ sym (acting-offered me a P ∙ ap (is_offered a) (over_offers me P yes)))
+    (λ no. ap (λ b. not b && is_some (acting me a P)) no)
+    (cases_Bool (ended P))
+
+-- so what does one goes on
+pub acts_goes_on : (me : Role) (a : Act) (P : Process) → is_some (acting me a P) ≡ true
+    → ended P ≡ false
+acts_goes_on me a P acts = ⊎_elim
+    (λ yes.
+    let none = acting-offered me a P ∙ ap (is_offered a) (over_offers me P yes) in cc)
+    (λ no. no)
+    (cases_Bool (ended P))
 
 -- the part that does an act isn't over, so it is open
 module _ (done : List Process) (me : Role) (a : Act) where

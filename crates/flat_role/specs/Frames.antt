@@ -1,5 +1,5 @@
 -- The process that frames stand for.
-use Rattle.std.specs.Prelude.{ℕ, List, Bool, true, false, ◌&&◌, ◌||◌, if◌then◌else◌, nat_lt}
+use Rattle.std.specs.Prelude.{ℕ, List, Bool, true, false, not, ◌&&◌, ◌||◌, if◌then◌else◌, nat_lt}
 use Rattle.dioc_terms.specs.Processes.{Process, Skip, Seq, Par, Tell, Gather, process, letters}
 use Rattle.dpoc_process.specs.Acting.{is_single}
 use Rattle.flat_code.specs.Places.{at}
@@ -52,12 +52,13 @@ leaves_nothing (Tell ms) = false
 leaves_nothing (Gather ks) = false
 leaves_nothing P = is_single P
 
--- each leaf that may act is linked, and a place of the code among them is that of a plain op
+-- each leaf that may act is linked, and a place of the code among them is that of a plain op; the
+-- first part of a sequence is marked if it has ended, so nobody has to ask
 abbrev pub is_open : List Process → Frame → Bool
 is_open done (frame.At p) = leaves_nothing (at done p)
 is_open done (frame.Arrived P) = false
 is_open done (frame.Seq' first_over _ F _ G) =
-    if first_over || ended (frame_process done F) then is_open done G else is_open done F
+    if first_over then is_open done G else (not (ended (frame_process done F)) && is_open done F)
 is_open done (frame.Par' left_over _ F right_over _ G) =
     (left_over || is_open done F) && (right_over || is_open done G)
 is_open done F = true

@@ -8,9 +8,10 @@ ghost use Rattle.dpoc_process.specs.Changes.{changed, replaced, rest_of};
 ghost use Rattle.flat_code.specs.Places.{processes};
 ghost use Rattle.flat_role.specs.Frames.{frame_process, is_open, is_placed, second_of};
 ghost use Rattle.flat_role.specs.Growths.{is_change_placed, part_change};
+ghost use Rattle.process_steps.specs.Steps.{ended};
 
 use crate::frames::{Frame, gathering, is_ended, put, telling};
-use crate::offered::can_act;
+use crate::offered::does_act;
 use dioc_terms::{Act, Key, Messages, Role};
 use flat_code::Code;
 use std::mem;
@@ -25,9 +26,9 @@ pub(crate) enum Change {
 }
 
 /// Changes the part that does the act. A first part that is over is let go, and a part of a
-/// parallel that is over is marked so.
-#[tactic(auto, using(crate::proofs::FrameLemmas::marked_ended, crate::proofs::FrameLemmas::acting_marked, crate::proofs::FrameLemmas::replaced_plain))]
-pub(crate) fn replace(me: &Role, act: &Act, code: &Code, frame: &mut Frame, by: Change)
+/// parallel that is over is marked so. The answer is whether nothing is left to do.
+#[tactic(auto, using(crate::proofs::FrameLemmas::marked_ended, crate::proofs::FrameLemmas::ended_marked, crate::proofs::FrameLemmas::acting_marked, crate::proofs::FrameLemmas::replaced_plain))]
+pub(crate) fn replace(me: &Role, act: &Act, code: &Code, frame: &mut Frame, by: Change) -> bool
     requires placed { is_placed (length code.now.ops.items) frame.old ≡ true }
     requires opened { is_open (processes code.now.ops.items) frame.old ≡ true }
     requires change { is_change_placed (length code.now.ops.items) by ≡ true }
@@ -37,29 +38,33 @@ pub(crate) fn replace(me: &Role, act: &Act, code: &Code, frame: &mut Frame, by: 
         ≡ replaced me.now act.now (frame_process (processes code.now.ops.items) frame.old)
         (part_change (processes code.now.ops.items) by) }
     ensures placed { is_placed (length code.now.ops.items) frame.new ≡ true }
+    ensures over { result ≡ ended (frame_process (processes code.now.ops.items) frame.new) }
 {
     match frame {
         Frame::Seq(first_over, first, second) => {
-            if *first_over || is_ended(code, first) {
-                replace(me, act, code, second, by);
+            if *first_over {
+                let over = replace(me, act, code, second, by);
                 keep_second(frame);
-                return;
+                return over;
             }
-            replace(me, act, code, first, by);
-            if is_ended(code, first) {
-                keep_second(frame);
+            if !replace(me, act, code, first, by) {
+                return false;
             }
+            keep_second(frame);
+            is_ended(code, frame)
         }
         Frame::Par(left_over, left, right_over, right) => {
-            if can_act(me, act, code, *left_over, left) {
-                replace(me, act, code, left, by);
-                *left_over = is_ended(code, left);
-                return;
+            if does_act(me, act, code, *left_over, left) {
+                *left_over = replace(me, act, code, left, by);
+                return *left_over && (*right_over || is_ended(code, right));
             }
-            replace(me, act, code, right, by);
-            *right_over = is_ended(code, right);
+            *right_over = replace(me, act, code, right, by);
+            *right_over && (*left_over || is_ended(code, left))
         }
-        single => change_part(code, single, by),
+        single => {
+            change_part(code, single, by);
+            is_ended(code, single)
+        }
     }
 }
 

@@ -1,6 +1,6 @@
 //! What a role over flat code has still to do.
 
-ghost use Rattle.std.specs.Prelude.{◌≡◌, ◌&&◌, ◌||◌, ℕ, List, true, IfOk, if◌then◌else◌, length};
+ghost use Rattle.std.specs.Prelude.{◌≡◌, ◌&&◌, not, ℕ, List, true, IfOk, if◌then◌else◌, length};
 ghost use Rattle.dioc_terms.specs.Processes.{Process, Seq, letters};
 ghost use Rattle.flat_code.specs.Places.{processes};
 ghost use Rattle.flat_role.specs.Frames.{frame_process, is_open, is_placed, marked_over};
@@ -133,8 +133,8 @@ pub(crate) fn in_order(
     ensures placed { IfOk result (λ frame. (n : ℕ) →
         is_placed n frame ≡ (is_placed n first && is_placed n second)) }
     ensures opened { IfOk result (λ frame. (done : List Process) → is_open done frame
-        ≡ (if first_over || ended (frame_process done first) then is_open done second
-        else is_open done first)) }
+        ≡ (if first_over then is_open done second
+        else (not (ended (frame_process done first)) && is_open done first))) }
 {
     let (first, second) = new_boxes(alloc, first, second)?;
     Ok(Frame::Seq(first_over, first, second))

@@ -1,20 +1,23 @@
-//! What frames offer, and the part of them that does an act.
+//! What frames offer, what they are to an act, and the part of them that does it.
 
-ghost use Rattle.std.specs.Prelude.{◌≡◌, ◌<◌, ◌++◌, true, IfSome, OnOk, length, option_map};
+ghost use Rattle.std.specs.Prelude.{◌≡◌, ◌<◌, ◌++◌, ◌||◌, true, IfOk, IfSome, OnOk, length, option_map};
 ghost use Rattle.std.specs.Option.{is_some, option_to_list};
 ghost use Rattle.dpoc_process.specs.Acting.{acting};
 ghost use Rattle.flat_code.specs.Places.{at, processes};
-ghost use Rattle.flat_role.specs.Frames.{frame_process, is_open, is_placed, marked_over};
+ghost use Rattle.flat_role.specs.Frames.{frame_process, is_open, is_placed, leaves_nothing, marked_over};
 ghost use Rattle.flat_role.specs.Growths.{IsInside, part_process};
-ghost use Rattle.process_steps.specs.Steps.{offers};
+ghost use Rattle.flat_role.specs.Stances.{is_acting, is_over};
+ghost use Rattle.process_steps.specs.Steps.{ended, offers};
 
-use crate::frames::{Frame, is_ended};
-use crate::places::{add_offers_at, find_at};
+use crate::frames::Frame;
+use crate::parts::does;
+use crate::places::{Stance, add_offers_at, beside, stance_at, stance_of};
 use dioc_terms::{Act, Key, Memory, Messages, Role};
 use dpoc_process::offered::{
-    add_offers as add_offers_of, find as find_in, gathers, offer_of_gather, offer_of_tell, tells,
+    add_offers as add_offers_of, find as find_in, gathers, is_ended as has_ended, offer_of_gather,
+    offer_of_tell, tells,
 };
-use flat_code::Code;
+use flat_code::{Code, Op};
 use std::alloc::Global;
 
 /// The part of a role that does an act.
@@ -28,43 +31,58 @@ pub(crate) enum Part<'a> {
     Gathering(&'a [Key]),
 }
 
-/// Adds the acts that a frame offers, from left to right. It doesn't look into what is over.
-#[tactic(auto, using(crate::proofs::FrameLemmas::placed_at, crate::proofs::FrameLemmas::offers_marked))]
+/// Adds the acts that a frame offers, from left to right. It doesn't look into what is known to be
+/// over. The answer is whether nothing is left to do.
+#[tactic(auto, using(crate::proofs::FrameLemmas::placed_at, crate::proofs::FrameLemmas::offers_marked, crate::proofs::FrameLemmas::ended_marked, crate::proofs::FrameLemmas::second_offered))]
 pub(crate) fn add_offers(
     alloc: Global,
     me: &Role,
     code: &Code,
     frame: &Frame,
     acts: &mut Vec<Act>,
-) -> Result<(), Memory>
+) -> Result<bool, Memory>
     requires { is_placed (length code.now.ops.items) frame.now ≡ true }
-    ensures { OnOk result (acts.new.items ≡ acts.old.items
+    ensures offers { OnOk result (acts.new.items ≡ acts.old.items
         ++ offers me.now (frame_process (processes code.now.ops.items) frame.now)) }
+    ensures over { IfOk result (λ over.
+        over ≡ ended (frame_process (processes code.now.ops.items) frame.now)) }
 {
     match frame {
-        Frame::Ended => Ok(()),
+        Frame::Ended => Ok(true),
         Frame::At(place) => add_offers_at(alloc, me, code, *place, acts),
-        Frame::Telling(messages) => add_act(offer_of_tell(alloc, me, messages)?, acts),
-        Frame::Gathering(keys) => add_act(offer_of_gather(alloc, me, keys.as_slice())?, acts),
-        Frame::Arrived(proc) => add_offers_of(alloc, me, proc, acts),
+        Frame::Telling(messages) => {
+            add_act(offer_of_tell(alloc, me, messages)?, acts)?;
+            Ok(matches!(messages, Messages::Nothing))
+        }
+        Frame::Gathering(keys) => {
+            add_act(offer_of_gather(alloc, me, keys.as_slice())?, acts)?;
+            Ok(keys.is_empty())
+        }
+        Frame::Arrived(proc) => {
+            add_offers_of(alloc, me, proc, acts)?;
+            Ok(has_ended(proc))
+        }
         Frame::Seq(first_over, first, second) => {
-            if *first_over || is_ended(code, first) {
+            if *first_over {
                 return add_offers(alloc, me, code, second, acts);
             }
-            add_offers(alloc, me, code, first, acts)
+            if add_offers(alloc, me, code, first, acts)? {
+                return add_offers(alloc, me, code, second, acts);
+            }
+            Ok(false)
         }
         Frame::Par(left_over, left, right_over, right) => {
             if *left_over {
                 if *right_over {
-                    return Ok(());
+                    return Ok(true);
                 }
                 return add_offers(alloc, me, code, right, acts);
             }
-            add_offers(alloc, me, code, left, acts)?;
+            let over = add_offers(alloc, me, code, left, acts)?;
             if *right_over {
-                return Ok(());
+                return Ok(over);
             }
-            add_offers(alloc, me, code, right, acts)
+            Ok(add_offers(alloc, me, code, right, acts)? && over)
         }
     }
 }
@@ -79,36 +97,55 @@ fn add_act(offer: Option<Act>, acts: &mut Vec<Act>) -> Result<(), Memory>
     Ok(())
 }
 
-/// Whether a frame offers the act. It doesn't look into what is over.
-#[tactic(auto, using(crate::proofs::FrameLemmas::placed_at, crate::proofs::FrameLemmas::acting_marked))]
-pub(crate) fn can_act(me: &Role, act: &Act, code: &Code, over: bool, frame: &Frame) -> bool
+/// Whether a frame offers the act.
+pub(crate) fn can_act(me: &Role, act: &Act, code: &Code, frame: &Frame) -> bool
     requires { is_placed (length code.now.ops.items) frame.now ≡ true }
     ensures { result ≡ is_some (acting me.now act.now
+        (frame_process (processes code.now.ops.items) frame.now)) }
+{
+    matches!(stance(me, act, code, false, frame), Stance::Acts)
+}
+
+/// What a frame is to an act. It doesn't look into what is known to be over.
+#[tactic(auto, using(crate::proofs::FrameLemmas::placed_at, crate::proofs::FrameLemmas::acting_marked, crate::proofs::FrameLemmas::ended_marked, crate::proofs::FrameLemmas::acts_unended))]
+fn stance(me: &Role, act: &Act, code: &Code, over: bool, frame: &Frame) -> Stance
+    requires { is_placed (length code.now.ops.items) frame.now ≡ true }
+    ensures over { is_over result
+        ≡ ended (marked_over over (frame_process (processes code.now.ops.items) frame.now)) }
+    ensures acts { is_acting result ≡ is_some (acting me.now act.now
         (marked_over over (frame_process (processes code.now.ops.items) frame.now))) }
 {
     if over {
-        return false;
+        return Stance::Over;
     }
     match frame {
-        Frame::Ended => false,
-        Frame::At(place) => find_at(me, act, code, *place).is_some(),
-        Frame::Telling(messages) => tells(act, me, messages),
-        Frame::Gathering(keys) => gathers(act, me, keys.as_slice()),
-        Frame::Arrived(proc) => find_in(me, act, proc).is_some(),
+        Frame::Ended => Stance::Over,
+        Frame::At(place) => stance_at(me, act, code, *place),
+        Frame::Telling(messages) => stance_of(
+            matches!(messages, Messages::Nothing),
+            tells(act, me, messages),
+        ),
+        Frame::Gathering(keys) => { stance_of(keys.is_empty(), gathers(act, me, keys.as_slice())) }
+        Frame::Arrived(proc) => stance_of(has_ended(proc), find_in(me, act, proc).is_some()),
         Frame::Seq(first_over, first, second) => {
-            if *first_over || is_ended(code, first) {
-                return can_act(me, act, code, false, second);
+            match stance(me, act, code, *first_over, first) {
+                Stance::Over => stance(me, act, code, false, second),
+                stance => stance,
             }
-            can_act(me, act, code, false, first)
         }
         Frame::Par(left_over, left, right_over, right) => {
-            can_act(me, act, code, *left_over, left) || can_act(me, act, code, *right_over, right)
+            match stance(me, act, code, *left_over, left) {
+                Stance::Over => stance(me, act, code, *right_over, right),
+                Stance::Apart => beside(stance(me, act, code, *right_over, right)),
+                Stance::Acts => Stance::Acts,
+            }
         }
     }
 }
 
-/// The part of a frame that does the act; of a parallel that in the left part, where there is one.
-#[tactic(auto, using(crate::proofs::FrameLemmas::placed_at, crate::proofs::FrameLemmas::acting_marked))]
+/// The part of an open frame that does the act; of a parallel that in the left part, where there is
+/// one.
+#[tactic(auto, using(crate::proofs::FrameLemmas::placed_at, crate::proofs::FrameLemmas::acting_marked, crate::proofs::FrameLemmas::ended_marked))]
 pub(crate) fn find<'a>(me: &Role, act: &Act, code: &Code, frame: &'a Frame) -> Option<Part<'a>>
     requires placed { is_placed (length code.now.ops.items) frame.now ≡ true }
     requires opened { is_open (processes code.now.ops.items) frame.now ≡ true }
@@ -118,7 +155,7 @@ pub(crate) fn find<'a>(me: &Role, act: &Act, code: &Code, frame: &'a Frame) -> O
 {
     match frame {
         Frame::Ended => None,
-        Frame::At(place) => find_place(me, act, code, *place),
+        Frame::At(place) => find_op(me, act, code, *place),
         Frame::Telling(messages) => tells(act, me, messages).then_some(Part::Telling(messages)),
         Frame::Gathering(keys) => {
             let keys = keys.as_slice();
@@ -126,7 +163,7 @@ pub(crate) fn find<'a>(me: &Role, act: &Act, code: &Code, frame: &'a Frame) -> O
         }
         Frame::Arrived(_) => unreachable!(),
         Frame::Seq(first_over, first, second) => {
-            if *first_over || is_ended(code, first) {
+            if *first_over {
                 return find(me, act, code, second);
             }
             find(me, act, code, first)
@@ -145,15 +182,27 @@ pub(crate) fn find<'a>(me: &Role, act: &Act, code: &Code, frame: &'a Frame) -> O
     }
 }
 
-/// The part of the process at a place that does the act.
-fn find_place<'a>(me: &Role, act: &Act, code: &Code, place: usize) -> Option<Part<'a>>
-    requires { place < length code.now.ops.items }
+/// Whether an open part does the act. It doesn't look into what is known to be over.
+#[tactic(auto, using(crate::proofs::FrameLemmas::acting_marked))]
+pub(crate) fn does_act(me: &Role, act: &Act, code: &Code, over: bool, frame: &Frame) -> bool
+    requires placed { is_placed (length code.now.ops.items) frame.now ≡ true }
+    requires opened { (over || is_open (processes code.now.ops.items) frame.now) ≡ true }
+    ensures { result ≡ is_some (acting me.now act.now
+        (marked_over over (frame_process (processes code.now.ops.items) frame.now))) }
+{
+    !over && find(me, act, code, frame).is_some()
+}
+
+/// The plain op at a place, if it does the act.
+fn find_op<'a>(me: &Role, act: &Act, code: &Code, place: usize) -> Option<Part<'a>>
+    requires inside { place < length code.now.ops.items }
+    requires plain { leaves_nothing (at (processes code.now.ops.items) place) ≡ true }
     ensures found { option_map (part_process (processes code.now.ops.items)) result
         ≡ acting me.now act.now (at (processes code.now.ops.items) place) }
     ensures inside { IfSome result (IsInside (length code.now.ops.items)) }
 {
-    match find_at(me, act, code, place) {
-        Some(found) => Some(Part::At(found)),
-        None => None,
+    match code.op_at(place) {
+        Op::Seq { .. } | Op::Par { .. } => unreachable!(),
+        single => does(me, act, single).then_some(Part::At(place)),
     }
 }

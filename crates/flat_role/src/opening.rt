@@ -1,13 +1,18 @@
 //! Linking the parts that have come, and opening what may act. Neither changes the process that
 //! the frames stand for.
 
-ghost use Rattle.std.specs.Prelude.{◌≡◌, ◌<◌, ◌||◌, true, IfOk, OnOk, length};
+ghost use Rattle.std.specs.Prelude.{◌≡◌, ◌<◌, ◌||◌, ℕ, List, false, true, IfOk, OnOk, length};
 ghost use Rattle.dioc_terms.specs.Processes.{Par};
-ghost use Rattle.flat_code.specs.Places.{Extends, at, processes};
+ghost use Rattle.flat_code.specs.declared.ops.Op.{Op as OneOp};
+ghost use Rattle.flat_code.specs.Places.{Extends, at, op_process, processes};
+ghost use Rattle.flat_role.specs.declared.frames.Frame.TheVariants as frames;
 ghost use Rattle.flat_role.specs.Frames.{frame_process, is_linked, is_open, is_placed};
+ghost use Rattle.flat_role.specs.Growths.{is_single_op};
+ghost use Rattle.flat_role.specs.OpenedPlaces.{IsOpenedAt};
+ghost use Rattle.process_steps.specs.Steps.{ended};
 
 use crate::frames::{Frame, in_order, is_ended, put};
-use crate::places::is_ended_at;
+use crate::places::is_ended_op;
 use dioc_terms::{Memory, give_up, new_boxes};
 use flat_code::{Code, Op, link};
 use std::alloc::Global;
@@ -16,14 +21,16 @@ use std::alloc::Global;
 /// plain op, or what is left of a tell or a gather. The process stays as it is, also where memory
 /// runs out.
 pub(crate) fn settle(alloc: Global, code: &mut Code, frame: &mut Frame) -> Result<(), Memory>
-    requires { is_placed (length code.old.ops.items) frame.old ≡ true }
+    requires placed { is_placed (length code.old.ops.items) frame.old ≡ true }
+    requires goes_on { ended (frame_process (processes code.old.ops.items) frame.old) ≡ false }
     ensures same { frame_process (processes code.new.ops.items) frame.new
         ≡ frame_process (processes code.old.ops.items) frame.old }
     ensures placed { is_placed (length code.new.ops.items) frame.new ≡ true }
     ensures opened { OnOk result (is_open (processes code.new.ops.items) frame.new ≡ true) }
 {
     link_parts(alloc, code, false, frame)?;
-    open_live(alloc, code, false, frame)
+    let _over = open_live(alloc, code, false, frame)?;
+    Ok(())
 }
 
 /// Appends each part that has come to the code, where the frame isn't over. After an error parts
@@ -59,87 +66,130 @@ fn link_parts(alloc: Global, code: &mut Code, over: bool, frame: &mut Frame) -> 
 }
 
 /// Opens the sequences, parallels, tells and gathers of the code that may act, as frames, where the
-/// frame isn't over.
-#[tactic(auto, using(crate::proofs::FrameLemmas::placed_at))]
-fn open_live(alloc: Global, code: &Code, over: bool, frame: &mut Frame) -> Result<(), Memory>
+/// frame isn't over, and marks each part that is over. The answer is whether nothing is left to do;
+/// what is over isn't opened.
+#[tactic(auto, using(crate::proofs::FrameLemmas::placed_at, crate::proofs::FrameLemmas::marked_again, crate::proofs::FrameLemmas::ended_marked))]
+fn open_live(alloc: Global, code: &Code, over: bool, frame: &mut Frame) -> Result<bool, Memory>
     requires placed { is_placed (length code.now.ops.items) frame.old ≡ true }
     requires linked { (over || is_linked frame.old) ≡ true }
     ensures same { frame_process (processes code.now.ops.items) frame.new
         ≡ frame_process (processes code.now.ops.items) frame.old }
     ensures placed { is_placed (length code.now.ops.items) frame.new ≡ true }
-    ensures opened { OnOk result
-        ((over || is_open (processes code.now.ops.items) frame.new) ≡ true) }
+    ensures over { IfOk result (λ now. now
+        ≡ (over || ended (frame_process (processes code.now.ops.items) frame.new))) }
+    ensures opened { IfOk result (λ now.
+        (now || is_open (processes code.now.ops.items) frame.new) ≡ true) }
 {
     if over {
-        return Ok(());
+        return Ok(true);
     }
     match frame {
         Frame::At(place) => {
             let opened = opened_at(alloc, code, *place)?;
-            put(frame, opened);
-            Ok(())
+            put(frame, opened.frame);
+            Ok(opened.over)
         }
         Frame::Arrived(_) => unreachable!(),
         Frame::Seq(first_over, first, second) => {
-            if *first_over || is_ended(code, first) {
+            *first_over = open_live(alloc, code, *first_over, first)?;
+            if *first_over {
                 return open_live(alloc, code, false, second);
             }
-            open_live(alloc, code, false, first)
+            Ok(false)
         }
         Frame::Par(left_over, left, right_over, right) => {
-            open_live(alloc, code, *left_over, left)?;
-            open_live(alloc, code, *right_over, right)
+            *left_over = open_live(alloc, code, *left_over, left)?;
+            *right_over = open_live(alloc, code, *right_over, right)?;
+            Ok(*left_over && *right_over)
         }
-        _ => Ok(()),
+        leaf => Ok(is_ended(code, leaf)),
     }
 }
 
+/// What a place of the code is opened as.
+#[derive(Drop)]
+struct Opened {
+    /// Whether nothing is left to do there.
+    pub over: bool,
+    pub frame: Frame,
+}
+
 /// The process at a place, with the sequences, parallels, tells and gathers that may act as frames.
+/// What is over stays a place.
 #[tactic(auto, using(crate::proofs::FrameLemmas::at_placed))]
-fn opened_at(alloc: Global, code: &Code, place: usize) -> Result<Frame, Memory>
+fn opened_at(alloc: Global, code: &Code, place: usize) -> Result<Opened, Memory>
     requires { place < length code.now.ops.items }
-    ensures same { IfOk result (λ frame. frame_process (processes code.now.ops.items) frame
-        ≡ at (processes code.now.ops.items) place) }
-    ensures placed { IfOk result (λ frame. is_placed (length code.now.ops.items) frame ≡ true) }
-    ensures opened { IfOk result (λ frame. is_open (processes code.now.ops.items) frame ≡ true) }
+    ensures { IfOk result (IsOpenedAt code.now.ops.items place) }
 {
     match code.op_at(place) {
         Op::Seq { first, second } => {
-            if is_ended_at(code, *first) {
-                let rest = opened_at(alloc, code, *second)?;
-                return in_order(alloc, true, Frame::At(*first), rest);
+            let Opened { over, frame } = opened_at(alloc, code, *first)?;
+            if !over {
+                let frame = in_order(alloc, false, frame, Frame::At(*second))?;
+                return Ok(Opened { over, frame });
             }
-            let begun = opened_at(alloc, code, *first)?;
-            in_order(alloc, false, begun, Frame::At(*second))
+            drop(frame);
+            let Opened { over, frame } = opened_at(alloc, code, *second)?;
+            if over {
+                drop(frame);
+                return Ok(over_at(place));
+            }
+            let frame = in_order(alloc, true, Frame::At(*first), frame)?;
+            Ok(Opened { over, frame })
         }
         Op::Par { left, right } => {
             let left = opened_at(alloc, code, *left)?;
             match opened_at(alloc, code, *right) {
-                Ok(right) => side_by_side(alloc, code, left, right),
+                Ok(right) => side_by_side(alloc, place, left, right),
                 Err(fault) => give_up(left, fault),
             }
         }
-        Op::Tell { messages } => Ok(Frame::Telling(messages.copy(alloc)?)),
-        Op::Gather { keys } => Ok(Frame::Gathering(keys.copy(alloc)?.into_vec())),
-        _ => Ok(Frame::At(place)),
+        single => opened_op(alloc, single, place),
     }
 }
 
-/// Both, side by side.
-#[tactic(auto, using(crate::proofs::FrameLemmas::marked_ended))]
-fn side_by_side(alloc: Global, code: &Code, left: Frame, right: Frame) -> Result<Frame, Memory>
-    requires left { is_placed (length code.now.ops.items) left ≡ true }
-    requires right { is_placed (length code.now.ops.items) right ≡ true }
-    requires left_open { is_open (processes code.now.ops.items) left ≡ true }
-    requires right_open { is_open (processes code.now.ops.items) right ≡ true }
-    ensures same { IfOk result (λ frame. frame_process (processes code.now.ops.items) frame
-        ≡ Par (frame_process (processes code.now.ops.items) left)
-        (frame_process (processes code.now.ops.items) right)) }
-    ensures placed { IfOk result (λ frame. is_placed (length code.now.ops.items) frame ≡ true) }
-    ensures opened { IfOk result (λ frame. is_open (processes code.now.ops.items) frame ≡ true) }
+/// What is over stays the place that it was.
+fn over_at(place: usize) -> Opened
+    ensures { result ≡ record { over = true; frame = frames.At place } }
 {
-    let left_over = is_ended(code, &left);
-    let right_over = is_ended(code, &right);
-    let (left, right) = new_boxes(alloc, left, right)?;
-    Ok(Frame::Par(left_over, left, right_over, right))
+    Opened {
+        over: true,
+        frame: Frame::At(place),
+    }
+}
+
+/// An op at a place, neither a sequence nor a parallel: a tell or a gather as a frame.
+#[tactic(auto, using(crate::proofs::FrameLemmas::at_placed))]
+fn opened_op(alloc: Global, op: &Op, place: usize) -> Result<Opened, Memory>
+    requires { is_single_op op.now ≡ true }
+    ensures { IfOk result (λ opened. (ops : List OneOp) → place < length ops
+        → at (processes ops) place ≡ op_process (processes ops) op.now
+        → IsOpenedAt ops place opened) }
+{
+    if is_ended_op(op) {
+        return Ok(over_at(place));
+    }
+    let frame = match op {
+        Op::Tell { messages } => Frame::Telling(messages.copy(alloc)?),
+        Op::Gather { keys } => Frame::Gathering(keys.copy(alloc)?.into_vec()),
+        _ => Frame::At(place),
+    };
+    Ok(Opened { over: false, frame })
+}
+
+/// Both parts of the parallel at a place, side by side.
+#[tactic(auto, using(crate::proofs::FrameLemmas::at_placed))]
+fn side_by_side(alloc: Global, place: usize, left: Opened, right: Opened) -> Result<Opened, Memory>
+    ensures { IfOk result (λ opened. (ops : List OneOp) (p q : ℕ) → place < length ops
+        → at (processes ops) place ≡ Par (at (processes ops) p) (at (processes ops) q)
+        → IsOpenedAt ops p left → IsOpenedAt ops q right → IsOpenedAt ops place opened) }
+{
+    if left.over && right.over {
+        drop((left, right));
+        return Ok(over_at(place));
+    }
+    let (left_over, right_over) = (left.over, right.over);
+    let (left, right) = new_boxes(alloc, left.frame, right.frame)?;
+    let frame = Frame::Par(left_over, left, right_over, right);
+    Ok(Opened { over: false, frame })
 }

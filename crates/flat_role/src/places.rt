@@ -1,8 +1,13 @@
-//! What the process at a place of the code offers, and which of its parts does an act.
+//! What the process at a place of the code offers, and whether it does an act. Each walk says on
+//! its way whether anything is left to do, so that no part is asked for that beside it.
 
-ghost use Rattle.std.specs.Prelude.{◌≡◌, ◌<◌, ◌++◌, IfSome, OnOk, length, option_map};
+ghost use Rattle.std.specs.Prelude.{◌≡◌, ◌<◌, ◌++◌, ◌&&◌, not, List, true, false, IfOk, OnOk, length};
+ghost use Rattle.std.specs.Option.{is_some};
+ghost use Rattle.dioc_terms.specs.Processes.{Process};
 ghost use Rattle.dpoc_process.specs.Acting.{acting};
-ghost use Rattle.flat_code.specs.Places.{at, processes};
+ghost use Rattle.flat_code.specs.Places.{at, op_process, processes};
+ghost use Rattle.flat_role.specs.Growths.{is_single_op};
+ghost use Rattle.flat_role.specs.Stances.{is_acting, is_over};
 ghost use Rattle.process_steps.specs.Steps.{ended, offers};
 
 use crate::parts::{add_offer, does};
@@ -10,75 +15,122 @@ use dioc_terms::{Act, Memory, Messages, Role};
 use flat_code::{Code, Op};
 use std::alloc::Global;
 
+/// What a part is to an act.
+#[derive(Clone, Copy)]
+pub(crate) enum Stance {
+    /// Nothing is left to do.
+    Over,
+    /// It doesn't offer the act.
+    Apart,
+    /// It offers the act.
+    Acts,
+}
+
 /// Whether nothing is left to do at a place.
 pub(crate) fn is_ended_at(code: &Code, place: usize) -> bool
     requires { place < length code.now.ops.items }
     ensures { result ≡ ended (at (processes code.now.ops.items) place) }
 {
     match code.op_at(place) {
-        Op::Skip => true,
         Op::Seq {
             first: left,
             second: right,
         }
         | Op::Par { left, right } => is_ended_at(code, *left) && is_ended_at(code, *right),
+        single => is_ended_op(single),
+    }
+}
+
+/// Whether nothing is left to do of an op.
+pub(crate) fn is_ended_op(op: &Op) -> bool
+    requires { is_single_op op.now ≡ true }
+    ensures { (done : List Process) → result ≡ ended (op_process done op.now) }
+{
+    match op {
+        Op::Skip => true,
         Op::Tell { messages } => matches!(messages, Messages::Nothing),
         Op::Gather { keys } => keys.is_empty(),
         _ => false,
     }
 }
 
-/// Adds the acts that the process at a place offers, from left to right.
+/// Adds the acts that the process at a place offers, from left to right. The answer is whether
+/// nothing is left to do there.
+#[tactic(auto, using(crate::proofs::FrameLemmas::second_offered))]
 pub(crate) fn add_offers_at(
     alloc: Global,
     me: &Role,
     code: &Code,
     place: usize,
     acts: &mut Vec<Act>,
-) -> Result<(), Memory>
+) -> Result<bool, Memory>
     requires { place < length code.now.ops.items }
-    ensures { OnOk result (acts.new.items
+    ensures offers { OnOk result (acts.new.items
         ≡ acts.old.items ++ offers me.now (at (processes code.now.ops.items) place)) }
+    ensures over { IfOk result (λ over.
+        over ≡ ended (at (processes code.now.ops.items) place)) }
 {
     match code.op_at(place) {
         Op::Seq { first, second } => {
-            if is_ended_at(code, *first) {
+            if add_offers_at(alloc, me, code, *first, acts)? {
                 return add_offers_at(alloc, me, code, *second, acts);
             }
-            add_offers_at(alloc, me, code, *first, acts)
+            Ok(false)
         }
         Op::Par { left, right } => {
-            add_offers_at(alloc, me, code, *left, acts)?;
-            add_offers_at(alloc, me, code, *right, acts)
+            let left_over = add_offers_at(alloc, me, code, *left, acts)?;
+            let right_over = add_offers_at(alloc, me, code, *right, acts)?;
+            Ok(left_over && right_over)
         }
-        single => add_offer(alloc, me, single, acts),
+        single => {
+            add_offer(alloc, me, single, acts)?;
+            Ok(is_ended_op(single))
+        }
     }
 }
 
-/// The place of the part that does the act, neither a sequence nor a parallel, of the process at a
-/// place.
-pub(crate) fn find_at(me: &Role, act: &Act, code: &Code, place: usize) -> Option<usize>
+/// What the process at a place is to an act.
+#[tactic(auto, using(crate::proofs::FrameLemmas::acts_unended))]
+pub(crate) fn stance_at(me: &Role, act: &Act, code: &Code, place: usize) -> Stance
     requires { place < length code.now.ops.items }
-    ensures found { option_map (at (processes code.now.ops.items)) result
-        ≡ acting me.now act.now (at (processes code.now.ops.items) place) }
-    ensures inside { IfSome result (λ found. found < length code.now.ops.items) }
+    ensures over { is_over result ≡ ended (at (processes code.now.ops.items) place) }
+    ensures acts { is_acting result
+        ≡ is_some (acting me.now act.now (at (processes code.now.ops.items) place)) }
 {
     match code.op_at(place) {
-        Op::Seq { first, second } => {
-            if is_ended_at(code, *first) {
-                return find_at(me, act, code, *second);
-            }
-            find_at(me, act, code, *first)
-        }
-        Op::Par { left, right } => match find_at(me, act, code, *left) {
-            Some(found) => Some(found),
-            None => find_at(me, act, code, *right),
+        Op::Seq { first, second } => match stance_at(me, act, code, *first) {
+            Stance::Over => stance_at(me, act, code, *second),
+            stance => stance,
         },
-        single => {
-            if does(me, act, single) {
-                return Some(place);
-            }
-            None
-        }
+        Op::Par { left, right } => match stance_at(me, act, code, *left) {
+            Stance::Over => stance_at(me, act, code, *right),
+            Stance::Apart => beside(stance_at(me, act, code, *right)),
+            Stance::Acts => Stance::Acts,
+        },
+        single => stance_of(is_ended_op(single), does(me, act, single)),
+    }
+}
+
+/// What a parallel is to an act, by what its right part is, where the left one isn't over and
+/// doesn't offer the act.
+pub(crate) fn beside(right: Stance) -> Stance
+    ensures over { is_over result ≡ false }
+    ensures acts { is_acting result ≡ is_acting right }
+{
+    match right {
+        Stance::Acts => Stance::Acts,
+        _ => Stance::Apart,
+    }
+}
+
+/// What a part is to an act, by whether nothing is left of it to do, and whether it offers the act.
+pub(crate) fn stance_of(over: bool, acts: bool) -> Stance
+    ensures over { is_over result ≡ over }
+    ensures acts { is_acting result ≡ (not over && acts) }
+{
+    match (over, acts) {
+        (true, _) => Stance::Over,
+        (false, true) => Stance::Acts,
+        (false, false) => Stance::Apart,
     }
 }

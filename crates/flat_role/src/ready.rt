@@ -151,5 +151,5 @@ pub(crate) fn advance(
     let Ready { growth, write, .. } = ready;
     let (value, got) = split(got);
     apply(store, write, value);
-    replace(me, act, code, frame, grown(code, growth, got));
+    let _over = replace(me, act, code, frame, grown(code, growth, got));
 }

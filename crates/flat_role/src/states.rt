@@ -64,13 +64,13 @@ impl Runs for FlatRole {
 
     fn acts(&self, alloc: Global) -> Result<Vec<Act>, Memory> {
         let mut acts = Vec::new(alloc);
-        add_offers(alloc, &self.role, &self.code, &self.frame, &mut acts)?;
+        let _over = add_offers(alloc, &self.role, &self.code, &self.frame, &mut acts)?;
         Ok(acts)
     }
 
     fn prepare(&mut self, alloc: Global, act: &Act) -> Result<Prepared, PrepareFault> {
         clear(&mut self.ready);
-        if !can_act(&self.role, act, &self.code, false, &self.frame) {
+        if !can_act(&self.role, act, &self.code, &self.frame) {
             return Err(PrepareFault::NoAct);
         }
         settle(alloc, &mut self.code, &mut self.frame)?;

@@ -10,8 +10,8 @@ use Rattle.flat_role.specs.declared.frames.Frame.{the_lemmas}
 use Rattle.flat_role.specs.Frames.{frame_process, is_open, is_placed, marked_over}
 use Rattle.flat_role.proofs.changes.+replace.Goals as goal
 
-pub replace-requires-then-can_act : goal.replace-requires-then-can_act
-replace-requires-then-can_act t c =
+pub replace-requires-then-does_act : goal.replace-requires-then-does_act
+replace-requires-then-does_act t c =
     let n = length c.args.code.now.ops.items in
     let done : List Process = processes c.args.code.now.ops.items in
     let me = c.args.me.now in
@@ -20,13 +20,13 @@ replace-requires-then-can_act t c =
     let G = c.in-Par.right.value in
     let placed = rw c.in-Par.is at c.requires.placed in
     let opened = rw c.in-Par.is at c.requires.opened in
-    let is = c.deref_mut-then-can_act.ensures.value in
-    let acts = sym c.can_act.ensures ∙ c.if-can_act.true in
+    let is = c.deref_mut-then-does_act.ensures.value in
+    let acts = sym c.does_act.ensures ∙ c.if-does_act.true in
     let left = acts_left done me a c.in-Par.left_over F
     (and_parts (c.in-Par.left_over || is_open done F) (c.in-Par.right_over || is_open done G)
     opened).0
     (ap (λ X. is_some (acting me a (marked_over c.in-Par.left_over (frame_process done X))))
-    (sym c.deref-in-Par.ensures) ∙ acts) in (
+    (sym c.deref.ensures) ∙ acts) in (
       search (rules, the_lemmas),
       (
         ap (is_placed n) is ∙ (and_parts (is_placed n F) (is_placed n G) placed).0,
@@ -53,7 +53,7 @@ replace-requires-in-Par t c =
     let acts = rw c.in-Par.is at c.requires.acts in
     let is = c.deref_mut-in-Par.ensures.value in
     let none = ap (λ X. is_some (acting me a (marked_over c.in-Par.left_over (frame_process done X))))
-    (sym c.deref-in-Par.ensures) ∙ sym c.can_act.ensures ∙ c.if-can_act.false in
+    (sym c.deref.ensures) ∙ sym c.does_act.ensures ∙ c.if-does_act.false in
     let right = acts_right done me a (marked_over c.in-Par.left_over (frame_process done F))
     c.in-Par.right_over G
     (and_parts (c.in-Par.left_over || is_open done F) (c.in-Par.right_over || is_open done G)

@@ -11,7 +11,7 @@ use Rattle.flat_role.proofs.ready.advance.Goals as goal
 pub returns-clause-changed : goal.returns-clause-changed
 returns-clause-changed c =
     let done : List Process = processes c.args.code.now.ops.items in
-    c.replace.ensures.replaced
+    c.replace-over.ensures.replaced
     ∙ ap (replaced c.args.me.now c.args.act.now (frame_process done c.args.frame.now))
     (c.grown.ensures.change
     ∙ grown_alike done c.args.ready.growth (handed c.split-value.result.1) (handed c.args.got)

@@ -10,6 +10,7 @@ use Rattle.dpoc_process.specs.Acting.{acting}
 use Rattle.dpoc_process.specs.declared.runs.PrepareFault.{PrepareFault}
 use Rattle.dpoc_process.specs.declared.runs.PrepareFault.TheVariants.{Memory as no_memory, NoAct}
 use Rattle.flat_code.specs.Places.{processes}
+use Rattle.flat_role.proofs.FrameLemmas.{acts_goes_on}
 use Rattle.flat_role.specs.FlatStates.{frames_of}
 use Rattle.flat_role.specs.Frames.{frame_process}
 use Rattle.flat_role.specs.ReadyParts.{IsMade}
@@ -24,6 +25,11 @@ returns-then-not-can_act-clause-no_act c =
     let none : is_offered a (offers me P) ≡ false = sym (acting-offered me a P)
     ∙ sym c.can_act.ensures ∙ c.if-not-can_act.true in
     (λ fault. none, λ none. refl)
+
+pub settle-requires-clause-goes_on : goal.settle-requires-clause-goes_on
+settle-requires-clause-goes_on c =
+    acts_goes_on c.args.self.now.role c.args.act.now (frames_of c.args.self.now)
+    (sym c.can_act.ensures ∙ c.if-not-can_act.false)
 
 -- no error is of two kinds
 never_both : {T : Type 0} (r : Result T PrepareFault) → IsErrAnd r (λ e. e ≡ no_memory)
