@@ -135,15 +135,16 @@ pub record EndsAt (text : List Lexeme) (place : ℕ) : Type 0 where
   pub begins : FindsVersion text version at
   pub ends : EndsBehind version text at place
 
+-- the place that was found, or else this one
+abbrev pub found_or : Option ℕ → ℕ → ℕ
+found_or (Some first) place = first
+found_or None place = place
+
 -- The token of a text that a fault names: the first one that may not stand there, or the end where
 -- more is wanted. Where each token may stand, brackets or depths pass a limit, or there are too
 -- many sessions; then it is the place at which the reading ended.
-abbrev pub or_else : Option ℕ → ℕ → ℕ
-or_else (Some first) place = first
-or_else None place = place
-
 abbrev pub named_place : Goal → List Lexeme → ℕ → ℕ
-named_place whole text place = or_else (unwanted whole text) place
+named_place whole text place = found_or (unwanted whole text) place
 
 -- A fault names this byte of a text that spells no bundle: that of the limit of a text which is too
 -- long, the first that is in no token, or the first of a token, or the end of the text.

@@ -6,7 +6,7 @@ ghost use Rattle.dpoc_process.specs.Acting.{acting};
 ghost use Rattle.flat_code.specs.Places.{at, processes};
 ghost use Rattle.flat_role.specs.Frames.{frame_process, is_open, is_placed, leaves_nothing, marked_over};
 ghost use Rattle.flat_role.specs.Growths.{IsInside, part_process};
-ghost use Rattle.flat_role.specs.Stances.{is_acting, is_over};
+ghost use Rattle.flat_role.specs.Stances.{says_acts, says_over};
 ghost use Rattle.process_steps.specs.Steps.{ended, offers};
 
 use crate::frames::Frame;
@@ -110,9 +110,9 @@ pub(crate) fn can_act(me: &Role, act: &Act, code: &Code, frame: &Frame) -> bool
 #[tactic(auto, using(crate::proofs::FrameLemmas::placed_at, crate::proofs::FrameLemmas::acting_marked, crate::proofs::FrameLemmas::ended_marked, crate::proofs::FrameLemmas::acts_unended))]
 fn stance(me: &Role, act: &Act, code: &Code, over: bool, frame: &Frame) -> Stance
     requires { is_placed (length code.now.ops.items) frame.now ≡ true }
-    ensures over { is_over result
+    ensures over { says_over result
         ≡ ended (marked_over over (frame_process (processes code.now.ops.items) frame.now)) }
-    ensures acts { is_acting result ≡ is_some (acting me.now act.now
+    ensures acts { says_acts result ≡ is_some (acting me.now act.now
         (marked_over over (frame_process (processes code.now.ops.items) frame.now))) }
 {
     if over {

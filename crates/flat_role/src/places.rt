@@ -7,7 +7,7 @@ ghost use Rattle.dioc_terms.specs.Processes.{Process};
 ghost use Rattle.dpoc_process.specs.Acting.{acting};
 ghost use Rattle.flat_code.specs.Places.{at, op_process, processes};
 ghost use Rattle.flat_role.specs.Growths.{is_single_op};
-ghost use Rattle.flat_role.specs.Stances.{is_acting, is_over};
+ghost use Rattle.flat_role.specs.Stances.{says_acts, says_over};
 ghost use Rattle.process_steps.specs.Steps.{ended, offers};
 
 use crate::parts::{add_offer, does};
@@ -93,8 +93,8 @@ pub(crate) fn add_offers_at(
 #[tactic(auto, using(crate::proofs::FrameLemmas::acts_unended))]
 pub(crate) fn stance_at(me: &Role, act: &Act, code: &Code, place: usize) -> Stance
     requires { place < length code.now.ops.items }
-    ensures over { is_over result ≡ ended (at (processes code.now.ops.items) place) }
-    ensures acts { is_acting result
+    ensures over { says_over result ≡ ended (at (processes code.now.ops.items) place) }
+    ensures acts { says_acts result
         ≡ is_some (acting me.now act.now (at (processes code.now.ops.items) place)) }
 {
     match code.op_at(place) {
@@ -114,8 +114,8 @@ pub(crate) fn stance_at(me: &Role, act: &Act, code: &Code, place: usize) -> Stan
 /// What a parallel is to an act, by what its right part is, where the left one isn't over and
 /// doesn't offer the act.
 pub(crate) fn beside(right: Stance) -> Stance
-    ensures over { is_over result ≡ false }
-    ensures acts { is_acting result ≡ is_acting right }
+    ensures over { says_over result ≡ false }
+    ensures acts { says_acts result ≡ says_acts right }
 {
     match right {
         Stance::Acts => Stance::Acts,
@@ -125,8 +125,8 @@ pub(crate) fn beside(right: Stance) -> Stance
 
 /// What a part is to an act, by whether nothing is left of it to do, and whether it offers the act.
 pub(crate) fn stance_of(over: bool, acts: bool) -> Stance
-    ensures over { is_over result ≡ over }
-    ensures acts { is_acting result ≡ (not over && acts) }
+    ensures over { says_over result ≡ over }
+    ensures acts { says_acts result ≡ (not over && acts) }
 {
     match (over, acts) {
         (true, _) => Stance::Over,

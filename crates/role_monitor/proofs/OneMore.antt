@@ -25,7 +25,7 @@ use Rattle.role_monitor.proofs.Keeps.{IsKept, kept_misfits, kept_tells, run_keep
 use Rattle.role_monitor.specs.declared.monitor.Monitor.{Monitor}
 use Rattle.role_monitor.specs.declared.updates.Update.{Update}
 use Rattle.role_monitor.specs.Judging.{Believes, HoldsMail, HoldsScript, KeepsOwn, MisfitsStay, RefusesOwn, RulesInCast, SameMessages, monitor_state}
-use Rattle.role_monitor.specs.Monitoring.{MonitorState, change_seen, is_own, judged_by, mon, mon_run, mon_start, others_entry, own_entries, own_entry}
+use Rattle.role_monitor.specs.Monitoring.{MonitorState, change_noted, is_own, judged_by, mon, mon_run, mon_start, others_entry, own_entries, own_entry}
 use Rattle.role_monitor.specs.Monitors.{HasRead, Shows}
 use Rattle.role_network.specs.Scopes.{Tells}
 use Rattle.rule_book.specs.KeptBooks.{book_of}
@@ -112,7 +112,7 @@ module _ (b : PlainBundle) (r : Role) (old : Monitor) (es : List Entry) (read : 
   -- a change was read
   pub read_change : doer e ≡ None → (new : Monitor)
       → ((s : LocalState) (pending : List (Key × Load)) (us : List Update)
-      → change_seen (setting b) (monitor_state s pending (book_of old.book) old.changes us) e ≡ monitor_state s pending (book_of new.book) new.changes us)
+      → change_noted (setting b) (monitor_state s pending (book_of old.book) old.changes us) e ≡ monitor_state s pending (book_of new.book) new.changes us)
       → HoldsScript b new.book new.changes
       → new.bundle.now ≡ old.bundle.now → new.role.now ≡ old.role.now → new.state ≡ old.state → new.mail ≡ old.mail → new.updates ≡ old.updates
       → new.fed ≡ old.fed + 1 → new.judged ≡ old.judged → HasRead b r new (es ++ e ∷ [])
@@ -120,7 +120,7 @@ module _ (b : PlainBundle) (r : Role) (old : Monitor) (es : List Entry) (read : 
       let N = monitor_state (local_of old.state) M.mail (book_of new.book) new.changes old.updates.items in
       read_next new N
       (ap (λ o. judged_by (setting b) M e o (act_of e)) nobody
-      ∙ ap (λ X. Some (change_seen (setting b) X e)) (sym (state_is b old M read.shows))
+      ∙ ap (λ X. Some (change_noted (setting b) X e)) (sym (state_is b old M read.shows))
       ∙ ap Some (seen (local_of old.state) M.mail old.updates.items))
       (record {
         local = ap local_of state;

@@ -21,7 +21,7 @@ use Rattle.dpoc_process.specs.LocalStates.{LocalState}
 use Rattle.global_steps.specs.Follow.{shows}
 use Rattle.role_mailbox.specs.declared.mail.Mail.{Mail}
 use Rattle.role_monitor.specs.Judging.{Believes, HoldsMail, HoldsScript, monitor_state}
-use Rattle.role_monitor.specs.Monitoring.{change_outcome, change_seen, heard_update, mail_with_some, noted_load, received, with_change, with_update}
+use Rattle.role_monitor.specs.Monitoring.{change_outcome, change_noted, heard_update, mail_with_some, noted_load, received, with_change, with_update}
 use Rattle.role_monitor.specs.declared.updates.Update.{Update}
 use Rattle.rule_book.specs.declared.book.Book.{Book as KeptBook}
 use Rattle.rule_book.specs.KeptBooks.{coming, IsBookOf}
@@ -54,19 +54,19 @@ goes_on b old new count script of next = record {
 
 module _ (b : Setting) (e : Entry) (s : LocalState) (pending : List (Key × Load)) (us : List Update) (count : ℕ) where
   pub seen_made : (timed : Timed) (old new : Book) → slice_get b.script count ≡ Some timed → shows b.rules e timed.change ≡ true → new ≡ apply b.rules old timed.change
-      → change_seen b (monitor_state s pending old count us) e ≡ monitor_state s pending new (count + 1) us
+      → change_noted b (monitor_state s pending old count us) e ≡ monitor_state s pending new (count + 1) us
   seen_made timed old new at shown applied =
       let M = monitor_state s pending old count us in
       ap (change_outcome b M e) at ∙ cond-true (shows b.rules e timed.change) (with_change b M timed) M shown
       ∙ ap₂ (λ book n. monitor_state s pending book n us) (sym applied) (sym (add-one count))
 
   pub seen_other : (timed : Timed) (book : Book) → slice_get b.script count ≡ Some timed → shows b.rules e timed.change ≡ false
-      → change_seen b (monitor_state s pending book count us) e ≡ monitor_state s pending book count us
+      → change_noted b (monitor_state s pending book count us) e ≡ monitor_state s pending book count us
   seen_other timed book at shown =
       let M = monitor_state s pending book count us in
       ap (change_outcome b M e) at ∙ cond-false (shows b.rules e timed.change) (with_change b M timed) M shown
 
-  pub seen_none : (book : Book) → slice_get b.script count ≡ None → change_seen b (monitor_state s pending book count us) e ≡ monitor_state s pending book count us
+  pub seen_none : (book : Book) → slice_get b.script count ≡ None → change_noted b (monitor_state s pending book count us) e ≡ monitor_state s pending book count us
   seen_none book at = ap (change_outcome b (monitor_state s pending book count us) e) at
 
 module _ (b : Setting) (me : Role) (mail : Mail) (book : Book) (us : List Update) where

@@ -172,14 +172,14 @@ change_outcome b M e (Some timed) =
     if shows b.rules e timed.change then with_change b M timed else M
 
 -- a change that is the script's next; every other one changes nothing
-abbrev pub change_seen : Setting → MonitorState → Entry → MonitorState
-change_seen b M e = change_outcome b M e (slice_get b.script M.changes)
+abbrev pub change_noted : Setting → MonitorState → Entry → MonitorState
+change_noted b M e = change_outcome b M e (slice_get b.script M.changes)
 
 abbrev pub judged_by : Setting → MonitorState → Entry → Option Role → Option Act
     → Option MonitorState
 judged_by b M e (Some q) (Some a) =
     if role_eq q M.local.role then own_entry b M e a else Some (others_entry b M e)
-judged_by b M e _ _ = Some (change_seen b M e)
+judged_by b M e _ _ = Some (change_noted b M e)
 
 -- The monitor after an entry. It is undefined where the entry is the role's own and isn't a step
 -- of it: there the role deviates.

@@ -10,7 +10,7 @@ ghost use Rattle.dpoc_process.specs.LocalStates.{LocalState};
 ghost use Rattle.global_steps.specs.Follow.{shows};
 ghost use Rattle.role_monitor.specs.declared.updates.Update.{Update as OneUpdate};
 ghost use Rattle.role_monitor.specs.Judging.{HoldsScript, monitor_state};
-ghost use Rattle.role_monitor.specs.Monitoring.{change_seen};
+ghost use Rattle.role_monitor.specs.Monitoring.{change_noted};
 ghost use Rattle.rule_book.specs.KeptBooks.{book_of};
 
 use dioc_terms::{Bundle, Change, Entry, Name, Rule, Value};
@@ -21,7 +21,7 @@ use rule_book::Book;
 pub(crate) fn see_change(bundle: &Bundle, changes: &mut usize, book: &mut Book, entry: &Entry)
     requires { HoldsScript (plain bundle.now) book.old changes.old }
     ensures seen { (s : LocalState) (pending : List (OneKey × Load)) (us : List OneUpdate)
-        → change_seen (setting (plain bundle.now))
+        → change_noted (setting (plain bundle.now))
         (monitor_state s pending (book_of book.old) changes.old us) entry.now
         ≡ monitor_state s pending (book_of book.new) changes.new us }
     ensures script { HoldsScript (plain bundle.now) book.new changes.new }

@@ -6,7 +6,7 @@ use Rattle.dioc_terms.specs.Processes.{Load}
 use Rattle.dpoc_process.specs.LocalStates.{LocalState}
 use Rattle.role_monitor.specs.declared.updates.Update.{Update}
 use Rattle.role_monitor.specs.Judging.{HoldsScript, monitor_state}
-use Rattle.role_monitor.specs.Monitoring.{change_seen}
+use Rattle.role_monitor.specs.Monitoring.{change_noted}
 use Rattle.rule_book.specs.KeptBooks.{book_of}
 use Rattle.role_monitor.proofs.OneMore.{fed_fits, read_change}
 use Rattle.role_monitor.proofs.monitor.Monitor.see.Goals as goal
@@ -23,7 +23,7 @@ pub returns : goal.returns
 returns c = λ b r entries read.
     read_change b r c.args.self.now entries read c.args.entry.now c.requires.change _
     (subst (λ (x : PlainBundle). (s : LocalState) (pending : List (Key × Load)) (us : List Update)
-    → change_seen (setting x) (monitor_state s pending (book_of c.args.self.now.book) c.args.self.now.changes us) c.args.entry.now
+    → change_noted (setting x) (monitor_state s pending (book_of c.args.self.now.book) c.args.self.now.changes us) c.args.entry.now
     ≡ monitor_state s pending (book_of c.see_change.new.book) c.see_change.new.changes us) read.bundle c.see_change.ensures.seen)
     (subst (λ x. HoldsScript x c.see_change.new.book c.see_change.new.changes) read.bundle c.see_change.ensures.script)
     refl refl refl refl refl refl refl
