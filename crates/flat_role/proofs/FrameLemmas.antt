@@ -11,9 +11,11 @@ use Rattle.dpoc_process.specs.Acting.{acting}
 use Rattle.dpoc_process.specs.Changes.{Change, changed, replaced, rest_of}
 use Rattle.flat_code.proofs.PlaceLemmas.{keeps_at, extends_longer, extends_itself, extends_through}
 use Rattle.flat_code.specs.declared.ops.Op.{Op}
-use Rattle.flat_code.specs.Places.{Extends, IsProcessAt, at, processes}
+use Rattle.flat_code.specs.declared.ops.Op.TheVariants as op
+use Rattle.flat_code.specs.Places.{Extends, IsProcessAt, at, op_process, processes}
 use Rattle.flat_role.specs.declared.frames.Frame.{Frame}
 use Rattle.flat_role.specs.declared.frames.Frame as frame
+use Rattle.flat_role.specs.Growths.{is_single_op}
 use Rattle.flat_role.specs.Frames.{marked_over, frame_process, is_open, is_placed, leaves_nothing}
 use Rattle.process_steps.specs.Steps.{ended, after, offers, is_offered}
 
@@ -183,6 +185,19 @@ first_there (Some y) p h = inl (refl, h)
 under_test : {A : Type 0} (t : Bool) {x y : A} → (if t then Some x else None) ≡ Some y → x ≡ y
 under_test true h = cc
 under_test false h = cc
+
+-- a plain op is neither a sequence nor a parallel, so it does the act itself
+pub plain_is_single : (done : List Process) (o : Op)
+    → leaves_nothing (op_process done o) ≡ true → is_single_op o ≡ true
+plain_is_single done (op.Seq p q) h = cc
+plain_is_single done (op.Par p q) h = cc
+plain_is_single done o h = refl
+
+pub acting_plain : (me : Role) (a : Act) (P : Process) → leaves_nothing P ≡ true
+    → acting me a P ≡ (if is_offered a (offers me P) then Some P else None)
+acting_plain me a (Seq P Q) h = cc
+acting_plain me a (Par P Q) h = cc
+acting_plain me a P h = refl
 
 -- a plain op is changed itself, and nothing is left of it
 pub replaced_plain : (me : Role) (a : Act) (P : Process) (c : Change) → leaves_nothing P ≡ true

@@ -17,7 +17,7 @@ use dpoc_process::offered::{
     add_offers as add_offers_of, find as find_in, gathers, is_ended as has_ended, offer_of_gather,
     offer_of_tell, tells,
 };
-use flat_code::{Code, Op};
+use flat_code::Code;
 use std::alloc::Global;
 
 /// The part of a role that does an act.
@@ -194,6 +194,7 @@ pub(crate) fn does_act(me: &Role, act: &Act, code: &Code, over: bool, frame: &Fr
 }
 
 /// The plain op at a place, if it does the act.
+#[tactic(auto, using(crate::proofs::FrameLemmas::plain_is_single, crate::proofs::FrameLemmas::acting_plain))]
 fn find_op<'a>(me: &Role, act: &Act, code: &Code, place: usize) -> Option<Part<'a>>
     requires inside { place < length code.now.ops.items }
     requires plain { leaves_nothing (at (processes code.now.ops.items) place) ≡ true }
@@ -201,8 +202,8 @@ fn find_op<'a>(me: &Role, act: &Act, code: &Code, place: usize) -> Option<Part<'
         ≡ acting me.now act.now (at (processes code.now.ops.items) place) }
     ensures inside { IfSome result (IsInside (length code.now.ops.items)) }
 {
-    match code.op_at(place) {
-        Op::Seq { .. } | Op::Par { .. } => unreachable!(),
-        single => does(me, act, single).then_some(Part::At(place)),
+    if does(me, act, code.op_at(place)) {
+        return Some(Part::At(place));
     }
+    None
 }
