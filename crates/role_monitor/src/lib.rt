@@ -11,7 +11,6 @@ mod others;
 mod own;
 mod scopes;
 mod script;
-mod starting;
 mod updates;
 
 pub use laws::{kept_traces_are_runs, runs_never_deviate};

@@ -17,4 +17,4 @@ pub use faults::ChangeFault;
 pub use laws::steps_run;
 pub use listing::is_first_due;
 pub use network::Net;
-pub use starting::keep_script;
+pub use starting::{keep_script, opening_state};

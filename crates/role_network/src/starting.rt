@@ -50,14 +50,15 @@ fn add_states<R: Begins>(
         ++ map (local_in (network_start (plain bundle.now))) cast.now) }
 {
     for role in cast {
-        let state = role_state(alloc, bundle, role)?;
+        let state = opening_state(alloc, bundle, role)?;
         states.push(state)?;
     }
     Ok(())
 }
 
-/// One role in its opening state.
-fn role_state<R: Begins>(alloc: Global, bundle: &Bundle, role: &Role) -> Result<R, Memory>
+/// A role before its first act, with its projection and its inputs. Each role of the choreography
+/// is in the cast, which a formed bundle knows.
+pub fn opening_state<R: Begins>(alloc: Global, bundle: &Bundle, role: &Role) -> Result<R, Memory>
     requires { (q : OneRole) → is_in q (term bundle.now.choreo) ≡ true
         → member q bundle.now.cast ≡ true }
     ensures { IfOk result (λ state. R.local state

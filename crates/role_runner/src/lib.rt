@@ -8,7 +8,6 @@ mod known;
 mod playing;
 mod runs;
 mod scopes;
-mod starting;
 mod threads;
 
 pub use gates::{Gate, OpenGate, Place};
