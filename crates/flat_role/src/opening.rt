@@ -85,9 +85,13 @@ fn open_live(alloc: Global, code: &Code, over: bool, frame: &mut Frame) -> Resul
     }
     match frame {
         Frame::At(place) => {
-            let opened = opened_at(alloc, code, *place)?;
-            put(frame, opened.frame);
-            Ok(opened.over)
+            let place = *place;
+            match code.op_at(place) {
+                Op::Seq { .. } | Op::Par { .. } | Op::Tell { .. } | Op::Gather { .. } => {
+                    open_place(alloc, code, place, frame)
+                }
+                plain => Ok(is_ended_op(plain)),
+            }
         }
         Frame::Arrived(_) => unreachable!(),
         Frame::Seq(first_over, first, second) => {
@@ -104,6 +108,26 @@ fn open_live(alloc: Global, code: &Code, over: bool, frame: &mut Frame) -> Resul
         }
         leaf => Ok(is_ended(code, leaf)),
     }
+}
+
+/// Puts what a place of the code is opened as in the place of its frame.
+// (Apart, since a walk over many plain ops would make room for it at each of them.)
+#[inline(never)]
+#[tactic(auto, using(crate::proofs::FrameLemmas::placed_at))]
+fn open_place(alloc: Global, code: &Code, place: usize, frame: &mut Frame) -> Result<bool, Memory>
+    requires inside { place < length code.now.ops.items }
+    requires is { frame.old ≡ frames.At place }
+    ensures same { frame_process (processes code.now.ops.items) frame.new
+        ≡ at (processes code.now.ops.items) place }
+    ensures placed { is_placed (length code.now.ops.items) frame.new ≡ true }
+    ensures over { IfOk result (λ over.
+        over ≡ ended (frame_process (processes code.now.ops.items) frame.new)) }
+    ensures opened { IfOk result (λ over.
+        (over || is_open (processes code.now.ops.items) frame.new) ≡ true) }
+{
+    let opened = opened_at(alloc, code, place)?;
+    put(frame, opened.frame);
+    Ok(opened.over)
 }
 
 /// What a place of the code is opened as.
