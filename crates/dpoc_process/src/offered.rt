@@ -105,27 +105,15 @@ fn offer(alloc: Global, me: &Role, single: &Proc) -> Result<Option<Act>, Memory>
             let key = operation(alloc, from, me, *index, op)?;
             Ok(Some(Act::Take(key)))
         }
-        Proc::IfFollow { index, leader, .. } => offer_of_take(
-            alloc,
-            leader,
-            me,
-            *index,
-            Tag::Choice,
-        ),
-        Proc::WhileFollow { index, leader, .. } => offer_of_take(
-            alloc,
-            leader,
-            me,
-            *index,
-            Tag::Go,
-        ),
-        Proc::ScopeFollow { index, leader, .. } => offer_of_take(
-            alloc,
-            leader,
-            me,
-            *index,
-            Tag::Begin,
-        ),
+        Proc::IfFollow { index, leader, .. } => {
+            offer_of_take(alloc, leader, me, *index, Tag::Choice)
+        }
+        Proc::WhileFollow { index, leader, .. } => {
+            offer_of_take(alloc, leader, me, *index, Tag::Go)
+        }
+        Proc::ScopeFollow { index, leader, .. } => {
+            offer_of_take(alloc, leader, me, *index, Tag::Begin)
+        }
         Proc::Tell { messages } => offer_of_tell(alloc, me, messages),
         Proc::Gather { keys } => offer_of_gather(alloc, me, keys.as_slice()),
         _ => Ok(None),

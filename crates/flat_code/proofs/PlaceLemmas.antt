@@ -1,5 +1,5 @@
 -- The processes of ops, as more ops come behind them.
-use Rattle.std.proofs.Common.{◌≡◌, ◌<◌, ◌≤◌, ℕ, zero, suc, ◌+◌, List, [], ◌∷◌, ◌++◌, Bool, true, ◌&&◌, get_or, length, refl, sym, ap, ap₂, ◌∙◌, subst, nat_lt, take, arith}
+use Rattle.std.proofs.Common.{◌≡◌, ◌<◌, ◌≤◌, ℕ, zero, suc, ◌+◌, List, [], ◌∷◌, ◌++◌, true, get_or, length, refl, sym, ap, ap₂, ◌∙◌, subst, nat_lt, take, arith}
 use Rattle.std.specs.List.{list_all}
 use Rattle.std.proofs.lemmas.Bool.{and_parts, and_from, ltb-true, lt-ltb}
 use Rattle.std.proofs.lemmas.List.{append_assoc, append-nil, get_or_append_left, length_push, get_or_push, length-append, take_at}

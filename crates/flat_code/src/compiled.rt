@@ -3,14 +3,11 @@
 ghost use Rattle.std.specs.Prelude.{◌≡◌, true, length, IfOk, OnErr};
 ghost use Rattle.dioc_terms.specs.Processes.{process};
 ghost use Rattle.flat_code.specs.Codes.{process_of};
-ghost use Rattle.flat_code.specs.Parts.{first_of, has_two, second_of};
+ghost use Rattle.flat_code.specs.Parts.{body_of, first_of, has_body, has_two, second_of};
 ghost use Rattle.flat_code.specs.Places.{AreBelow, Extends, IsProcessAt, are_placed, op_process, part_places, processes};
 
 use crate::code::Code;
-use crate::forms::{
-    assign, follow_choice, follow_loop, follow_scope, gather, lead_choice, lead_loop, lead_scope,
-    read, receive, send, tell,
-};
+use crate::forms::{around, follow_choice, lead_choice, plain_op};
 use crate::ops::Op;
 use dioc_terms::{Memory, Proc};
 use std::alloc::Global;
@@ -47,7 +44,7 @@ pub fn link(alloc: Global, code: &mut Code, proc: &Proc) -> Result<usize, Memory
 
 /// Appends the ops of a process, its parts first, and gives the place of the whole.
 #[cycle(compiled)]
-#[tactic(auto, using(crate::proofs::PlaceLemmas::extends_through))]
+#[tactic(auto, using(crate::proofs::PlaceLemmas::extends_through, crate::proofs::PartLemmas::is_own_body))]
 fn add(alloc: Global, proc: &Proc, ops: &mut Vec<Op>) -> Result<usize, Memory>
     requires placed { are_placed 0 ops.old.items ≡ true }
     ensures placed { are_placed 0 ops.new.items ≡ true }
@@ -55,21 +52,6 @@ fn add(alloc: Global, proc: &Proc, ops: &mut Vec<Op>) -> Result<usize, Memory>
     ensures stands { IfOk result (λ place. IsProcessAt ops.new.items place (process proc.now)) }
 {
     match proc {
-        Proc::Skip => push(ops, Op::Skip),
-        Proc::Send {
-            index,
-            op,
-            to,
-            expr,
-        } => push(ops, send(alloc, *index, op, to, expr)?),
-        Proc::Recv {
-            index,
-            op,
-            from,
-            var,
-        } => push(ops, receive(alloc, *index, op, from, var)?),
-        Proc::Assign { index, var, expr } => push(ops, assign(alloc, *index, var, expr)?),
-        Proc::Read { index, var } => push(ops, read(alloc, *index, var)?),
         Proc::Seq(..) => {
             let (first, second) = add_two(alloc, proc, ops)?;
             push(ops, Op::Seq { first, second })
@@ -91,37 +73,14 @@ fn add(alloc: Global, proc: &Proc, ops: &mut Vec<Op>) -> Result<usize, Memory>
             let branches = add_two(alloc, proc, ops)?;
             push(ops, follow_choice(alloc, *index, leader, branches)?)
         }
-        Proc::WhileLead {
-            index,
-            guard,
-            others,
-            body,
-        } => {
-            let body = add(alloc, body, ops)?;
-            push(ops, lead_loop(alloc, *index, guard, others, body)?)
+        Proc::WhileLead { .. }
+        | Proc::WhileFollow { .. }
+        | Proc::ScopeLead { .. }
+        | Proc::ScopeFollow { .. } => {
+            let body = add_body(alloc, proc, ops)?;
+            push(ops, around(alloc, proc, body)?)
         }
-        Proc::WhileFollow {
-            index,
-            leader,
-            body,
-        } => {
-            let body = add(alloc, body, ops)?;
-            push(ops, follow_loop(alloc, *index, leader, body)?)
-        }
-        Proc::ScopeLead { head, others, body } => {
-            let body = add(alloc, body, ops)?;
-            push(ops, lead_scope(alloc, head, others, body)?)
-        }
-        Proc::ScopeFollow {
-            index,
-            leader,
-            body,
-        } => {
-            let body = add(alloc, body, ops)?;
-            push(ops, follow_scope(alloc, *index, leader, body)?)
-        }
-        Proc::Tell { messages } => push(ops, tell(alloc, messages)?),
-        Proc::Gather { keys } => push(ops, gather(alloc, keys)?),
+        plain => push(ops, plain_op(alloc, plain)?),
     }
 }
 
@@ -155,6 +114,25 @@ fn add_two(alloc: Global, whole: &Proc, ops: &mut Vec<Op>) -> Result<(usize, usi
             let second = add(alloc, second, ops)?;
             Ok((first, second))
         }
+        _ => unreachable!(),
+    }
+}
+
+/// Appends the ops of the body of a process, and gives its place.
+#[cycle(compiled)]
+fn add_body(alloc: Global, whole: &Proc, ops: &mut Vec<Op>) -> Result<usize, Memory>
+    requires one { has_body (process whole.now) ≡ true }
+    requires placed { are_placed 0 ops.old.items ≡ true }
+    ensures placed { are_placed 0 ops.new.items ≡ true }
+    ensures appended { Extends ops.old.items ops.new.items }
+    ensures body { IfOk result (λ place.
+        IsProcessAt ops.new.items place (body_of (process whole.now))) }
+{
+    match whole {
+        Proc::WhileLead { body, .. }
+        | Proc::WhileFollow { body, .. }
+        | Proc::ScopeLead { body, .. }
+        | Proc::ScopeFollow { body, .. } => add(alloc, body, ops),
         _ => unreachable!(),
     }
 }

@@ -1,22 +1,65 @@
 //! The forms of an op, each made of copies of what it names.
 
-ghost use Rattle.std.specs.Prelude.{◌≡◌, ◌∷◌, [], IfOk};
+ghost use Rattle.std.specs.Prelude.{◌≡◌, ◌∷◌, [], true, false, IfOk};
 ghost use Rattle.dioc_terms.specs.Expressions.{expression};
-ghost use Rattle.dioc_terms.specs.Processes.{Send, Recv, Assign, Read, IfLead, IfFollow, WhileLead, WhileFollow, ScopeLead, ScopeFollow, Tell, Gather, letters};
+ghost use Rattle.dioc_terms.specs.Processes.{Send, Recv, Assign, Read, IfLead, IfFollow, WhileLead, WhileFollow, ScopeLead, ScopeFollow, Tell, Gather, letters, process};
+ghost use Rattle.flat_code.specs.Parts.{has_body, has_two, with_body};
 ghost use Rattle.flat_code.specs.Places.{IsForm, at};
 
 use crate::ops::Op;
-use dioc_terms::{Expr, Index, Keys, Memory, Messages, Name, Role, Roles, ScopeHead};
+use dioc_terms::{Expr, Index, Keys, Memory, Messages, Name, Proc, Role, Roles, ScopeHead};
 use std::alloc::Global;
 
+/// The op of a process that has no parts.
+pub(crate) fn plain_op(alloc: Global, proc: &Proc) -> Result<Op, Memory>
+    requires no_parts { has_two (process proc.now) ≡ false }
+    requires no_body { has_body (process proc.now) ≡ false }
+    ensures { IfOk result (λ form. IsForm form [] (λ done. process proc.now)) }
+{
+    match proc {
+        Proc::Skip => Ok(Op::Skip),
+        Proc::Send {
+            index,
+            op,
+            to,
+            expr,
+        } => send(alloc, *index, op, to, expr),
+        Proc::Recv {
+            index,
+            op,
+            from,
+            var,
+        } => receive(alloc, *index, op, from, var),
+        Proc::Assign { index, var, expr } => assign(alloc, *index, var, expr),
+        Proc::Read { index, var } => read(alloc, *index, var),
+        Proc::Tell { messages } => tell(alloc, messages),
+        Proc::Gather { keys } => gather(alloc, keys),
+        _ => unreachable!(),
+    }
+}
+
+/// The op of a loop or of a scope whose body stands at a place.
+pub(crate) fn around(alloc: Global, whole: &Proc, body: usize) -> Result<Op, Memory>
+    requires { has_body (process whole.now) ≡ true }
+    ensures { IfOk result (λ form. IsForm form (body ∷ [])
+        (λ done. with_body (process whole.now) (at done body))) }
+{
+    match whole {
+        Proc::WhileLead {
+            index,
+            guard,
+            others,
+            ..
+        } => lead_loop(alloc, *index, guard, others, body),
+        Proc::WhileFollow { index, leader, .. } => follow_loop(alloc, *index, leader, body),
+        Proc::ScopeLead { head, others, .. } => lead_scope(alloc, head, others, body),
+        Proc::ScopeFollow { index, leader, .. } => follow_scope(alloc, *index, leader, body),
+        _ => unreachable!(),
+    }
+}
+
 /// Sends the value of the expression.
-pub(crate) fn send(
-    alloc: Global,
-    index: Index,
-    op: &Name,
-    to: &Role,
-    expr: &Expr,
-) -> Result<Op, Memory>
+fn send(alloc: Global, index: Index, op: &Name, to: &Role, expr: &Expr) -> Result<Op, Memory>
     ensures { IfOk result (λ form.
         IsForm form [] (λ done. Send index op.now to.now (expression expr.now))) }
 {
@@ -29,13 +72,7 @@ pub(crate) fn send(
 }
 
 /// Takes a value into the variable.
-pub(crate) fn receive(
-    alloc: Global,
-    index: Index,
-    op: &Name,
-    from: &Role,
-    var: &Name,
-) -> Result<Op, Memory>
+fn receive(alloc: Global, index: Index, op: &Name, from: &Role, var: &Name) -> Result<Op, Memory>
     ensures { IfOk result (λ form.
         IsForm form [] (λ done. Recv index op.now from.now var.now)) }
 {
@@ -48,7 +85,7 @@ pub(crate) fn receive(
 }
 
 /// Sets the variable to the value of the expression.
-pub(crate) fn assign(alloc: Global, index: Index, var: &Name, expr: &Expr) -> Result<Op, Memory>
+fn assign(alloc: Global, index: Index, var: &Name, expr: &Expr) -> Result<Op, Memory>
     ensures { IfOk result (λ form.
         IsForm form [] (λ done. Assign index var.now (expression expr.now))) }
 {
@@ -60,7 +97,7 @@ pub(crate) fn assign(alloc: Global, index: Index, var: &Name, expr: &Expr) -> Re
 }
 
 /// Sets the variable to the next input.
-pub(crate) fn read(alloc: Global, index: Index, var: &Name) -> Result<Op, Memory>
+fn read(alloc: Global, index: Index, var: &Name) -> Result<Op, Memory>
     ensures { IfOk result (λ form. IsForm form [] (λ done. Read index var.now)) }
 {
     Ok(Op::Read {
@@ -109,7 +146,7 @@ pub(crate) fn follow_choice(
 }
 
 /// Leads a loop whose body stands at a place.
-pub(crate) fn lead_loop(
+fn lead_loop(
     alloc: Global,
     index: Index,
     guard: &Expr,
@@ -128,12 +165,7 @@ pub(crate) fn lead_loop(
 }
 
 /// Follows a loop whose body stands at a place.
-pub(crate) fn follow_loop(
-    alloc: Global,
-    index: Index,
-    leader: &Role,
-    body: usize,
-) -> Result<Op, Memory>
+fn follow_loop(alloc: Global, index: Index, leader: &Role, body: usize) -> Result<Op, Memory>
     ensures { IfOk result (λ form. IsForm form (body ∷ [])
         (λ done. WhileFollow index leader.now (at done body))) }
 {
@@ -145,12 +177,7 @@ pub(crate) fn follow_loop(
 }
 
 /// Leads a scope whose body stands at a place.
-pub(crate) fn lead_scope(
-    alloc: Global,
-    head: &ScopeHead,
-    others: &Roles,
-    body: usize,
-) -> Result<Op, Memory>
+fn lead_scope(alloc: Global, head: &ScopeHead, others: &Roles, body: usize) -> Result<Op, Memory>
     ensures { IfOk result (λ form. IsForm form (body ∷ [])
         (λ done. ScopeLead head.now others.now (at done body))) }
 {
@@ -162,12 +189,7 @@ pub(crate) fn lead_scope(
 }
 
 /// Follows a scope whose body stands at a place.
-pub(crate) fn follow_scope(
-    alloc: Global,
-    index: Index,
-    leader: &Role,
-    body: usize,
-) -> Result<Op, Memory>
+fn follow_scope(alloc: Global, index: Index, leader: &Role, body: usize) -> Result<Op, Memory>
     ensures { IfOk result (λ form. IsForm form (body ∷ [])
         (λ done. ScopeFollow index leader.now (at done body))) }
 {
@@ -179,7 +201,7 @@ pub(crate) fn follow_scope(
 }
 
 /// Sends the messages, one after another.
-pub(crate) fn tell(alloc: Global, messages: &Messages) -> Result<Op, Memory>
+fn tell(alloc: Global, messages: &Messages) -> Result<Op, Memory>
     ensures { IfOk result (λ form. IsForm form [] (λ done. Tell (letters messages.now))) }
 {
     Ok(Op::Tell {
@@ -188,7 +210,7 @@ pub(crate) fn tell(alloc: Global, messages: &Messages) -> Result<Op, Memory>
 }
 
 /// Takes the messages of the keys, one after another.
-pub(crate) fn gather(alloc: Global, keys: &Keys) -> Result<Op, Memory>
+fn gather(alloc: Global, keys: &Keys) -> Result<Op, Memory>
     ensures { IfOk result (λ form. IsForm form [] (λ done. Gather keys.now)) }
 {
     Ok(Op::Gather {
