@@ -1,5 +1,5 @@
 -- Frames: what is known to be over, and what stays as more ops come.
-use Rattle.std.proofs.Common.{◌≡◌, ◌<◌, ℕ, List, [], ◌∷◌, ◌++◌, Bool, true, false, not, ◌&&◌, ◌||◌, if◌then◌else◌, Option, Some, None, refl, sym, ap, ap₂, ◌∙◌, subst, ⊎_elim, ◌⊎◌, inl, inr, length, arith}
+use Rattle.std.proofs.Common.{◌≡◌, ◌<◌, ℕ, List, [], ◌∷◌, ◌++◌, Bool, true, false, not, ◌&&◌, ◌||◌, if◌then◌else◌, Option, Some, None, IfSome, refl, sym, ap, ap₂, ◌∙◌, subst, ⊎_elim, ◌⊎◌, inl, inr, length, arith}
 use Rattle.std.proofs.lemmas.List.{append-nil}
 use Rattle.std.proofs.lemmas.Bool.{and_parts, and_from, cases_Bool, cond-true, cond-false, ltb-true, lt-ltb}
 use Rattle.std.specs.Option.{is_some, option_or}
@@ -16,7 +16,7 @@ use Rattle.flat_code.specs.Places.{Extends, IsProcessAt, at, op_process, process
 use Rattle.flat_role.specs.declared.frames.Frame.{Frame}
 use Rattle.flat_role.specs.declared.frames.Frame as frame
 use Rattle.flat_role.specs.Growths.{is_single_op}
-use Rattle.flat_role.specs.Frames.{marked_over, frame_process, is_open, is_placed, leaves_nothing}
+use Rattle.flat_role.specs.Frames.{marked_over, frame_process, is_placed, leaves_nothing}
 use Rattle.process_steps.specs.Steps.{ended, after, offers, is_offered}
 
 pub at_placed : (n p : ℕ) → p < n → is_placed n (frame.At p) ≡ true
@@ -111,26 +111,20 @@ acts_goes_on me a P acts = ⊎_elim
     (λ no. no)
     (cases_Bool (ended P))
 
--- the part that does an act isn't over, so it is open
-module _ (done : List Process) (me : Role) (a : Act) where
-  pub acts_left : (over : Bool) (F : Frame) → (over || is_open done F) ≡ true
-      → is_some (acting me a (marked_over over (frame_process done F))) ≡ true
-      → (is_open done F ≡ true) × (is_some (acting me a (frame_process done F)) ≡ true)
-  acts_left true F opened acts =
-      let none = ap is_some (acting_marked me a (frame_process done F)) in cc
-  acts_left false F opened acts = (opened, acts)
+-- what is said of an answer that doesn't depend on it holds where there is one
+pub surely : {A X : Type 0} (o : Option A) → is_some o ≡ true → IfSome o (λ x. X) → X
+surely None h said = cc
+surely (Some x) h said = said
 
-  pub acts_right : (P : Process) (over : Bool) (G : Frame) → (over || is_open done G) ≡ true
-      → is_some (acting me a P) ≡ false
-      → is_some (acting me a (Par P (marked_over over (frame_process done G)))) ≡ true
-      → (is_open done G ≡ true) × (is_some (acting me a (frame_process done G)) ≡ true)
-  acts_right P over G opened none acts = acts_left over G opened
-      (second (acting me a P) (acting me a (marked_over over (frame_process done G))) none acts)
-    where
-      second : (o p : Option Process) → is_some o ≡ false → is_some (option_or o p) ≡ true
-          → is_some p ≡ true
-      second None p none there = there
-      second (Some x) p none there = cc
+-- where the left part of a parallel doesn't do the act, the right part does it
+pub acts_right : (me : Role) (a : Act) (P Q : Process) → is_some (acting me a P) ≡ false
+    → is_some (acting me a (Par P Q)) ≡ true → is_some (acting me a Q) ≡ true
+acts_right me a P Q = second (acting me a P) (acting me a Q)
+  where
+    second : (o p : Option Process) → is_some o ≡ false → is_some (option_or o p) ≡ true
+        → is_some p ≡ true
+    second None p none there = there
+    second (Some x) p none there = cc
 
 pub longer_itself : (ops : List Op) → Extends ops ops
 longer_itself = extends_itself

@@ -1,6 +1,6 @@
 //! What a step makes of the frames. It takes no memory, and lets go of what isn't needed any more.
 
-ghost use Rattle.std.specs.Prelude.{◌≡◌, ℕ, List, true, length};
+ghost use Rattle.std.specs.Prelude.{◌≡◌, ℕ, List, true, false, IfSome, length};
 ghost use Rattle.std.specs.Option.{is_some};
 ghost use Rattle.dioc_terms.specs.Processes.{Process, Tell, Gather, letters};
 ghost use Rattle.dpoc_process.specs.Acting.{acting};
@@ -11,7 +11,7 @@ ghost use Rattle.flat_role.specs.Growths.{is_change_placed, part_change};
 ghost use Rattle.process_steps.specs.Steps.{ended};
 
 use crate::frames::{Frame, gathering, is_ended, put, telling};
-use crate::offered::does_act;
+use crate::offered::find;
 use dioc_terms::{Act, Key, Messages, Role};
 use flat_code::Code;
 use std::mem;
@@ -25,45 +25,67 @@ pub(crate) enum Change {
     Rest,
 }
 
-/// Changes the part that does the act. A first part that is over is let go, and a part of a
-/// parallel that is over is marked so. The answer is whether nothing is left to do.
+/// Changes the part that does the act, if there is one: of a parallel that in the left part, where
+/// both do it. A first part that is over is let go, and a part of a parallel that is over is marked
+/// so. The answer is whether nothing is left to do; where no part does the act there is none, and
+/// all stays as it was. A part that surely does the act isn't asked for it.
 #[tactic(auto, using(crate::proofs::FrameLemmas::marked_ended, crate::proofs::FrameLemmas::ended_marked, crate::proofs::FrameLemmas::acting_marked, crate::proofs::FrameLemmas::replaced_plain))]
-pub(crate) fn replace(me: &Role, act: &Act, code: &Code, frame: &mut Frame, by: Change) -> bool
+pub(crate) fn try_change(
+    me: &Role,
+    act: &Act,
+    code: &Code,
+    sure: bool,
+    frame: &mut Frame,
+    by: &mut Change,
+) -> Option<bool>
     requires placed { is_placed (length code.now.ops.items) frame.old ≡ true }
     requires opened { is_open (processes code.now.ops.items) frame.old ≡ true }
-    requires change { is_change_placed (length code.now.ops.items) by ≡ true }
-    requires acts { is_some (acting me.now act.now
+    requires change { is_change_placed (length code.now.ops.items) by.old ≡ true }
+    requires sure { sure ≡ true → is_some (acting me.now act.now
         (frame_process (processes code.now.ops.items) frame.old)) ≡ true }
-    ensures replaced { frame_process (processes code.now.ops.items) frame.new
+    ensures acts { is_some result ≡ is_some (acting me.now act.now
+        (frame_process (processes code.now.ops.items) frame.old)) }
+    ensures replaced { IfSome result (λ over. frame_process (processes code.now.ops.items) frame.new
         ≡ replaced me.now act.now (frame_process (processes code.now.ops.items) frame.old)
-        (part_change (processes code.now.ops.items) by) }
+        (part_change (processes code.now.ops.items) by.old)) }
+    ensures over { IfSome result (λ over.
+        over ≡ ended (frame_process (processes code.now.ops.items) frame.new)) }
     ensures placed { is_placed (length code.now.ops.items) frame.new ≡ true }
-    ensures over { result ≡ ended (frame_process (processes code.now.ops.items) frame.new) }
+    ensures same { is_some result ≡ false → frame.new ≡ frame.old }
+    ensures kept { is_some result ≡ false → by.new ≡ by.old }
 {
     match frame {
-        Frame::Seq(first_over, first, second) => {
-            if *first_over {
-                let over = replace(me, act, code, second, by);
-                keep_second(frame);
-                return over;
-            }
-            if !replace(me, act, code, first, by) {
-                return false;
+        Frame::Seq(true, _, second) => {
+            let over = try_change(me, act, code, sure, second, by)?;
+            keep_second(frame);
+            Some(over)
+        }
+        Frame::Seq(false, first, _) => {
+            if !try_change(me, act, code, sure, first, by)? {
+                return Some(false);
             }
             keep_second(frame);
-            is_ended(code, frame)
+            Some(is_ended(code, frame))
         }
         Frame::Par(left_over, left, right_over, right) => {
-            if does_act(me, act, code, *left_over, left) {
-                *left_over = replace(me, act, code, left, by);
-                return *left_over && (*right_over || is_ended(code, right));
+            if !*left_over {
+                if let Some(over) = try_change(me, act, code, false, left, by) {
+                    *left_over = over;
+                    return Some(over && (*right_over || is_ended(code, right)));
+                }
             }
-            *right_over = replace(me, act, code, right, by);
-            *right_over && (*left_over || is_ended(code, left))
+            if *right_over {
+                return None;
+            }
+            *right_over = try_change(me, act, code, sure, right, by)?;
+            Some(*right_over && (*left_over || is_ended(code, left)))
         }
         single => {
-            change_part(code, single, by);
-            is_ended(code, single)
+            if !sure && find(me, act, code, single).is_none() {
+                return None;
+            }
+            change_part(code, single, mem::replace(by, Change::Rest));
+            Some(is_ended(code, single))
         }
     }
 }

@@ -182,17 +182,6 @@ pub(crate) fn find<'a>(me: &Role, act: &Act, code: &Code, frame: &'a Frame) -> O
     }
 }
 
-/// Whether an open part does the act. It doesn't look into what is known to be over.
-#[tactic(auto, using(crate::proofs::FrameLemmas::acting_marked))]
-pub(crate) fn does_act(me: &Role, act: &Act, code: &Code, over: bool, frame: &Frame) -> bool
-    requires placed { is_placed (length code.now.ops.items) frame.now ≡ true }
-    requires opened { (over || is_open (processes code.now.ops.items) frame.now) ≡ true }
-    ensures { result ≡ is_some (acting me.now act.now
-        (marked_over over (frame_process (processes code.now.ops.items) frame.now))) }
-{
-    !over && find(me, act, code, frame).is_some()
-}
-
 /// The plain op at a place, if it does the act.
 #[tactic(auto, using(crate::proofs::FrameLemmas::plain_is_single, crate::proofs::FrameLemmas::acting_plain))]
 fn find_op<'a>(me: &Role, act: &Act, code: &Code, place: usize) -> Option<Part<'a>>

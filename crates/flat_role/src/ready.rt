@@ -13,7 +13,7 @@ ghost use Rattle.flat_role.specs.Frames.{frame_process, is_open, is_placed};
 ghost use Rattle.flat_role.specs.Growths.{IsInside, flat_grown, is_growth_placed, part_process};
 ghost use Rattle.flat_role.specs.ReadyParts.{IsMade, IsReadyFor};
 
-use crate::changes::replace;
+use crate::changes::try_change;
 use crate::frames::Frame;
 use crate::growth::{Growth, grown, growth_at};
 use crate::offered::{Part, find};
@@ -151,5 +151,6 @@ pub(crate) fn advance(
     let Ready { growth, write, .. } = ready;
     let (value, got) = split(got);
     apply(store, write, value);
-    let _over = replace(me, act, code, frame, grown(code, growth, got));
+    let mut change = grown(code, growth, got);
+    let _over = try_change(me, act, code, true, frame, &mut change);
 }
