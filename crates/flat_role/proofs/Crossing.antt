@@ -1,6 +1,6 @@
 -- A role over flat code may go to another thread. Its parts are shown one after another, since so many fields are too much for one search.
 use denote.Param.Send.{IsSend, sendable}
-use denote.Param.SendFields.{declared_send}
+use denote.Param.SendFields.{declared_send, variants_send}
 use Rattle.std.proofs.Crossing.{crosses}
 use Rattle.dioc_terms.proofs.expressions.Expr.TheLaws.TheKnot as expr_knot
 use Rattle.dioc_terms.proofs.processes.Messages.TheLaws.TheKnot as messages_knot
@@ -13,13 +13,17 @@ use Rattle.dioc_terms.proofs.processes.Key.TheSendSync as key_sends
 use Rattle.dioc_terms.proofs.processes.ScopeHead.TheSendSync as head_sends
 use Rattle.dioc_terms.proofs.processes.Tag.TheSendSync as tag_sends
 use Rattle.dioc_terms.proofs.values.Value.TheSendSync as value_sends
+use Rattle.dioc_terms.specs.contracts.processes.Messages as messages
+use Rattle.dioc_terms.specs.contracts.processes.Proc as proc
 use Rattle.dioc_terms.specs.contracts.stores.Store as store
 use Rattle.dpoc_process.specs.contracts.growth.Write as write
 use Rattle.flat_code.specs.contracts.code.Code as code
 use Rattle.flat_code.specs.contracts.ops.Op as op
 use Rattle.flat_role.proofs.frames.Frame.TheLaws.TheKnot as frame_knot
 use Rattle.flat_role.specs.contracts.frames.Frame as frame
+use Rattle.flat_role.specs.contracts.growth.Follow as follow
 use Rattle.flat_role.specs.contracts.growth.Growth as growth
+use Rattle.flat_role.specs.contracts.growth.Lead as lead
 use Rattle.flat_role.specs.contracts.ready.Ready as ready
 use Rattle.flat_role.specs.contracts.states.FlatRole as flat
 
@@ -53,14 +57,36 @@ code_sends = search (op_sends, parts) depth 60 fits 20000
 store_sends : IsSend store.the_row
 store_sends = search parts depth 60 fits 20000
 
+messages_send : IsSend messages.the_row
+messages_send = search (words, parts) depth 60 fits 20000
+
+process_sends : IsSend proc.the_row
+process_sends = search (words, parts) depth 60 fits 20000
+
 frame_sends : IsSend frame.the_row
 frame_sends = search (frame_knot.crosses, words, parts) depth 60 fits 20000
 
 write_sends : IsSend write.the_row
 write_sends = search parts depth 60 fits 20000
 
+lead_sends : IsSend lead.the_row
+lead_sends = search (frame_sends, messages_send, process_sends, parts) depth 60 fits 20000
+
+follow_sends : IsSend follow.the_row
+follow_sends = search (frame_sends, process_sends, parts) depth 60 fits 20000
+
 growth_sends : IsSend growth.the_row
-growth_sends = search (frame_sends, frame_knot.crosses, words, parts) depth 60 fits 20000
+growth_sends =
+    variants_send growth.enum (
+      tt,
+      (
+        (search (frame_sends, parts) depth 60 fits 20000, tt),
+        (
+          (search (frame_sends, parts) depth 60 fits 20000, (search (frame_sends, parts) depth 60 fits 20000, tt)),
+          ((search (lead_sends, parts) depth 60 fits 20000, tt), ((search (follow_sends, parts) depth 60 fits 20000, tt), tt)),
+        ),
+      ),
+    )
 
 ready_sends : IsSend ready.the_row
 ready_sends =

@@ -16,9 +16,9 @@ marked_over false P = P
 abbrev pub frame_process : List Process → Frame → Process
 frame_process done frame.Ended = Skip
 frame_process done (frame.At p) = at done p
-frame_process done (frame.Telling ms) = Tell (letters ms)
+frame_process done (frame.Telling ms) = Tell (letters ms.value)
 frame_process done (frame.Gathering ks) = Gather ks.items
-frame_process done (frame.Arrived P) = process P
+frame_process done (frame.Arrived P) = process P.value
 frame_process done (frame.Seq' first_over _ F _ G) =
     Seq (marked_over first_over (frame_process done F)) (frame_process done G)
 frame_process done (frame.Par' left_over _ F right_over _ G) =

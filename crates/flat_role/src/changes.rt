@@ -140,16 +140,16 @@ fn rest_of(code: &Code, part: Frame) -> Frame
 }
 
 /// What is left once the first of these messages is sent.
-fn told(messages: Messages) -> Frame
+fn told(messages: Box<Messages>) -> Frame
     ensures rest { (done : List Process) →
-        frame_process done result ≡ rest_of (Tell (letters messages)) }
+        frame_process done result ≡ rest_of (Tell (letters messages.value)) }
     ensures placed { (n : ℕ) → is_placed n result ≡ true }
 {
-    match messages {
+    match Box::into_inner(messages) {
         Messages::Nothing => Frame::Ended,
         Messages::More(key, payload, rest) => {
             drop((key, payload));
-            telling(Box::into_inner(rest))
+            telling(rest)
         }
     }
 }

@@ -14,7 +14,8 @@ use std::alloc::Global;
 use std::mem;
 
 /// What is still to be done, over code that stays as it is. A leaf is a place of the code, what is
-/// left of a tell or of a gather, or a part that has come and isn't linked to the code yet.
+/// left of a tell or of a gather, or a part that has come and isn't linked to the code yet. What is
+/// large stands in a box, so that frames are small, which a step moves.
 #[derive(Drop)]
 pub(crate) enum Frame {
     /// Nothing.
@@ -22,11 +23,11 @@ pub(crate) enum Frame {
     /// The process at a place of the code.
     At(usize),
     /// Sends these messages, one after another.
-    Telling(Messages),
+    Telling(Box<Messages>),
     /// Takes the messages of these keys, one after another.
     Gathering(Vec<Key>),
     /// A part that has come and isn't in the code yet.
-    Arrived(Proc),
+    Arrived(Box<Proc>),
     /// The first, and then the second. Before them whether the first is known to be over.
     Seq(bool, Box<Frame>, Box<Frame>),
     /// Both, side by side. Before each of them whether it is known to be over.
@@ -42,7 +43,7 @@ pub(crate) fn is_ended(code: &Code, frame: &Frame) -> bool
     match frame {
         Frame::Ended => true,
         Frame::At(place) => is_ended_at(code, *place),
-        Frame::Telling(messages) => matches!(messages, Messages::Nothing),
+        Frame::Telling(messages) => matches!(**messages, Messages::Nothing),
         Frame::Gathering(keys) => keys.is_empty(),
         Frame::Arrived(proc) => has_ended(proc),
         Frame::Seq(first_over, first, second) => {
@@ -62,15 +63,15 @@ pub(crate) fn put(place: &mut Frame, frame: Frame)
 }
 
 /// Sends these messages.
-pub(crate) fn telling(messages: Messages) -> Frame
+pub(crate) fn telling(messages: Box<Messages>) -> Frame
     ensures stands { (done : List Process) →
-        frame_process done result ≡ telling (letters messages) }
+        frame_process done result ≡ telling (letters messages.value) }
     ensures placed { (n : ℕ) → is_placed n result ≡ true }
 {
-    match messages {
-        Messages::Nothing => Frame::Ended,
-        messages => Frame::Telling(messages),
+    if matches!(*messages, Messages::Nothing) {
+        return Frame::Ended;
     }
+    Frame::Telling(messages)
 }
 
 /// Takes the messages of these keys.

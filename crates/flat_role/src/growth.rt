@@ -12,15 +12,17 @@ ghost use Rattle.flat_role.specs.Growths.{Grows, IsFollowing, IsInside, IsLeadin
 ghost use Rattle.process_steps.specs.Steps.{after, gather, key, send_one, tell};
 
 use crate::changes::Change;
-use crate::frames::{Frame, gathering, in_order, joined, put, telling, then};
+use crate::frames::{Frame, gathering, in_order, joined, telling, then};
 use crate::offered::Part;
-use dioc_terms::{Index, Memory, Parts, Payload, Role, Tag, Value, give_up, new_boxes};
+use dioc_terms::{
+    Index, Memory, Messages, Payload, Proc, Role, Tag, Value, give_up, new_box, new_boxes,
+};
 use dpoc_process::Got;
 use dpoc_process::growth::is_true;
 use dpoc_process::makers::{keys_from, letters_to};
 use flat_code::{Code, Op};
 use std::alloc::Global;
-use std::slice;
+use std::{mem, slice};
 
 /// A change, or what is known of it before it is known what comes with the act.
 #[derive(Drop)]
@@ -38,7 +40,8 @@ pub(crate) enum Growth {
 }
 
 /// A scope that the role leads: what is told where it keeps its body, the body, what follows, and
-/// boxes for the body or the part of an update and for the sequence.
+/// boxes for the body or the part of an update, for the sequence, and for what tells an update and
+/// the leader's part of it.
 #[derive(Drop)]
 pub(crate) struct Lead {
     pub first: Box<Frame>,
@@ -46,15 +49,18 @@ pub(crate) struct Lead {
     pub last: Box<Frame>,
     pub own: Box<Frame>,
     pub inner: Box<Frame>,
+    pub tell: Box<Messages>,
+    pub part: Box<Proc>,
 }
 
-/// A scope that another role leads: the body, what follows, and a box for the body or the part of
-/// an update.
+/// A scope that another role leads: the body, what follows, and boxes for the body or the part of an
+/// update, and for that part.
 #[derive(Drop)]
 pub(crate) struct Follow {
     pub body: usize,
     pub last: Box<Frame>,
     pub own: Box<Frame>,
+    pub part: Box<Proc>,
 }
 
 /// What is made ready of a part, with the value that it needs.
@@ -174,7 +180,7 @@ fn told(
 {
     let messages = letters_to(alloc, me, others, index, tag, &carried);
     drop(carried);
-    Ok(telling(messages?))
+    Ok(telling(new_box(alloc, messages?)?))
 }
 
 /// Takes a message of each of these roles, one by one.
@@ -318,15 +324,21 @@ fn led_entrance(alloc: Global, first: Frame, body: usize, last: Frame) -> Result
         (at done body) (frame_process done last)) }
 {
     let (first, last) = new_boxes(alloc, first, last)?;
-    match new_boxes(alloc, Frame::Ended, Frame::Ended) {
-        Ok((own, inner)) => Ok(Growth::Leading(Lead {
+    let (own, inner) = match new_boxes(alloc, Frame::Ended, Frame::Ended) {
+        Ok(both) => both,
+        Err(fault) => return give_up((first, last), fault),
+    };
+    match new_boxes(alloc, Messages::Nothing, Proc::Skip) {
+        Ok((tell, part)) => Ok(Growth::Leading(Lead {
             first,
             body,
             last,
             own,
             inner,
+            tell,
+            part,
         })),
-        Err(fault) => give_up((first, last), fault),
+        Err(fault) => give_up(((first, last), (own, inner)), fault),
     }
 }
 
@@ -363,7 +375,15 @@ fn followed_scope(
 {
     let last = follower_end(alloc, me, leader, index)?;
     let (last, own) = new_boxes(alloc, last, Frame::Ended)?;
-    Ok(Growth::Following(Follow { body, last, own }))
+    match new_box(alloc, Proc::Skip) {
+        Ok(part) => Ok(Growth::Following(Follow {
+            body,
+            last,
+            own,
+            part,
+        })),
+        Err(fault) => give_up((last, own), fault),
+    }
 }
 
 /// What another role of a scope does after its part: it puts its end, and takes the release.
@@ -437,8 +457,10 @@ fn led_by(code: &Code, lead: Lead, got: Got) -> Change
         last,
         own,
         inner,
+        tell,
+        part,
     } = lead;
-    let (first, part) = led_parts(got, first, body);
+    let (first, part) = led_parts(got, first, body, tell, part);
     let rest = then(code, filled(own, part), last);
     Change::Becomes(then(code, first, filled(inner, rest)))
 }
@@ -446,7 +468,13 @@ fn led_by(code: &Code, lead: Lead, got: Got) -> Change
 /// What is told first, and what stands in the scope's place: the leader's part of an update, with
 /// what tells the others, or else the body.
 #[tactic(auto, using(crate::proofs::FrameLemmas::at_placed))]
-fn led_parts(got: Got, first: Box<Frame>, body: usize) -> (Box<Frame>, Frame)
+fn led_parts(
+    got: Got,
+    first: Box<Frame>,
+    body: usize,
+    tell: Box<Messages>,
+    part: Box<Proc>,
+) -> (Box<Frame>, Frame)
     ensures stands { (done : List Process) (last : Process) →
         after (frame_process done result.0.value) (after (frame_process done result.1) last)
         ≡ grown_scope (frame_process done first.value) (at done body) last (handed got) }
@@ -455,11 +483,11 @@ fn led_parts(got: Got, first: Box<Frame>, body: usize) -> (Box<Frame>, Frame)
 {
     match got {
         Got::Parts(parts) => {
-            let Parts { own, tell } = parts;
-            (filled(first, telling(tell)), Frame::Arrived(own))
+            let told = telling(filled(tell, parts.tell));
+            (filled(first, told), Frame::Arrived(filled(part, parts.own)))
         }
         other => {
-            drop(other);
+            drop((other, (tell, part)));
             (first, Frame::At(body))
         }
     }
@@ -472,32 +500,37 @@ fn followed_by(code: &Code, follow: Follow, got: Got) -> Change
         ≡ flat_grown (processes code.now.ops.items) (growths.Following follow) (handed got) }
     ensures placed { is_change_placed (length code.now.ops.items) result ≡ true }
 {
-    let Follow { body, last, own } = follow;
-    let part = followed_part(got, body);
+    let Follow {
+        body,
+        last,
+        own,
+        part,
+    } = follow;
+    let part = followed_part(got, body, part);
     Change::Becomes(then(code, filled(own, part), last))
 }
 
 /// What stands in the scope's place: the part of an update that came, or else the body.
 #[tactic(auto, using(crate::proofs::FrameLemmas::at_placed))]
-fn followed_part(got: Got, body: usize) -> Frame
+fn followed_part(got: Got, body: usize, part: Box<Proc>) -> Frame
     ensures stands { (done : List Process) (last : Process) →
         after (frame_process done result) last ≡ grown_part (at done body) last (handed got) }
     ensures placed { (n : ℕ) → body < n → is_placed n result ≡ true }
 {
     match got {
-        Got::Payload(Payload::Part { proc, .. }) => Frame::Arrived(proc),
+        Got::Payload(Payload::Part { proc, .. }) => Frame::Arrived(filled(part, proc)),
         other => {
-            drop(other);
+            drop((other, part));
             Frame::At(body)
         }
     }
 }
 
-/// The box with the frame in it.
-fn filled(hole: Box<Frame>, frame: Frame) -> Box<Frame>
-    ensures { result.value ≡ frame }
+/// The box with the value in it.
+fn filled<T: Drop>(hole: Box<T>, value: T) -> Box<T>
+    ensures { result.value ≡ value }
 {
     let mut filled = hole;
-    put(&mut filled, frame);
+    drop(mem::replace(&mut *filled, value));
     filled
 }

@@ -52,7 +52,7 @@ pub(crate) fn add_offers(
         Frame::At(place) => add_offers_at(alloc, me, code, *place, acts),
         Frame::Telling(messages) => {
             add_act(offer_of_tell(alloc, me, messages)?, acts)?;
-            Ok(matches!(messages, Messages::Nothing))
+            Ok(matches!(**messages, Messages::Nothing))
         }
         Frame::Gathering(keys) => {
             add_act(offer_of_gather(alloc, me, keys.as_slice())?, acts)?;
@@ -122,7 +122,7 @@ fn stance(me: &Role, act: &Act, code: &Code, over: bool, frame: &Frame) -> Stanc
         Frame::Ended => Stance::Over,
         Frame::At(place) => stance_at(me, act, code, *place),
         Frame::Telling(messages) => stance_of(
-            matches!(messages, Messages::Nothing),
+            matches!(**messages, Messages::Nothing),
             tells(act, me, messages),
         ),
         Frame::Gathering(keys) => { stance_of(keys.is_empty(), gathers(act, me, keys.as_slice())) }

@@ -13,7 +13,7 @@ ghost use Rattle.process_steps.specs.Steps.{ended};
 
 use crate::frames::{Frame, in_order, is_ended, put};
 use crate::places::is_ended_op;
-use dioc_terms::{Memory, give_up, new_boxes};
+use dioc_terms::{Memory, give_up, new_box, new_boxes};
 use flat_code::{Code, Op, link};
 use std::alloc::Global;
 
@@ -194,7 +194,7 @@ fn opened_op(alloc: Global, op: &Op, place: usize) -> Result<Opened, Memory>
         return Ok(over_at(place));
     }
     let frame = match op {
-        Op::Tell { messages } => Frame::Telling(messages.copy(alloc)?),
+        Op::Tell { messages } => Frame::Telling(new_box(alloc, messages.copy(alloc)?)?),
         Op::Gather { keys } => Frame::Gathering(keys.copy(alloc)?.into_vec()),
         _ => Frame::At(place),
     };
