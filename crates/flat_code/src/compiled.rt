@@ -7,7 +7,7 @@ ghost use Rattle.flat_code.specs.Parts.{body_of, first_of, has_body, has_two, se
 ghost use Rattle.flat_code.specs.Places.{AreBelow, Extends, IsProcessAt, are_placed, op_process, part_places, processes};
 
 use crate::code::Code;
-use crate::forms::{around, follow_choice, lead_choice, plain_op};
+use crate::forms::{around, follow_choice, lead_choice, without_parts};
 use crate::ops::Op;
 use dioc_terms::{Memory, Proc};
 use std::alloc::Global;
@@ -80,7 +80,7 @@ fn add(alloc: Global, proc: &Proc, ops: &mut Vec<Op>) -> Result<usize, Memory>
             let body = add_body(alloc, proc, ops)?;
             push(ops, around(alloc, proc, body)?)
         }
-        plain => push(ops, plain_op(alloc, plain)?),
+        other => push(ops, without_parts(alloc, other)?),
     }
 }
 

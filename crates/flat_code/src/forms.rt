@@ -11,7 +11,7 @@ use dioc_terms::{Expr, Index, Keys, Memory, Messages, Name, Proc, Role, Roles, S
 use std::alloc::Global;
 
 /// The op of a process that has no parts.
-pub(crate) fn plain_op(alloc: Global, proc: &Proc) -> Result<Op, Memory>
+pub(crate) fn without_parts(alloc: Global, proc: &Proc) -> Result<Op, Memory>
     requires no_parts { has_two (process proc.now) ≡ false }
     requires no_body { has_body (process proc.now) ≡ false }
     ensures { IfOk result (λ form. IsForm form [] (λ done. process proc.now)) }
