@@ -19,6 +19,3 @@ pub use sink::{Sink, write_all};
 pub use source::{ReadAllFault, Source, read_all};
 pub use standard::{StdSink, StdSource};
 pub use sure::{SureSink, SureSource};
-
-#[cfg(test)]
-mod tests;

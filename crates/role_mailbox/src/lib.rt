@@ -4,6 +4,3 @@
 mod mail;
 
 pub use mail::Mail;
-
-#[cfg(test)]
-mod tests;

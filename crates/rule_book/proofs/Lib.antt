@@ -1,4 +1,3 @@
 pub mod ApplyLemmas
 pub mod ChoiceLemmas
 pub mod OrderLemmas
-pub mod TestBundles

@@ -9,6 +9,3 @@ mod kept;
 pub use book::Book;
 #[doc(hidden)]
 pub use kept::{KeptChange, KeptRule};
-
-#[cfg(test)]
-mod tests;

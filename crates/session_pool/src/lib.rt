@@ -10,6 +10,3 @@ mod watch;
 pub use answers::Answer;
 pub use sessions::run_sessions;
 pub use watch::{OpenWatch, Watch};
-
-#[cfg(test)]
-mod tests;

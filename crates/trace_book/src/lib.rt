@@ -5,6 +5,3 @@ mod doers;
 mod history;
 
 pub use history::History;
-
-#[cfg(test)]
-mod tests;

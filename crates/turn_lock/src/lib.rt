@@ -9,6 +9,3 @@ mod views;
 pub use chronicle::Chronicle;
 pub use turns::{Memory, Missing, Seat, Turn, Turns};
 pub use views::{Claim, View};
-
-#[cfg(test)]
-mod tests;

@@ -1,0 +1,116 @@
+//! Two seats of a lock that take turns in two threads, and a seat that is left out at the end.
+
+ghost use Rattle.std.specs.Prelude.{◌≡◌, ◌≤◌, ◌<◌, ◌^◌, [], ◌∷◌, ◌++◌, length, true, false};
+ghost use Rattle.std.specs.Bool.{OnTrue, OnFalse};
+ghost use Rattle.turn_lock.specs.Views.{number};
+ghost use Rattle.turn_lock.specs.Words.{view, IsSeatOf};
+
+use std::sync::Wait;
+use std::test::Fail;
+use std::thread::join;
+use turn_lock::{Chronicle, Missing, Seat, Turns};
+
+const TURNS: u64 = 1000;
+
+/// A list of numbers, each of which is the number of its owner.
+#[derive(Drop)]
+struct Journal {
+    entries: Vec<u64>,
+}
+
+impl Chronicle for Journal {
+    type Item = u64;
+
+    type Base = ();
+
+    ghost items = { λ journal. journal.entries.items };
+
+    ghost base = { λ _. tt };
+
+    ghost owner = { λ _ entry. entry };
+
+    fn count(&self) -> u64 {
+        self.entries.len() as u64
+    }
+}
+
+impl Journal {
+    /// Whether there was room and memory for one entry more.
+    fn add(&mut self, entry: u64) -> bool
+        ensures added { OnTrue result (self.new.entries.items
+            ≡ self.old.entries.items ++ entry ∷ []) }
+        ensures room { OnTrue result (length self.new.entries.items ≤ 2 ^ 62) }
+        ensures same { OnFalse result (self.new.entries.items ≡ self.old.entries.items) }
+    {
+        self.entries.len() < 1_000_000 && self.entries.push(entry).is_ok()
+    }
+}
+
+/// A turn, in which the seat adds its number.
+fn take_turn<R: Wait>(
+    rt: &R,
+    turns: &Turns<Journal>,
+    seat: Seat<Journal>,
+    own: u64,
+) -> Seat<Journal>
+    requires of { IsSeatOf turns.now seat }
+    requires number { number (view seat) ≡ own }
+    ensures of { IsSeatOf turns.now result }
+    ensures number { number (view result) ≡ number (view seat) }
+    ensures made { (view result).made ≡ (view seat).made }
+{
+    let mut turn = turns.enter(rt, seat);
+    if turn.home().add(own) {
+        turns.leave_with(turn)
+    } else {
+        turns.leave(turn)
+    }
+}
+
+fn take_turns<R: Wait>(
+    rt: &R,
+    turns: &Turns<Journal>,
+    mut seat: Seat<Journal>,
+    own: u64,
+) -> Seat<Journal>
+    requires of { IsSeatOf turns.now seat }
+    requires number { number (view seat) ≡ own }
+    ensures of { IsSeatOf turns.now result }
+    ensures made { (view result).made ≡ (view seat).made }
+{
+    for _ in 0..TURNS {
+        seat = take_turn(rt, turns, seat, own);
+    }
+    seat
+}
+
+#[test]
+fn two_seats_take_turns_and_close(rt: HostRuntime) -> Result<(), Fail> {
+    let alloc = rt.alloc();
+    let journal = Journal {
+        entries: Vec::new(alloc),
+    };
+    let Ok((turns, first)) = Turns::new(alloc, journal) else {
+        panic!(rt; "no memory")
+    };
+    let lock = &turns;
+    let (first, second) = lock.split(first);
+    let (first, second) = join(
+        &rt,
+        || take_turns(&rt, lock, first, 0),
+        || take_turns(&rt, lock, second, 1),
+    );
+    let mut seats = Vec::with_capacity(alloc, 2)?;
+    seats.push_reserved(first);
+    let Err(Missing { turns, mut seats }) = turns.close(seats) else {
+        panic!(rt; "closed without its second seat")
+    };
+    seats.push(second)?;
+    let Ok(journal) = turns.close(seats) else {
+        panic!(rt; "did not close with both seats")
+    };
+    assert_eq!(rt; journal.count(), 2 * TURNS);
+    let of_second = journal.entries.iter().filter(|owner| **owner == 1).count();
+    assert_eq!(rt; of_second as u64, TURNS);
+    Ok(())
+}

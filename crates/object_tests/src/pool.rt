@@ -1,0 +1,94 @@
+//! Workers that claim at the same time, and answers that depend on nobody else.
+
+ghost use Rattle.std.specs.Prelude.{◌≡◌, ◌≤◌, All, IfOk, length};
+ghost use Rattle.dioc_terms.specs.Bundles.{IsFormed};
+ghost use Rattle.dioc_terms.specs.Plain.{plain};
+
+use crate::meeting::Meeting;
+use dioc_terms::{Bundle, Memory};
+use load_gen::make;
+use session_pool::{Answer, OpenWatch, Watch, run_sessions};
+use std::alloc::Global;
+use std::sync::Wait;
+use std::test::Fail;
+
+/// Holds the claim of session 0 until session 1 was claimed, or its turns have run out.
+#[derive(Drop)]
+struct HoldFirst {
+    second: Meeting,
+}
+
+impl Watch for HoldFirst {
+    fn claimed<R: Wait>(&self, _rt: &R, session: u32) {
+        if session == 1 {
+            self.second.reach();
+        } else {
+            self.second.hold();
+        }
+    }
+}
+
+/// So many bundles, each made of another number.
+fn bundles(alloc: Global, count: u32) -> Result<Vec<Bundle>, Memory>
+    requires { count ≤ 1000 }
+    ensures formed { IfOk result (λ bundles. All (λ b. IsFormed (plain b)) bundles.items) }
+    ensures count { IfOk result (λ bundles. length bundles.items ≡ count) }
+{
+    let mut bundles = Vec::new(alloc);
+    'made: while bundles.len() < count as usize {
+        let number = bundles.len() as u64;
+        let bundle = make(alloc, number, 1)?;
+        bundles.push(bundle)?;
+    }
+    Ok(bundles)
+}
+
+/// Whether two sessions were answered the same.
+fn same(first: &Answer, second: &Answer) -> bool {
+    match (first, second) {
+        (
+            Answer::Ran { history, ended },
+            Answer::Ran {
+                history: other,
+                ended: too,
+            },
+        ) => history.as_slice() == other.as_slice() && ended == too,
+        _ => false,
+    }
+}
+
+#[test]
+fn two_workers_claim_at_once(rt: HostRuntime) -> Result<(), Fail> {
+    let Ok(bundles) = bundles(rt.alloc(), 2) else {
+        panic!(rt; "no memory")
+    };
+    let watch = HoldFirst {
+        second: Meeting::new(),
+    };
+    let answers = run_sessions(&rt, rt.alloc(), bundles.as_slice(), 2, None, 2000, &watch);
+    assert!(rt; answers.is_ok());
+    assert!(rt; watch.second.is_met());
+    Ok(())
+}
+
+#[test]
+fn workers_change_no_answer(rt: HostRuntime) -> Result<(), Fail> {
+    let Ok(bundles) = bundles(rt.alloc(), 100) else {
+        panic!(rt; "no memory")
+    };
+    let sessions = bundles.as_slice();
+    let Ok(by_one) = run_sessions(&rt, rt.alloc(), sessions, 1, Some(7), 2000, &OpenWatch) else {
+        panic!(rt; "no memory for one worker")
+    };
+    let Ok(by_many) = run_sessions(&rt, rt.alloc(), sessions, 16, Some(7), 2000, &OpenWatch) else {
+        panic!(rt; "no memory for sixteen workers")
+    };
+    assert_eq!(rt; by_one.len(), 100);
+    assert_eq!(rt; by_many.len(), 100);
+    let all_same = by_one
+        .iter()
+        .zip(by_many.iter())
+        .all(|(one, other)| same(one, other));
+    assert!(rt; all_same);
+    Ok(())
+}
