@@ -24,6 +24,7 @@ use Rattle.flat_role.specs.contracts.frames.Frame as frame
 use Rattle.flat_role.specs.contracts.growth.Follow as follow
 use Rattle.flat_role.specs.contracts.growth.Growth as growth
 use Rattle.flat_role.specs.contracts.growth.Lead as lead
+use Rattle.flat_role.specs.contracts.live_code.LiveCode as live_code
 use Rattle.flat_role.specs.contracts.ready.Ready as ready
 use Rattle.flat_role.specs.contracts.states.FlatRole as flat
 
@@ -53,6 +54,11 @@ op_sends = search (words, parts) depth 60 fits 20000
 
 code_sends : IsSend code.the_row
 code_sends = search (op_sends, parts) depth 60 fits 20000
+
+live_code_sends : IsSend live_code.the_row
+live_code_sends =
+    declared_send live_code.the_type
+    (search (code_sends, parts) depth 60 fits 20000, (search parts depth 60 fits 20000, tt))
 
 store_sends : IsSend store.the_row
 store_sends = search parts depth 60 fits 20000
@@ -97,7 +103,7 @@ pub flat_sends : IsSend flat.the_row
 flat_sends = declared_send flat.the_type (
   search parts depth 60 fits 20000,
   (
-    search (code_sends, parts) depth 60 fits 20000,
+    search (live_code_sends, parts) depth 60 fits 20000,
     (
       search (frame_sends, parts) depth 60 fits 20000,
       (search (store_sends, parts) depth 60 fits 20000, (search (ready_sends, parts) depth 60 fits 20000, tt)),

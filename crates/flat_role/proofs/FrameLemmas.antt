@@ -1,5 +1,5 @@
 -- Frames: what is known to be over, and what stays as more ops come.
-use Rattle.std.proofs.Common.{◌≡◌, ◌<◌, ℕ, List, [], ◌∷◌, ◌++◌, Bool, true, false, not, ◌&&◌, ◌||◌, if◌then◌else◌, Option, Some, None, IfSome, refl, sym, ap, ap₂, ◌∙◌, subst, ⊎_elim, ◌⊎◌, inl, inr, length, arith}
+use Rattle.std.proofs.Common.{◌≡◌, ◌<◌, ℕ, List, [], ◌∷◌, ◌++◌, Bool, true, false, not, ◌&&◌, ◌||◌, if◌then◌else◌, Option, Some, None, IfSome, refl, sym, ap, ap₂, ◌∙◌, subst, ⊎_elim, ◌⊎◌, inl, inr, length, nat_lt, arith}
 use Rattle.std.proofs.lemmas.List.{append-nil}
 use Rattle.std.proofs.lemmas.Bool.{and_parts, and_from, cases_Bool, cond-true, cond-false, ltb-true, lt-ltb}
 use Rattle.std.specs.Option.{is_some, option_or}
@@ -17,6 +17,7 @@ use Rattle.flat_role.specs.declared.frames.Frame.{Frame}
 use Rattle.flat_role.specs.declared.frames.Frame as frame
 use Rattle.flat_role.specs.Growths.{is_single_op}
 use Rattle.flat_role.specs.Frames.{marked_over, frame_process, is_placed, leaves_nothing}
+use Rattle.flat_role.specs.LivePlaces.{past}
 use Rattle.process_steps.specs.Steps.{ended, after, offers, is_offered}
 
 pub at_placed : (n p : ℕ) → p < n → is_placed n (frame.At p) ≡ true
@@ -43,7 +44,7 @@ pub marked_again : (b : Bool) (P : Process) → marked_over (b || ended P) P ≡
 marked_again true P = refl
 marked_again false P = marked_ended P
 
-over_offers : (me : Role) (P : Process) → ended P ≡ true → offers me P ≡ []
+pub over_offers : (me : Role) (P : Process) → ended P ≡ true → offers me P ≡ []
 over_offers me Skip h = refl
 over_offers me (Seq P Q) h =
     let both = and_parts (ended P) (ended Q) h in
@@ -85,7 +86,7 @@ left_offered me b d P Q acts left right =
     ∙ ap (λ x. acts ++ (offers me P ++ x)) (offers_marked me Q)
     ∙ ap (λ x. acts ++ x) (append-nil (offers me P)))
 
-nothing : {A : Type 0} (o : Option A) → is_some o ≡ false → o ≡ None
+pub nothing : {A : Type 0} (o : Option A) → is_some o ≡ false → o ≡ None
 nothing None h = refl
 nothing (Some x) h = cc
 
@@ -93,7 +94,20 @@ pub acting_marked : (me : Role) (a : Act) (P : Process) → acting me a (marked_
 acting_marked me a P = nothing (acting me a (marked_over true P))
     (acting-offered me a (marked_over true P) ∙ ap (is_offered a) (offers_marked me P))
 
+-- of two options, whether either is there, by the first
+pub second_acts : (o p : Option Process) → is_some o ≡ false → is_some p ≡ is_some (option_or o p)
+second_acts None p h = refl
+second_acts (Some x) p h = cc
+
+pub first_some : (o p : Option Process) → is_some o ≡ true → is_some (option_or o p) ≡ true
+first_some None p h = cc
+first_some (Some x) p h = refl
+
 -- what is over does no act
+pub no_act : (me : Role) (a : Act) (P : Process) → ended P ≡ true
+    → is_some (acting me a P) ≡ false
+no_act me a P over = acting-offered me a P ∙ ap (is_offered a) (over_offers me P over)
+
 pub acts_unended : (me : Role) (a : Act) (P : Process)
     → (not (ended P) && is_some (acting me a P)) ≡ is_some (acting me a P)
 acts_unended me a P = ⊎_elim
@@ -139,12 +153,20 @@ pub linked_at : (ops : List Op) (p : ℕ) (P : Process) → IsProcessAt ops p P
 linked_at ops p P stood = (stood.stands, lt-ltb p (length ops) stood.inside)
 
 -- places stay places as more ops come
-pub placed_longer : (old new : List Op) (F : Frame) → Extends old new
-    → is_placed (length old) F ≡ true → is_placed (length new) F ≡ true
-placed_longer old new (frame.At p) more h =
+at_longer : (old new : List Op) (p : ℕ) → Extends old new → nat_lt p (length old) ≡ true
+    → nat_lt p (length new) ≡ true
+at_longer old new p more h =
     let below = ltb-true p (length old) h in
     let longer = extends_longer old new more in
     lt-ltb p (length new) (omega (arith, below, longer))
+
+pub placed_longer : (old new : List Op) (F : Frame) → Extends old new
+    → is_placed (length old) F ≡ true → is_placed (length new) F ≡ true
+placed_longer old new (frame.At p) more h = at_longer old new p more h
+placed_longer old new (frame.Past' p firsts _ F) more h =
+    let both = and_parts (nat_lt p (length old)) (is_placed (length old) F) h in
+    and_from (nat_lt p (length new)) (is_placed (length new) F)
+    (at_longer old new p more both.0) (placed_longer old new F more both.1)
 placed_longer old new (frame.Seq' _ _ F _ G) more h =
     let both = and_parts (is_placed (length old) F) (is_placed (length old) G) h in
     and_from (is_placed (length new) F) (is_placed (length new) G)
@@ -160,6 +182,10 @@ pub keeps_frame : (old new : List Op) (F : Frame) → Extends old new
     → is_placed (length old) F ≡ true
     → frame_process (processes new) F ≡ frame_process (processes old) F
 keeps_frame old new (frame.At p) more h = keeps_at old new more p (ltb-true p (length old) h)
+keeps_frame old new (frame.Past' p firsts _ F) more h =
+    let both = and_parts (nat_lt p (length old)) (is_placed (length old) F) h in
+    ap₂ (past firsts)
+    (keeps_at old new more p (ltb-true p (length old) both.0)) (keeps_frame old new F more both.1)
 keeps_frame old new (frame.Seq' first_over _ F _ G) more h =
     let both = and_parts (is_placed (length old) F) (is_placed (length old) G) h in
     ap₂ (λ P Q. Seq (marked_over first_over P) Q)

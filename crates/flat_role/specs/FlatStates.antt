@@ -14,11 +14,11 @@ use Rattle.flat_role.specs.ReadyParts.{IsReadyFor}
 
 -- the process that the frames stand for, over the code
 abbrev pub frames_of : FlatRole → Process
-frames_of flat = frame_process (processes flat.code.ops.items) flat.frame
+frames_of flat = frame_process (processes flat.code.code.ops.items) flat.frame
 
 -- how many ops there are
 abbrev pub code_len : FlatRole → ℕ
-code_len flat = length flat.code.ops.items
+code_len flat = length flat.code.code.ops.items
 
 abbrev pub local_of : FlatRole → LocalState
 local_of flat = record {
@@ -34,7 +34,8 @@ pub record IsReady (flat : FlatRole) (a : Act) : Type 0 where
   pub kept : flat.ready ≡ Some ready
   pub part : Process
   pub acts : acting flat.role a (frames_of flat) ≡ Some part
-  pub made : IsReadyFor flat.code.ops.items flat.role a (value_at (store_of flat.store) part) part
+  pub made : IsReadyFor flat.code.code.ops.items flat.role a (value_at (store_of flat.store) part)
+      part
       ready
-  pub opened : is_open (processes flat.code.ops.items) flat.frame ≡ true
+  pub opened : is_open (processes flat.code.code.ops.items) flat.frame ≡ true
   pub has_room : 0 < room flat.store

@@ -5,6 +5,7 @@ use Rattle.dpoc_process.specs.Acting.{is_single}
 use Rattle.flat_code.specs.Places.{at}
 use Rattle.flat_role.specs.declared.frames.Frame.{Frame}
 use Rattle.flat_role.specs.declared.frames.Frame as frame
+use Rattle.flat_role.specs.LivePlaces.{past}
 use Rattle.process_steps.specs.Steps.{ended}
 
 -- a part that is known to be over is one that has ended, else it is what it is
@@ -16,6 +17,7 @@ marked_over false P = P
 abbrev pub frame_process : List Process → Frame → Process
 frame_process done frame.Ended = Skip
 frame_process done (frame.At p) = at done p
+frame_process done (frame.Past' p firsts _ F) = past firsts (at done p) (frame_process done F)
 frame_process done (frame.Telling ms) = Tell (letters ms.value)
 frame_process done (frame.Gathering ks) = Gather ks.items
 frame_process done (frame.Arrived P) = process P.value
@@ -25,14 +27,21 @@ frame_process done (frame.Par' left_over _ F right_over _ G) =
     Par (marked_over left_over (frame_process done F))
     (marked_over right_over (frame_process done G))
 
--- the second part of a sequence
-abbrev pub second_of : Frame → Frame
-second_of (frame.Seq' first_over _ F _ G) = G
-second_of F = F
+-- what follows the first parts that are over
+abbrev pub rest_behind : Frame → Frame
+rest_behind (frame.Past' p firsts _ F) = F
+rest_behind (frame.Seq' first_over _ F _ G) = G
+rest_behind F = F
+
+-- it has another in the place of the live part of a place
+abbrev pub is_past : Frame → Bool
+is_past (frame.Past' p firsts _ F) = true
+is_past F = false
 
 -- each place in the frame is one of the first n of the code
 abbrev pub is_placed : ℕ → Frame → Bool
 is_placed n (frame.At p) = nat_lt p n
+is_placed n (frame.Past' p firsts _ F) = nat_lt p n && is_placed n F
 is_placed n (frame.Seq' first_over _ F _ G) = is_placed n F && is_placed n G
 is_placed n (frame.Par' left_over _ F right_over _ G) = is_placed n F && is_placed n G
 is_placed n F = true
@@ -40,6 +49,7 @@ is_placed n F = true
 -- no part of what isn't over is still to be linked
 abbrev pub is_linked : Frame → Bool
 is_linked (frame.Arrived P) = false
+is_linked (frame.Past' p firsts _ F) = is_linked F
 is_linked (frame.Seq' first_over _ F _ G) = (first_over || is_linked F) && is_linked G
 is_linked (frame.Par' left_over _ F right_over _ G) =
     (left_over || is_linked F) && (right_over || is_linked G)
@@ -57,6 +67,7 @@ leaves_nothing P = is_single P
 abbrev pub is_open : List Process → Frame → Bool
 is_open done (frame.At p) = leaves_nothing (at done p)
 is_open done (frame.Arrived P) = false
+is_open done (frame.Past' p firsts _ F) = is_open done F
 is_open done (frame.Seq' first_over _ F _ G) =
     if first_over then is_open done G else (not (ended (frame_process done F)) && is_open done F)
 is_open done (frame.Par' left_over _ F right_over _ G) =

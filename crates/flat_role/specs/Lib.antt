@@ -1,6 +1,7 @@
 pub mod FlatStates
 pub mod Frames
 pub mod Growths
+pub mod LivePlaces
 pub mod OpenedPlaces
 pub mod Plays
 pub mod ReadyParts

@@ -6,14 +6,14 @@ ghost use Rattle.dioc_terms.specs.Processes.{Process, Tell, Gather, letters};
 ghost use Rattle.dpoc_process.specs.Acting.{acting};
 ghost use Rattle.dpoc_process.specs.Changes.{changed, replaced, rest_of};
 ghost use Rattle.flat_code.specs.Places.{processes};
-ghost use Rattle.flat_role.specs.Frames.{frame_process, is_open, is_placed, second_of};
+ghost use Rattle.flat_role.specs.Frames.{frame_process, is_open, is_past, is_placed, rest_behind};
 ghost use Rattle.flat_role.specs.Growths.{is_change_placed, part_change};
 ghost use Rattle.process_steps.specs.Steps.{ended};
 
 use crate::frames::{Frame, gathering, is_ended, put, telling};
+use crate::live_code::LiveCode;
 use crate::offered::find;
 use dioc_terms::{Act, Key, Messages, Role};
-use flat_code::Code;
 use std::mem;
 
 /// What the part that does an act becomes.
@@ -33,38 +33,49 @@ pub(crate) enum Change {
 pub(crate) fn try_change(
     me: &Role,
     act: &Act,
-    code: &Code,
+    code: &LiveCode,
     sure: bool,
     frame: &mut Frame,
     by: &mut Change,
 ) -> Option<bool>
-    requires placed { is_placed (length code.now.ops.items) frame.old ≡ true }
-    requires opened { is_open (processes code.now.ops.items) frame.old ≡ true }
-    requires change { is_change_placed (length code.now.ops.items) by.old ≡ true }
+    requires placed { is_placed (length code.now.code.ops.items) frame.old ≡ true }
+    requires opened { is_open (processes code.now.code.ops.items) frame.old ≡ true }
+    requires change { is_change_placed (length code.now.code.ops.items) by.old ≡ true }
     requires sure { sure ≡ true → is_some (acting me.now act.now
-        (frame_process (processes code.now.ops.items) frame.old)) ≡ true }
+        (frame_process (processes code.now.code.ops.items) frame.old)) ≡ true }
     ensures acts { is_some result ≡ is_some (acting me.now act.now
-        (frame_process (processes code.now.ops.items) frame.old)) }
-    ensures replaced { IfSome result (λ over. frame_process (processes code.now.ops.items) frame.new
-        ≡ replaced me.now act.now (frame_process (processes code.now.ops.items) frame.old)
-        (part_change (processes code.now.ops.items) by.old)) }
+        (frame_process (processes code.now.code.ops.items) frame.old)) }
+    ensures replaced { IfSome result (λ over.
+        frame_process (processes code.now.code.ops.items) frame.new
+        ≡ replaced me.now act.now (frame_process (processes code.now.code.ops.items) frame.old)
+        (part_change (processes code.now.code.ops.items) by.old)) }
     ensures over { IfSome result (λ over.
-        over ≡ ended (frame_process (processes code.now.ops.items) frame.new)) }
-    ensures placed { is_placed (length code.now.ops.items) frame.new ≡ true }
+        over ≡ ended (frame_process (processes code.now.code.ops.items) frame.new)) }
+    ensures placed { is_placed (length code.now.code.ops.items) frame.new ≡ true }
     ensures same { is_some result ≡ false → frame.new ≡ frame.old }
     ensures kept { is_some result ≡ false → by.new ≡ by.old }
 {
     match frame {
+        Frame::Past(place, firsts, live) => {
+            let over = try_change(me, act, code, sure, live, by)?;
+            // (What is over stays beside what acts; a first part that is over is let go.)
+            if code.is_beside(*place) {
+                *firsts = false;
+                return Some(over);
+            }
+            keep_rest(frame);
+            Some(over)
+        }
         Frame::Seq(true, _, second) => {
             let over = try_change(me, act, code, sure, second, by)?;
-            keep_second(frame);
+            keep_rest(frame);
             Some(over)
         }
         Frame::Seq(false, first, _) => {
             if !try_change(me, act, code, sure, first, by)? {
                 return Some(false);
             }
-            keep_second(frame);
+            keep_rest(frame);
             Some(is_ended(code, frame))
         }
         Frame::Par(left_over, left, right_over, right) => {
@@ -90,13 +101,13 @@ pub(crate) fn try_change(
     }
 }
 
-/// Puts the second part of a sequence in its place; the first is let go.
-fn keep_second(frame: &mut Frame)
-    ensures { frame.new ≡ second_of frame.old }
+/// Puts what follows the first parts that are over in the place of the frame; these are let go.
+fn keep_rest(frame: &mut Frame)
+    ensures { frame.new ≡ rest_behind frame.old }
 {
     match frame {
-        Frame::Seq(_, _, second) => {
-            let rest = mem::replace(&mut **second, Frame::Ended);
+        Frame::Past(_, _, rest) | Frame::Seq(_, _, rest) => {
+            let rest = mem::replace(&mut **rest, Frame::Ended);
             put(frame, rest);
         }
         _ => (),
@@ -104,11 +115,12 @@ fn keep_second(frame: &mut Frame)
 }
 
 /// Changes a part that is neither a sequence nor a parallel.
-fn change_part(code: &Code, part: &mut Frame, by: Change)
-    requires { is_open (processes code.now.ops.items) part.old ≡ true }
-    ensures changed { frame_process (processes code.now.ops.items) part.new
-        ≡ changed (part_change (processes code.now.ops.items) by)
-        (frame_process (processes code.now.ops.items) part.old) }
+fn change_part(code: &LiveCode, part: &mut Frame, by: Change)
+    requires single { is_past part.old ≡ false }
+    requires opened { is_open (processes code.now.code.ops.items) part.old ≡ true }
+    ensures changed { frame_process (processes code.now.code.ops.items) part.new
+        ≡ changed (part_change (processes code.now.code.ops.items) by)
+        (frame_process (processes code.now.code.ops.items) part.old) }
     ensures placed { (n : ℕ) → is_placed n part.old ≡ true → is_change_placed n by ≡ true →
         is_placed n part.new ≡ true }
 {
@@ -123,10 +135,11 @@ fn change_part(code: &Code, part: &mut Frame, by: Change)
 
 /// What is left to tell or to gather: nothing of a plain op.
 #[tactic(auto, using(crate::proofs::FrameLemmas::rest_of_plain))]
-fn rest_of(code: &Code, part: Frame) -> Frame
-    requires { is_open (processes code.now.ops.items) part ≡ true }
-    ensures rest { frame_process (processes code.now.ops.items) result
-        ≡ rest_of (frame_process (processes code.now.ops.items) part) }
+fn rest_of(code: &LiveCode, part: Frame) -> Frame
+    requires single { is_past part ≡ false }
+    requires opened { is_open (processes code.now.code.ops.items) part ≡ true }
+    ensures rest { frame_process (processes code.now.code.ops.items) result
+        ≡ rest_of (frame_process (processes code.now.code.ops.items) part) }
     ensures placed { (n : ℕ) → is_placed n result ≡ true }
 {
     match part {

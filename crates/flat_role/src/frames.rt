@@ -6,10 +6,9 @@ ghost use Rattle.flat_code.specs.Places.{processes};
 ghost use Rattle.flat_role.specs.Frames.{frame_process, is_open, is_placed, marked_over};
 ghost use Rattle.process_steps.specs.Steps.{after, ended, gathering, telling};
 
-use crate::places::is_ended_at;
+use crate::live_code::LiveCode;
 use dioc_terms::{Key, Memory, Messages, Proc, new_boxes};
 use dpoc_process::offered::is_ended as has_ended;
-use flat_code::Code;
 use std::alloc::Global;
 use std::mem;
 
@@ -22,6 +21,9 @@ pub(crate) enum Frame {
     Ended,
     /// The process at a place of the code.
     At(usize),
+    /// The process at a place of the code with this in the place of its live part. Behind the place
+    /// whether the first parts that are over before the live part stay where they are.
+    Past(usize, bool, Box<Frame>),
     /// Sends these messages, one after another.
     Telling(Box<Messages>),
     /// Takes the messages of these keys, one after another.
@@ -36,13 +38,14 @@ pub(crate) enum Frame {
 
 /// Whether nothing is left to do. It doesn't look into what is over.
 #[tactic(auto, using(crate::proofs::FrameLemmas::placed_at, crate::proofs::FrameLemmas::ended_marked))]
-pub(crate) fn is_ended(code: &Code, frame: &Frame) -> bool
-    requires { is_placed (length code.now.ops.items) frame.now ≡ true }
-    ensures { result ≡ ended (frame_process (processes code.now.ops.items) frame.now) }
+pub(crate) fn is_ended(code: &LiveCode, frame: &Frame) -> bool
+    requires { is_placed (length code.now.code.ops.items) frame.now ≡ true }
+    ensures { result ≡ ended (frame_process (processes code.now.code.ops.items) frame.now) }
 {
     match frame {
         Frame::Ended => true,
-        Frame::At(place) => is_ended_at(code, *place),
+        Frame::At(place) => code.is_over(*place),
+        Frame::Past(_, _, live) => is_ended(code, live),
         Frame::Telling(messages) => matches!(**messages, Messages::Nothing),
         Frame::Gathering(keys) => keys.is_empty(),
         Frame::Arrived(proc) => has_ended(proc),
@@ -86,13 +89,13 @@ pub(crate) fn gathering(keys: Vec<Key>) -> Frame
 }
 
 /// The first, and then the second.
-pub(crate) fn then(code: &Code, first: Box<Frame>, second: Box<Frame>) -> Frame
-    requires first { is_placed (length code.now.ops.items) first.value ≡ true }
-    requires second { is_placed (length code.now.ops.items) second.value ≡ true }
-    ensures stands { frame_process (processes code.now.ops.items) result
-        ≡ after (frame_process (processes code.now.ops.items) first.value)
-        (frame_process (processes code.now.ops.items) second.value) }
-    ensures placed { is_placed (length code.now.ops.items) result ≡ true }
+pub(crate) fn then(code: &LiveCode, first: Box<Frame>, second: Box<Frame>) -> Frame
+    requires first { is_placed (length code.now.code.ops.items) first.value ≡ true }
+    requires second { is_placed (length code.now.code.ops.items) second.value ≡ true }
+    ensures stands { frame_process (processes code.now.code.ops.items) result
+        ≡ after (frame_process (processes code.now.code.ops.items) first.value)
+        (frame_process (processes code.now.code.ops.items) second.value) }
+    ensures placed { is_placed (length code.now.code.ops.items) result ≡ true }
 {
     if is_ended(code, &first) {
         return Box::into_inner(second);
@@ -103,16 +106,17 @@ pub(crate) fn then(code: &Code, first: Box<Frame>, second: Box<Frame>) -> Frame
 /// The first, and then the second, with boxes for them.
 pub(crate) fn joined(
     alloc: Global,
-    code: &Code,
+    code: &LiveCode,
     first: Frame,
     second: Frame,
 ) -> Result<Frame, Memory>
-    requires first { is_placed (length code.now.ops.items) first ≡ true }
-    requires second { is_placed (length code.now.ops.items) second ≡ true }
-    ensures stands { IfOk result (λ frame. frame_process (processes code.now.ops.items) frame
-        ≡ after (frame_process (processes code.now.ops.items) first)
-        (frame_process (processes code.now.ops.items) second)) }
-    ensures placed { IfOk result (λ frame. is_placed (length code.now.ops.items) frame ≡ true) }
+    requires first { is_placed (length code.now.code.ops.items) first ≡ true }
+    requires second { is_placed (length code.now.code.ops.items) second ≡ true }
+    ensures stands { IfOk result (λ frame. frame_process (processes code.now.code.ops.items) frame
+        ≡ after (frame_process (processes code.now.code.ops.items) first)
+        (frame_process (processes code.now.code.ops.items) second)) }
+    ensures placed { IfOk result (λ frame.
+        is_placed (length code.now.code.ops.items) frame ≡ true) }
 {
     if is_ended(code, &first) {
         drop(first);

@@ -13,6 +13,7 @@ ghost use Rattle.process_steps.specs.Steps.{after, gather, key, send_one, tell};
 
 use crate::changes::Change;
 use crate::frames::{Frame, gathering, in_order, joined, telling, then};
+use crate::live_code::LiveCode;
 use crate::offered::Part;
 use dioc_terms::{
     Index, Memory, Messages, Payload, Proc, Role, Tag, Value, give_up, new_box, new_boxes,
@@ -20,7 +21,7 @@ use dioc_terms::{
 use dpoc_process::Got;
 use dpoc_process::growth::is_true;
 use dpoc_process::makers::{keys_from, letters_to};
-use flat_code::{Code, Op};
+use flat_code::Op;
 use std::alloc::Global;
 use std::{mem, slice};
 
@@ -53,8 +54,8 @@ pub(crate) struct Lead {
     pub part: Box<Proc>,
 }
 
-/// A scope that another role leads: the body, what follows, and boxes for the body or the part of an
-/// update, and for that part.
+/// A scope that another role leads: the body, what follows, and boxes for the body or the part of
+/// an update, and for that part.
 #[derive(Drop)]
 pub(crate) struct Follow {
     pub body: usize,
@@ -68,12 +69,12 @@ pub(crate) fn growth_at(
     alloc: Global,
     me: &Role,
     value: &Value,
-    code: &Code,
+    code: &LiveCode,
     part: Part<'_>,
 ) -> Result<Growth, Memory>
-    requires { IsInside (length code.now.ops.items) part }
-    ensures { IfOk result (Grows code.now.ops.items me.now value.now
-        (part_process (processes code.now.ops.items) part.entry)) }
+    requires { IsInside (length code.now.code.ops.items) part }
+    ensures { IfOk result (Grows code.now.code.ops.items me.now value.now
+        (part_process (processes code.now.code.ops.items) part.entry)) }
 {
     match part {
         Part::At(place) => growth_of(alloc, me, value, code, place),
@@ -87,12 +88,12 @@ fn growth_of(
     alloc: Global,
     me: &Role,
     value: &Value,
-    code: &Code,
+    code: &LiveCode,
     place: usize,
 ) -> Result<Growth, Memory>
-    requires { place < length code.now.ops.items }
-    ensures { IfOk result (Grows code.now.ops.items me.now value.now
-        (at (processes code.now.ops.items) place)) }
+    requires { place < length code.now.code.ops.items }
+    ensures { IfOk result (Grows code.now.code.ops.items me.now value.now
+        (at (processes code.now.code.ops.items) place)) }
 {
     match code.op_at(place) {
         Op::IfLead { .. } | Op::WhileLead { .. } => {
@@ -125,11 +126,18 @@ fn growth_of(
 }
 
 /// What a pick makes of the op at a place: what is told, and then the branch or a turn of the loop.
-fn picked(alloc: Global, me: &Role, flag: bool, code: &Code, place: usize) -> Result<Frame, Memory>
-    requires { place < length code.now.ops.items }
-    ensures stands { IfOk result (λ frame. frame_process (processes code.now.ops.items) frame
-        ≡ picked me.now flag (at (processes code.now.ops.items) place)) }
-    ensures placed { IfOk result (λ frame. is_placed (length code.now.ops.items) frame ≡ true) }
+fn picked(
+    alloc: Global,
+    me: &Role,
+    flag: bool,
+    code: &LiveCode,
+    place: usize,
+) -> Result<Frame, Memory>
+    requires { place < length code.now.code.ops.items }
+    ensures stands { IfOk result (λ frame. frame_process (processes code.now.code.ops.items) frame
+        ≡ picked me.now flag (at (processes code.now.code.ops.items) place)) }
+    ensures placed { IfOk result (λ frame.
+        is_placed (length code.now.code.ops.items) frame ≡ true) }
 {
     match code.op_at(place) {
         Op::IfLead {
@@ -203,17 +211,18 @@ fn gathered(
 fn choice(
     alloc: Global,
     me: &Role,
-    code: &Code,
+    code: &LiveCode,
     index: Index,
     others: &[Role],
     flag: bool,
     branch: usize,
 ) -> Result<Frame, Memory>
-    requires { branch < length code.now.ops.items }
-    ensures stands { IfOk result (λ frame. frame_process (processes code.now.ops.items) frame
+    requires { branch < length code.now.code.ops.items }
+    ensures stands { IfOk result (λ frame. frame_process (processes code.now.code.ops.items) frame
         ≡ after (tell me.now others.now index tags.Choice (λ q. Flag flag))
-        (at (processes code.now.ops.items) branch)) }
-    ensures placed { IfOk result (λ frame. is_placed (length code.now.ops.items) frame ≡ true) }
+        (at (processes code.now.code.ops.items) branch)) }
+    ensures placed { IfOk result (λ frame.
+        is_placed (length code.now.code.ops.items) frame ≡ true) }
 {
     let first = told(alloc, me, index, others, &Tag::Choice, Payload::Flag(flag))?;
     joined(alloc, code, first, Frame::At(branch))
@@ -225,20 +234,21 @@ fn choice(
 fn led_turn(
     alloc: Global,
     me: &Role,
-    code: &Code,
+    code: &LiveCode,
     index: Index,
     others: &[Role],
     body: usize,
     place: usize,
 ) -> Result<Frame, Memory>
-    requires body { body < length code.now.ops.items }
-    requires place { place < length code.now.ops.items }
-    ensures stands { IfOk result (λ frame. frame_process (processes code.now.ops.items) frame
+    requires body { body < length code.now.code.ops.items }
+    requires place { place < length code.now.code.ops.items }
+    ensures stands { IfOk result (λ frame. frame_process (processes code.now.code.ops.items) frame
         ≡ after (tell me.now others.now index tags.Go (λ q. Flag true))
-        (after (at (processes code.now.ops.items) body)
+        (after (at (processes code.now.code.ops.items) body)
         (after (gather me.now others.now index tags.Turn)
-        (at (processes code.now.ops.items) place)))) }
-    ensures placed { IfOk result (λ frame. is_placed (length code.now.ops.items) frame ≡ true) }
+        (at (processes code.now.code.ops.items) place)))) }
+    ensures placed { IfOk result (λ frame.
+        is_placed (length code.now.code.ops.items) frame ≡ true) }
 {
     let first = told(alloc, me, index, others, &Tag::Go, Payload::Flag(true))?;
     match turn_of(alloc, me, code, index, others, body, place) {
@@ -252,19 +262,20 @@ fn led_turn(
 fn turn_of(
     alloc: Global,
     me: &Role,
-    code: &Code,
+    code: &LiveCode,
     index: Index,
     others: &[Role],
     body: usize,
     place: usize,
 ) -> Result<Frame, Memory>
-    requires body { body < length code.now.ops.items }
-    requires place { place < length code.now.ops.items }
-    ensures stands { IfOk result (λ frame. frame_process (processes code.now.ops.items) frame
-        ≡ after (at (processes code.now.ops.items) body)
+    requires body { body < length code.now.code.ops.items }
+    requires place { place < length code.now.code.ops.items }
+    ensures stands { IfOk result (λ frame. frame_process (processes code.now.code.ops.items) frame
+        ≡ after (at (processes code.now.code.ops.items) body)
         (after (gather me.now others.now index tags.Turn)
-        (at (processes code.now.ops.items) place))) }
-    ensures placed { IfOk result (λ frame. is_placed (length code.now.ops.items) frame ≡ true) }
+        (at (processes code.now.code.ops.items) place))) }
+    ensures placed { IfOk result (λ frame.
+        is_placed (length code.now.code.ops.items) frame ≡ true) }
 {
     let ends = gathered(alloc, me, index, others, &Tag::Turn)?;
     let last = joined(alloc, code, ends, Frame::At(place))?;
@@ -276,19 +287,20 @@ fn turn_of(
 fn followed_turn(
     alloc: Global,
     me: &Role,
-    code: &Code,
+    code: &LiveCode,
     index: Index,
     leader: &Role,
     body: usize,
     place: usize,
 ) -> Result<Frame, Memory>
-    requires body { body < length code.now.ops.items }
-    requires place { place < length code.now.ops.items }
-    ensures stands { IfOk result (λ frame. frame_process (processes code.now.ops.items) frame
-        ≡ after (at (processes code.now.ops.items) body)
+    requires body { body < length code.now.code.ops.items }
+    requires place { place < length code.now.code.ops.items }
+    ensures stands { IfOk result (λ frame. frame_process (processes code.now.code.ops.items) frame
+        ≡ after (at (processes code.now.code.ops.items) body)
         (Seq (send_one (key me.now leader.now index tags.Turn) Done)
-        (at (processes code.now.ops.items) place))) }
-    ensures placed { IfOk result (λ frame. is_placed (length code.now.ops.items) frame ≡ true) }
+        (at (processes code.now.code.ops.items) place))) }
+    ensures placed { IfOk result (λ frame.
+        is_placed (length code.now.code.ops.items) frame ≡ true) }
 {
     let others = slice::from_ref(leader);
     let end = told(alloc, me, index, others, &Tag::Turn, Payload::Done)?;
@@ -300,15 +312,15 @@ fn followed_turn(
 fn led_scope(
     alloc: Global,
     me: &Role,
-    code: &Code,
+    code: &LiveCode,
     index: Index,
     others: &[Role],
     body: usize,
 ) -> Result<Growth, Memory>
-    requires { body < length code.now.ops.items }
-    ensures { IfOk result (λ made. IsLeading (processes code.now.ops.items)
-        (length code.now.ops.items) (tell me.now others.now index tags.Begin (λ q. Keep))
-        (at (processes code.now.ops.items) body) (leader_end me.now others.now index) made) }
+    requires { body < length code.now.code.ops.items }
+    ensures { IfOk result (λ made. IsLeading (processes code.now.code.ops.items)
+        (length code.now.code.ops.items) (tell me.now others.now index tags.Begin (λ q. Keep))
+        (at (processes code.now.code.ops.items) body) (leader_end me.now others.now index) made) }
 {
     let first = told(alloc, me, index, others, &Tag::Begin, Payload::Keep)?;
     match leader_end(alloc, me, code, index, others) {
@@ -347,13 +359,14 @@ fn led_entrance(alloc: Global, first: Frame, body: usize, last: Frame) -> Result
 fn leader_end(
     alloc: Global,
     me: &Role,
-    code: &Code,
+    code: &LiveCode,
     index: Index,
     others: &[Role],
 ) -> Result<Frame, Memory>
-    ensures stands { IfOk result (λ frame. frame_process (processes code.now.ops.items) frame
+    ensures stands { IfOk result (λ frame. frame_process (processes code.now.code.ops.items) frame
         ≡ leader_end me.now others.now index) }
-    ensures placed { IfOk result (λ frame. is_placed (length code.now.ops.items) frame ≡ true) }
+    ensures placed { IfOk result (λ frame.
+        is_placed (length code.now.code.ops.items) frame ≡ true) }
 {
     let ends = gathered(alloc, me, index, others, &Tag::End)?;
     match told(alloc, me, index, others, &Tag::Out, Payload::Done) {
@@ -401,11 +414,11 @@ fn follower_end(alloc: Global, me: &Role, leader: &Role, index: Index) -> Result
 }
 
 /// The change, once it is known what comes with the act. It takes no memory.
-pub(crate) fn grown(code: &Code, growth: Growth, got: Got) -> Change
-    requires { is_growth_placed (length code.now.ops.items) growth ≡ true }
-    ensures change { part_change (processes code.now.ops.items) result
-        ≡ flat_grown (processes code.now.ops.items) growth (handed got) }
-    ensures placed { is_change_placed (length code.now.ops.items) result ≡ true }
+pub(crate) fn grown(code: &LiveCode, growth: Growth, got: Got) -> Change
+    requires { is_growth_placed (length code.now.code.ops.items) growth ≡ true }
+    ensures change { part_change (processes code.now.code.ops.items) result
+        ≡ flat_grown (processes code.now.code.ops.items) growth (handed got) }
+    ensures placed { is_change_placed (length code.now.code.ops.items) result ≡ true }
 {
     match growth {
         Growth::Rest => {
@@ -445,11 +458,11 @@ fn by_flag(on_true: Frame, on_false: Frame, got: Got) -> Change
 }
 
 #[tactic(auto, using(crate::proofs::FrameLemmas::at_placed, crate::proofs::FrameLemmas::placed_at))]
-fn led_by(code: &Code, lead: Lead, got: Got) -> Change
-    requires { is_growth_placed (length code.now.ops.items) (growths.Leading lead) ≡ true }
-    ensures change { part_change (processes code.now.ops.items) result
-        ≡ flat_grown (processes code.now.ops.items) (growths.Leading lead) (handed got) }
-    ensures placed { is_change_placed (length code.now.ops.items) result ≡ true }
+fn led_by(code: &LiveCode, lead: Lead, got: Got) -> Change
+    requires { is_growth_placed (length code.now.code.ops.items) (growths.Leading lead) ≡ true }
+    ensures change { part_change (processes code.now.code.ops.items) result
+        ≡ flat_grown (processes code.now.code.ops.items) (growths.Leading lead) (handed got) }
+    ensures placed { is_change_placed (length code.now.code.ops.items) result ≡ true }
 {
     let Lead {
         first,
@@ -494,11 +507,11 @@ fn led_parts(
 }
 
 #[tactic(auto, using(crate::proofs::FrameLemmas::at_placed, crate::proofs::FrameLemmas::placed_at))]
-fn followed_by(code: &Code, follow: Follow, got: Got) -> Change
-    requires { is_growth_placed (length code.now.ops.items) (growths.Following follow) ≡ true }
-    ensures change { part_change (processes code.now.ops.items) result
-        ≡ flat_grown (processes code.now.ops.items) (growths.Following follow) (handed got) }
-    ensures placed { is_change_placed (length code.now.ops.items) result ≡ true }
+fn followed_by(code: &LiveCode, follow: Follow, got: Got) -> Change
+    requires { is_growth_placed (length code.now.code.ops.items) (growths.Following follow) ≡ true }
+    ensures change { part_change (processes code.now.code.ops.items) result
+        ≡ flat_grown (processes code.now.code.ops.items) (growths.Following follow) (handed got) }
+    ensures placed { is_change_placed (length code.now.code.ops.items) result ≡ true }
 {
     let Follow {
         body,

@@ -4,6 +4,8 @@
 mod changes;
 mod frames;
 mod growth;
+mod live_code;
+mod live_places;
 mod offered;
 mod opening;
 mod parts;

@@ -10,6 +10,7 @@ ghost use Rattle.flat_role.specs.Stances.{says_acts, says_over};
 ghost use Rattle.process_steps.specs.Steps.{ended, offers};
 
 use crate::frames::Frame;
+use crate::live_code::LiveCode;
 use crate::parts::does;
 use crate::places::{Stance, add_offers_at, beside, stance_at, stance_of};
 use dioc_terms::{Act, Key, Memory, Messages, Role};
@@ -17,7 +18,6 @@ use dpoc_process::offered::{
     add_offers as add_offers_of, find as find_in, gathers, is_ended as has_ended, offer_of_gather,
     offer_of_tell, tells,
 };
-use flat_code::Code;
 use std::alloc::Global;
 
 /// The part of a role that does an act.
@@ -37,19 +37,20 @@ pub(crate) enum Part<'a> {
 pub(crate) fn add_offers(
     alloc: Global,
     me: &Role,
-    code: &Code,
+    code: &LiveCode,
     frame: &Frame,
     acts: &mut Vec<Act>,
 ) -> Result<bool, Memory>
-    requires { is_placed (length code.now.ops.items) frame.now ≡ true }
+    requires { is_placed (length code.now.code.ops.items) frame.now ≡ true }
     ensures offers { OnOk result (acts.new.items ≡ acts.old.items
-        ++ offers me.now (frame_process (processes code.now.ops.items) frame.now)) }
+        ++ offers me.now (frame_process (processes code.now.code.ops.items) frame.now)) }
     ensures over { IfOk result (λ over.
-        over ≡ ended (frame_process (processes code.now.ops.items) frame.now)) }
+        over ≡ ended (frame_process (processes code.now.code.ops.items) frame.now)) }
 {
     match frame {
         Frame::Ended => Ok(true),
         Frame::At(place) => add_offers_at(alloc, me, code, *place, acts),
+        Frame::Past(_, _, live) => add_offers(alloc, me, code, live, acts),
         Frame::Telling(messages) => {
             add_act(offer_of_tell(alloc, me, messages)?, acts)?;
             Ok(matches!(**messages, Messages::Nothing))
@@ -98,22 +99,22 @@ fn add_act(offer: Option<Act>, acts: &mut Vec<Act>) -> Result<(), Memory>
 }
 
 /// Whether a frame offers the act.
-pub(crate) fn can_act(me: &Role, act: &Act, code: &Code, frame: &Frame) -> bool
-    requires { is_placed (length code.now.ops.items) frame.now ≡ true }
+pub(crate) fn can_act(me: &Role, act: &Act, code: &LiveCode, frame: &Frame) -> bool
+    requires { is_placed (length code.now.code.ops.items) frame.now ≡ true }
     ensures { result ≡ is_some (acting me.now act.now
-        (frame_process (processes code.now.ops.items) frame.now)) }
+        (frame_process (processes code.now.code.ops.items) frame.now)) }
 {
     matches!(stance(me, act, code, false, frame), Stance::Acts)
 }
 
 /// What a frame is to an act. It doesn't look into what is known to be over.
 #[tactic(auto, using(crate::proofs::FrameLemmas::placed_at, crate::proofs::FrameLemmas::acting_marked, crate::proofs::FrameLemmas::ended_marked, crate::proofs::FrameLemmas::acts_unended))]
-fn stance(me: &Role, act: &Act, code: &Code, over: bool, frame: &Frame) -> Stance
-    requires { is_placed (length code.now.ops.items) frame.now ≡ true }
+fn stance(me: &Role, act: &Act, code: &LiveCode, over: bool, frame: &Frame) -> Stance
+    requires { is_placed (length code.now.code.ops.items) frame.now ≡ true }
     ensures over { says_over result
-        ≡ ended (marked_over over (frame_process (processes code.now.ops.items) frame.now)) }
+        ≡ ended (marked_over over (frame_process (processes code.now.code.ops.items) frame.now)) }
     ensures acts { says_acts result ≡ is_some (acting me.now act.now
-        (marked_over over (frame_process (processes code.now.ops.items) frame.now))) }
+        (marked_over over (frame_process (processes code.now.code.ops.items) frame.now))) }
 {
     if over {
         return Stance::Over;
@@ -121,6 +122,7 @@ fn stance(me: &Role, act: &Act, code: &Code, over: bool, frame: &Frame) -> Stanc
     match frame {
         Frame::Ended => Stance::Over,
         Frame::At(place) => stance_at(me, act, code, *place),
+        Frame::Past(_, _, live) => stance(me, act, code, false, live),
         Frame::Telling(messages) => stance_of(
             matches!(**messages, Messages::Nothing),
             tells(act, me, messages),
@@ -146,16 +148,17 @@ fn stance(me: &Role, act: &Act, code: &Code, over: bool, frame: &Frame) -> Stanc
 /// The part of an open frame that does the act; of a parallel that in the left part, where there is
 /// one.
 #[tactic(auto, using(crate::proofs::FrameLemmas::placed_at, crate::proofs::FrameLemmas::acting_marked, crate::proofs::FrameLemmas::ended_marked))]
-pub(crate) fn find<'a>(me: &Role, act: &Act, code: &Code, frame: &'a Frame) -> Option<Part<'a>>
-    requires placed { is_placed (length code.now.ops.items) frame.now ≡ true }
-    requires opened { is_open (processes code.now.ops.items) frame.now ≡ true }
-    ensures found { option_map (part_process (processes code.now.ops.items)) result
-        ≡ acting me.now act.now (frame_process (processes code.now.ops.items) frame.now) }
-    ensures inside { IfSome result (IsInside (length code.now.ops.items)) }
+pub(crate) fn find<'a>(me: &Role, act: &Act, code: &LiveCode, frame: &'a Frame) -> Option<Part<'a>>
+    requires placed { is_placed (length code.now.code.ops.items) frame.now ≡ true }
+    requires opened { is_open (processes code.now.code.ops.items) frame.now ≡ true }
+    ensures found { option_map (part_process (processes code.now.code.ops.items)) result
+        ≡ acting me.now act.now (frame_process (processes code.now.code.ops.items) frame.now) }
+    ensures inside { IfSome result (IsInside (length code.now.code.ops.items)) }
 {
     match frame {
         Frame::Ended => None,
         Frame::At(place) => find_op(me, act, code, *place),
+        Frame::Past(_, _, live) => find(me, act, code, live),
         Frame::Telling(messages) => tells(act, me, messages).then_some(Part::Telling(messages)),
         Frame::Gathering(keys) => {
             let keys = keys.as_slice();
@@ -184,12 +187,12 @@ pub(crate) fn find<'a>(me: &Role, act: &Act, code: &Code, frame: &'a Frame) -> O
 
 /// The plain op at a place, if it does the act.
 #[tactic(auto, using(crate::proofs::FrameLemmas::plain_is_single, crate::proofs::FrameLemmas::acting_plain))]
-fn find_op<'a>(me: &Role, act: &Act, code: &Code, place: usize) -> Option<Part<'a>>
-    requires inside { place < length code.now.ops.items }
-    requires plain { leaves_nothing (at (processes code.now.ops.items) place) ≡ true }
-    ensures found { option_map (part_process (processes code.now.ops.items)) result
-        ≡ acting me.now act.now (at (processes code.now.ops.items) place) }
-    ensures inside { IfSome result (IsInside (length code.now.ops.items)) }
+fn find_op<'a>(me: &Role, act: &Act, code: &LiveCode, place: usize) -> Option<Part<'a>>
+    requires inside { place < length code.now.code.ops.items }
+    requires plain { leaves_nothing (at (processes code.now.code.ops.items) place) ≡ true }
+    ensures found { option_map (part_process (processes code.now.code.ops.items)) result
+        ≡ acting me.now act.now (at (processes code.now.code.ops.items) place) }
+    ensures inside { IfSome result (IsInside (length code.now.code.ops.items)) }
 {
     if does(me, act, code.op_at(place)) {
         return Some(Part::At(place));

@@ -2,31 +2,32 @@
 //! the frames stand for.
 
 ghost use Rattle.std.specs.Prelude.{◌≡◌, ◌<◌, ◌||◌, ℕ, List, false, true, IfOk, OnOk, length};
-ghost use Rattle.dioc_terms.specs.Processes.{Par};
+ghost use Rattle.dioc_terms.specs.Processes.{Par, Seq};
 ghost use Rattle.flat_code.specs.declared.ops.Op.{Op as OneOp};
 ghost use Rattle.flat_code.specs.Places.{Extends, at, op_process, processes};
 ghost use Rattle.flat_role.specs.declared.frames.Frame.TheVariants as frames;
 ghost use Rattle.flat_role.specs.Frames.{frame_process, is_linked, is_open, is_placed};
 ghost use Rattle.flat_role.specs.Growths.{is_single_op};
+ghost use Rattle.flat_role.specs.LivePlaces.{live_of};
 ghost use Rattle.flat_role.specs.OpenedPlaces.{IsOpenedAt};
 ghost use Rattle.process_steps.specs.Steps.{ended};
 
 use crate::frames::{Frame, in_order, is_ended, put};
-use crate::places::is_ended_op;
+use crate::live_code::LiveCode;
 use dioc_terms::{Memory, give_up, new_box, new_boxes};
-use flat_code::{Code, Op, link};
+use flat_code::Op;
 use std::alloc::Global;
 
 /// Links the parts that have come, and then opens what may act, so that each leaf that may act is a
 /// plain op, or what is left of a tell or a gather. The process stays as it is, also where memory
 /// runs out.
-pub(crate) fn settle(alloc: Global, code: &mut Code, frame: &mut Frame) -> Result<(), Memory>
-    requires placed { is_placed (length code.old.ops.items) frame.old ≡ true }
-    requires goes_on { ended (frame_process (processes code.old.ops.items) frame.old) ≡ false }
-    ensures same { frame_process (processes code.new.ops.items) frame.new
-        ≡ frame_process (processes code.old.ops.items) frame.old }
-    ensures placed { is_placed (length code.new.ops.items) frame.new ≡ true }
-    ensures opened { OnOk result (is_open (processes code.new.ops.items) frame.new ≡ true) }
+pub(crate) fn settle(alloc: Global, code: &mut LiveCode, frame: &mut Frame) -> Result<(), Memory>
+    requires placed { is_placed (length code.old.code.ops.items) frame.old ≡ true }
+    requires goes_on { ended (frame_process (processes code.old.code.ops.items) frame.old) ≡ false }
+    ensures same { frame_process (processes code.new.code.ops.items) frame.new
+        ≡ frame_process (processes code.old.code.ops.items) frame.old }
+    ensures placed { is_placed (length code.new.code.ops.items) frame.new ≡ true }
+    ensures opened { OnOk result (is_open (processes code.new.code.ops.items) frame.new ≡ true) }
 {
     link_parts(alloc, code, false, frame)?;
     let _over = open_live(alloc, code, false, frame)?;
@@ -36,12 +37,17 @@ pub(crate) fn settle(alloc: Global, code: &mut Code, frame: &mut Frame) -> Resul
 /// Appends each part that has come to the code, where the frame isn't over. After an error parts
 /// may be left that are not.
 #[tactic(auto, using(crate::proofs::FrameLemmas::linked_at, crate::proofs::FrameLemmas::placed_longer, crate::proofs::FrameLemmas::keeps_frame, crate::proofs::FrameLemmas::longer_itself, crate::proofs::FrameLemmas::longer_through))]
-fn link_parts(alloc: Global, code: &mut Code, over: bool, frame: &mut Frame) -> Result<(), Memory>
-    requires { is_placed (length code.old.ops.items) frame.old ≡ true }
-    ensures extends { Extends code.old.ops.items code.new.ops.items }
-    ensures same { frame_process (processes code.new.ops.items) frame.new
-        ≡ frame_process (processes code.old.ops.items) frame.old }
-    ensures placed { is_placed (length code.new.ops.items) frame.new ≡ true }
+fn link_parts(
+    alloc: Global,
+    code: &mut LiveCode,
+    over: bool,
+    frame: &mut Frame,
+) -> Result<(), Memory>
+    requires { is_placed (length code.old.code.ops.items) frame.old ≡ true }
+    ensures extends { Extends code.old.code.ops.items code.new.code.ops.items }
+    ensures same { frame_process (processes code.new.code.ops.items) frame.new
+        ≡ frame_process (processes code.old.code.ops.items) frame.old }
+    ensures placed { is_placed (length code.new.code.ops.items) frame.new ≡ true }
     ensures linked { OnOk result ((over || is_linked frame.new) ≡ true) }
 {
     if over {
@@ -49,10 +55,11 @@ fn link_parts(alloc: Global, code: &mut Code, over: bool, frame: &mut Frame) -> 
     }
     match frame {
         Frame::Arrived(proc) => {
-            let place = link(alloc, code, proc)?;
+            let place = code.link(alloc, proc)?;
             put(frame, Frame::At(place));
             Ok(())
         }
+        Frame::Past(_, _, live) => link_parts(alloc, code, false, live),
         Frame::Seq(first_over, first, second) => {
             link_parts(alloc, code, *first_over, first)?;
             link_parts(alloc, code, false, second)
@@ -69,16 +76,16 @@ fn link_parts(alloc: Global, code: &mut Code, over: bool, frame: &mut Frame) -> 
 /// frame isn't over, and marks each part that is over. The answer is whether nothing is left to do;
 /// what is over isn't opened.
 #[tactic(auto, using(crate::proofs::FrameLemmas::placed_at, crate::proofs::FrameLemmas::marked_again, crate::proofs::FrameLemmas::ended_marked))]
-fn open_live(alloc: Global, code: &Code, over: bool, frame: &mut Frame) -> Result<bool, Memory>
-    requires placed { is_placed (length code.now.ops.items) frame.old ≡ true }
+fn open_live(alloc: Global, code: &LiveCode, over: bool, frame: &mut Frame) -> Result<bool, Memory>
+    requires placed { is_placed (length code.now.code.ops.items) frame.old ≡ true }
     requires linked { (over || is_linked frame.old) ≡ true }
-    ensures same { frame_process (processes code.now.ops.items) frame.new
-        ≡ frame_process (processes code.now.ops.items) frame.old }
-    ensures placed { is_placed (length code.now.ops.items) frame.new ≡ true }
+    ensures same { frame_process (processes code.now.code.ops.items) frame.new
+        ≡ frame_process (processes code.now.code.ops.items) frame.old }
+    ensures placed { is_placed (length code.now.code.ops.items) frame.new ≡ true }
     ensures over { IfOk result (λ now. now
-        ≡ (over || ended (frame_process (processes code.now.ops.items) frame.new))) }
+        ≡ (over || ended (frame_process (processes code.now.code.ops.items) frame.new))) }
     ensures opened { IfOk result (λ now.
-        (now || is_open (processes code.now.ops.items) frame.new) ≡ true) }
+        (now || is_open (processes code.now.code.ops.items) frame.new) ≡ true) }
 {
     if over {
         return Ok(true);
@@ -90,10 +97,11 @@ fn open_live(alloc: Global, code: &Code, over: bool, frame: &mut Frame) -> Resul
                 Op::Seq { .. } | Op::Par { .. } | Op::Tell { .. } | Op::Gather { .. } => {
                     open_place(alloc, code, place, frame)
                 }
-                plain => Ok(is_ended_op(plain)),
+                _ => Ok(code.is_over(place)),
             }
         }
         Frame::Arrived(_) => unreachable!(),
+        Frame::Past(_, _, live) => open_live(alloc, code, false, live),
         Frame::Seq(first_over, first, second) => {
             *first_over = open_live(alloc, code, *first_over, first)?;
             if *first_over {
@@ -114,16 +122,21 @@ fn open_live(alloc: Global, code: &Code, over: bool, frame: &mut Frame) -> Resul
 // (Apart, since a walk over many plain ops would make room for it at each of them.)
 #[inline(never)]
 #[tactic(auto, using(crate::proofs::FrameLemmas::placed_at))]
-fn open_place(alloc: Global, code: &Code, place: usize, frame: &mut Frame) -> Result<bool, Memory>
-    requires inside { place < length code.now.ops.items }
+fn open_place(
+    alloc: Global,
+    code: &LiveCode,
+    place: usize,
+    frame: &mut Frame,
+) -> Result<bool, Memory>
+    requires inside { place < length code.now.code.ops.items }
     requires is { frame.old ≡ frames.At place }
-    ensures same { frame_process (processes code.now.ops.items) frame.new
-        ≡ at (processes code.now.ops.items) place }
-    ensures placed { is_placed (length code.now.ops.items) frame.new ≡ true }
+    ensures same { frame_process (processes code.now.code.ops.items) frame.new
+        ≡ at (processes code.now.code.ops.items) place }
+    ensures placed { is_placed (length code.now.code.ops.items) frame.new ≡ true }
     ensures over { IfOk result (λ over.
-        over ≡ ended (frame_process (processes code.now.ops.items) frame.new)) }
+        over ≡ ended (frame_process (processes code.now.code.ops.items) frame.new)) }
     ensures opened { IfOk result (λ over.
-        (over || is_open (processes code.now.ops.items) frame.new) ≡ true) }
+        (over || is_open (processes code.now.code.ops.items) frame.new) ≡ true) }
 {
     let opened = opened_at(alloc, code, place)?;
     put(frame, opened.frame);
@@ -139,36 +152,35 @@ struct Opened {
 }
 
 /// The process at a place, with the sequences, parallels, tells and gathers that may act as frames.
-/// What is over stays a place.
+/// What is over stays a place; what is over before and beside the live part is passed over at once.
 #[tactic(auto, using(crate::proofs::FrameLemmas::at_placed))]
-fn opened_at(alloc: Global, code: &Code, place: usize) -> Result<Opened, Memory>
-    requires { place < length code.now.ops.items }
-    ensures { IfOk result (IsOpenedAt code.now.ops.items place) }
+fn opened_at(alloc: Global, code: &LiveCode, place: usize) -> Result<Opened, Memory>
+    requires { place < length code.now.code.ops.items }
+    ensures { IfOk result (IsOpenedAt code.now.code.ops.items place) }
 {
-    match code.op_at(place) {
+    let Some(live) = code.live_at(place) else {
+        return Ok(over_at(place));
+    };
+    match code.op_at(live.place) {
         Op::Seq { first, second } => {
-            let Opened { over, frame } = opened_at(alloc, code, *first)?;
-            if !over {
-                let frame = in_order(alloc, false, frame, Frame::At(*second))?;
-                return Ok(Opened { over, frame });
-            }
-            drop(frame);
-            let Opened { over, frame } = opened_at(alloc, code, *second)?;
-            if over {
-                drop(frame);
-                return Ok(over_at(place));
-            }
-            let frame = in_order(alloc, true, Frame::At(*first), frame)?;
-            Ok(Opened { over, frame })
+            let first = opened_at(alloc, code, *first)?;
+            let frame = opened_sequence(alloc, first, *second)?;
+            opened_past(alloc, place, live.place, frame)
         }
         Op::Par { left, right } => {
             let left = opened_at(alloc, code, *left)?;
             match opened_at(alloc, code, *right) {
-                Ok(right) => side_by_side(alloc, place, left, right),
+                Ok(right) => {
+                    let frame = side_by_side(alloc, left, right)?;
+                    opened_past(alloc, place, live.place, frame)
+                }
                 Err(fault) => give_up(left, fault),
             }
         }
-        single => opened_op(alloc, single, place),
+        single => {
+            let frame = opened_op(alloc, single, live.place)?;
+            opened_past(alloc, place, live.place, frame)
+        }
     }
 }
 
@@ -182,38 +194,58 @@ fn over_at(place: usize) -> Opened
     }
 }
 
-/// An op at a place, neither a sequence nor a parallel: a tell or a gather as a frame.
+/// What a place is opened as whose live part is opened as this.
 #[tactic(auto, using(crate::proofs::FrameLemmas::at_placed))]
-fn opened_op(alloc: Global, op: &Op, place: usize) -> Result<Opened, Memory>
-    requires { is_single_op op.now ≡ true }
-    ensures { IfOk result (λ opened. (ops : List OneOp) → place < length ops
-        → at (processes ops) place ≡ op_process (processes ops) op.now
-        → IsOpenedAt ops place opened) }
+fn opened_past(alloc: Global, place: usize, live: usize, frame: Frame) -> Result<Opened, Memory>
+    ensures { (ops : List OneOp) → place < length ops → ended (at (processes ops) place) ≡ false
+        → at (processes ops) live ≡ live_of (at (processes ops) place)
+        → IsOpenedAt ops live (record { over = false; frame = frame })
+        → IfOk result (IsOpenedAt ops place) }
 {
-    if is_ended_op(op) {
-        return Ok(over_at(place));
+    if place == live {
+        return Ok(Opened { over: false, frame });
     }
-    let frame = match op {
-        Op::Tell { messages } => Frame::Telling(new_box(alloc, messages.copy(alloc)?)?),
-        Op::Gather { keys } => Frame::Gathering(keys.copy(alloc)?.into_vec()),
-        _ => Frame::At(place),
-    };
+    let frame = Frame::Past(place, true, new_box(alloc, frame)?);
     Ok(Opened { over: false, frame })
 }
 
-/// Both parts of the parallel at a place, side by side.
+/// An op at a place, neither a sequence nor a parallel, of which something is left to do: a tell
+/// or a gather as a frame.
 #[tactic(auto, using(crate::proofs::FrameLemmas::at_placed))]
-fn side_by_side(alloc: Global, place: usize, left: Opened, right: Opened) -> Result<Opened, Memory>
-    ensures { IfOk result (λ opened. (ops : List OneOp) (p q : ℕ) → place < length ops
-        → at (processes ops) place ≡ Par (at (processes ops) p) (at (processes ops) q)
-        → IsOpenedAt ops p left → IsOpenedAt ops q right → IsOpenedAt ops place opened) }
+fn opened_op(alloc: Global, op: &Op, place: usize) -> Result<Frame, Memory>
+    requires { is_single_op op.now ≡ true }
+    ensures { IfOk result (λ frame. (ops : List OneOp) → place < length ops
+        → ended (at (processes ops) place) ≡ false
+        → at (processes ops) place ≡ op_process (processes ops) op.now
+        → IsOpenedAt ops place (record { over = false; frame = frame })) }
 {
-    if left.over && right.over {
-        drop((left, right));
-        return Ok(over_at(place));
+    match op {
+        Op::Tell { messages } => Ok(Frame::Telling(new_box(alloc, messages.copy(alloc)?)?)),
+        Op::Gather { keys } => Ok(Frame::Gathering(keys.copy(alloc)?.into_vec())),
+        _ => Ok(Frame::At(place)),
     }
+}
+
+/// A sequence whose first part goes on, and is opened as this.
+fn opened_sequence(alloc: Global, first: Opened, second: usize) -> Result<Frame, Memory>
+    ensures { IfOk result (λ frame. (ops : List OneOp) (place p : ℕ) → place < length ops
+        → second < length ops → ended (at (processes ops) p) ≡ false
+        → at (processes ops) place ≡ Seq (at (processes ops) p) (at (processes ops) second)
+        → IsOpenedAt ops p first
+        → IsOpenedAt ops place (record { over = false; frame = frame })) }
+{
+    in_order(alloc, false, first.frame, Frame::At(second))
+}
+
+/// Both parts of a parallel of which something is left to do, side by side.
+fn side_by_side(alloc: Global, left: Opened, right: Opened) -> Result<Frame, Memory>
+    ensures { IfOk result (λ frame. (ops : List OneOp) (place p q : ℕ) → place < length ops
+        → ended (at (processes ops) place) ≡ false
+        → at (processes ops) place ≡ Par (at (processes ops) p) (at (processes ops) q)
+        → IsOpenedAt ops p left → IsOpenedAt ops q right
+        → IsOpenedAt ops place (record { over = false; frame = frame })) }
+{
     let (left_over, right_over) = (left.over, right.over);
     let (left, right) = new_boxes(alloc, left.frame, right.frame)?;
-    let frame = Frame::Par(left_over, left, right_over, right);
-    Ok(Opened { over: false, frame })
+    Ok(Frame::Par(left_over, left, right_over, right))
 }

@@ -10,9 +10,10 @@ ghost use Rattle.flat_role.specs.Growths.{is_single_op};
 ghost use Rattle.flat_role.specs.Stances.{says_acts, says_over};
 ghost use Rattle.process_steps.specs.Steps.{ended, offers};
 
+use crate::live_code::LiveCode;
 use crate::parts::{add_offer, does};
 use dioc_terms::{Act, Memory, Messages, Role};
-use flat_code::{Code, Op};
+use flat_code::Op;
 use std::alloc::Global;
 
 /// What a part is to an act.
@@ -24,21 +25,6 @@ pub(crate) enum Stance {
     Apart,
     /// It offers the act.
     Acts,
-}
-
-/// Whether nothing is left to do at a place.
-pub(crate) fn is_ended_at(code: &Code, place: usize) -> bool
-    requires { place < length code.now.ops.items }
-    ensures { result ≡ ended (at (processes code.now.ops.items) place) }
-{
-    match code.op_at(place) {
-        Op::Seq {
-            first: left,
-            second: right,
-        }
-        | Op::Par { left, right } => is_ended_at(code, *left) && is_ended_at(code, *right),
-        single => is_ended_op(single),
-    }
 }
 
 /// Whether nothing is left to do of an op.
@@ -60,54 +46,51 @@ pub(crate) fn is_ended_op(op: &Op) -> bool
 pub(crate) fn add_offers_at(
     alloc: Global,
     me: &Role,
-    code: &Code,
+    code: &LiveCode,
     place: usize,
     acts: &mut Vec<Act>,
 ) -> Result<bool, Memory>
-    requires { place < length code.now.ops.items }
+    requires { place < length code.now.code.ops.items }
     ensures offers { OnOk result (acts.new.items
-        ≡ acts.old.items ++ offers me.now (at (processes code.now.ops.items) place)) }
+        ≡ acts.old.items ++ offers me.now (at (processes code.now.code.ops.items) place)) }
     ensures over { IfOk result (λ over.
-        over ≡ ended (at (processes code.now.ops.items) place)) }
+        over ≡ ended (at (processes code.now.code.ops.items) place)) }
 {
-    match code.op_at(place) {
-        Op::Seq { first, second } => {
-            if add_offers_at(alloc, me, code, *first, acts)? {
-                return add_offers_at(alloc, me, code, *second, acts);
-            }
-            Ok(false)
+    let Some(live) = code.live_at(place) else {
+        return Ok(true);
+    };
+    match code.op_at(live.place) {
+        Op::Seq { first, .. } => {
+            let _over = add_offers_at(alloc, me, code, *first, acts)?;
         }
         Op::Par { left, right } => {
-            let left_over = add_offers_at(alloc, me, code, *left, acts)?;
-            let right_over = add_offers_at(alloc, me, code, *right, acts)?;
-            Ok(left_over && right_over)
+            let _left_over = add_offers_at(alloc, me, code, *left, acts)?;
+            let _right_over = add_offers_at(alloc, me, code, *right, acts)?;
         }
-        single => {
-            add_offer(alloc, me, single, acts)?;
-            Ok(is_ended_op(single))
-        }
+        single => add_offer(alloc, me, single, acts)?,
     }
+    Ok(false)
 }
 
 /// What the process at a place is to an act.
 #[tactic(auto, using(crate::proofs::FrameLemmas::acts_unended))]
-pub(crate) fn stance_at(me: &Role, act: &Act, code: &Code, place: usize) -> Stance
-    requires { place < length code.now.ops.items }
-    ensures over { says_over result ≡ ended (at (processes code.now.ops.items) place) }
+pub(crate) fn stance_at(me: &Role, act: &Act, code: &LiveCode, place: usize) -> Stance
+    requires { place < length code.now.code.ops.items }
+    ensures over { says_over result ≡ ended (at (processes code.now.code.ops.items) place) }
     ensures acts { says_acts result
-        ≡ is_some (acting me.now act.now (at (processes code.now.ops.items) place)) }
+        ≡ is_some (acting me.now act.now (at (processes code.now.code.ops.items) place)) }
 {
-    match code.op_at(place) {
-        Op::Seq { first, second } => match stance_at(me, act, code, *first) {
-            Stance::Over => stance_at(me, act, code, *second),
-            stance => stance,
-        },
+    let Some(live) = code.live_at(place) else {
+        return Stance::Over;
+    };
+    match code.op_at(live.place) {
+        Op::Seq { first, .. } => stance_at(me, act, code, *first),
         Op::Par { left, right } => match stance_at(me, act, code, *left) {
             Stance::Over => stance_at(me, act, code, *right),
             Stance::Apart => beside(stance_at(me, act, code, *right)),
             Stance::Acts => Stance::Acts,
         },
-        single => stance_of(is_ended_op(single), does(me, act, single)),
+        single => stance_of(false, does(me, act, single)),
     }
 }
 

@@ -11,13 +11,13 @@ ghost use Rattle.flat_code.specs.Places.{at, processes};
 ghost use Rattle.flat_role.specs.Growths.{IsInside, part_process};
 ghost use Rattle.flat_role.specs.ShownParts.{IsShownOf};
 
+use crate::live_code::LiveCode;
 use crate::offered::Part;
 use crate::parts::{entry_of, head_of, payload_of, value_of, write_of};
 use dioc_terms::{Act, Entry, Memory, Payload, Role, ScopeHead, Store, Value, give_up};
 use dpoc_process::Prepared;
 use dpoc_process::growth::Write;
 use dpoc_process::prepared::{copy_of_act, gather_entry, payload_of_tell, tell_entry};
-use flat_code::Code;
 use std::alloc::Global;
 
 /// What is shown of an act but the act itself.
@@ -34,12 +34,12 @@ pub(crate) fn prepared_at(
     me: &Role,
     act: &Act,
     value: &Value,
-    code: &Code,
+    code: &LiveCode,
     part: Part<'_>,
 ) -> Result<Prepared, Memory>
-    requires { IsInside (length code.now.ops.items) part }
+    requires { IsInside (length code.now.code.ops.items) part }
     ensures { IfOk result (IsPreparedFor me.now act.now value.now
-        (part_process (processes code.now.ops.items) part.entry)) }
+        (part_process (processes code.now.code.ops.items) part.entry)) }
 {
     let act = copy_of_act(alloc, act)?;
     match shown_at(alloc, me, value, code, part) {
@@ -64,12 +64,12 @@ fn shown_at(
     alloc: Global,
     me: &Role,
     value: &Value,
-    code: &Code,
+    code: &LiveCode,
     part: Part<'_>,
 ) -> Result<Shown, Memory>
-    requires { IsInside (length code.now.ops.items) part }
+    requires { IsInside (length code.now.code.ops.items) part }
     ensures { IfOk result (IsShownOf me.now value.now
-        (part_process (processes code.now.ops.items) part.entry)) }
+        (part_process (processes code.now.code.ops.items) part.entry)) }
 {
     match part {
         Part::At(place) => shown_of(alloc, me, value, code, place),
@@ -97,12 +97,12 @@ fn shown_of(
     alloc: Global,
     me: &Role,
     value: &Value,
-    code: &Code,
+    code: &LiveCode,
     place: usize,
 ) -> Result<Shown, Memory>
-    requires { place < length code.now.ops.items }
+    requires { place < length code.now.code.ops.items }
     ensures { IfOk result (IsShownOf me.now value.now
-        (at (processes code.now.ops.items) place)) }
+        (at (processes code.now.code.ops.items) place)) }
 {
     let op = code.op_at(place);
     let entry = entry_of(alloc, me, value, op)?;
@@ -124,12 +124,12 @@ fn shown_of(
 pub(crate) fn value_for(
     alloc: Global,
     store: &Store,
-    code: &Code,
+    code: &LiveCode,
     part: Part<'_>,
 ) -> Result<Value, Memory>
-    requires { IsInside (length code.now.ops.items) part }
+    requires { IsInside (length code.now.code.ops.items) part }
     ensures { IfOk result (λ value. value ≡ value_at (store_of store.now)
-        (part_process (processes code.now.ops.items) part.entry)) }
+        (part_process (processes code.now.code.ops.items) part.entry)) }
 {
     match part {
         Part::At(place) => value_of(alloc, store, code.op_at(place)),
@@ -141,12 +141,12 @@ pub(crate) fn value_for(
 pub(crate) fn write_for(
     alloc: Global,
     value: &Value,
-    code: &Code,
+    code: &LiveCode,
     part: Part<'_>,
 ) -> Result<Write, Memory>
-    requires { IsInside (length code.now.ops.items) part }
+    requires { IsInside (length code.now.code.ops.items) part }
     ensures { IfOk result (λ write. write_of write ≡ write_at value.now
-        (part_process (processes code.now.ops.items) part.entry)) }
+        (part_process (processes code.now.code.ops.items) part.entry)) }
 {
     match part {
         Part::At(place) => write_of(alloc, value, code.op_at(place)),

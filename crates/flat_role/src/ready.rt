@@ -16,13 +16,13 @@ ghost use Rattle.flat_role.specs.ReadyParts.{IsMade, IsReadyFor};
 use crate::changes::try_change;
 use crate::frames::Frame;
 use crate::growth::{Growth, grown, growth_at};
+use crate::live_code::LiveCode;
 use crate::offered::{Part, find};
 use crate::prepared::{prepared_at, value_for, write_for};
 use dioc_terms::{Act, Memory, Role, Store, Value, give_up};
 use dpoc_process::growth::Write;
 use dpoc_process::ready::{apply, split};
 use dpoc_process::{Got, PrepareFault, Prepared};
-use flat_code::Code;
 use std::alloc::Global;
 use std::mem;
 use std::snapshot::Snapshot;
@@ -54,19 +54,20 @@ pub(crate) fn keep_ready(place: &mut Option<Ready>, ready: Ready)
 pub(crate) fn make_ready(
     alloc: Global,
     me: &Role,
-    code: &Code,
+    code: &LiveCode,
     frame: &Frame,
     store: &mut Store,
     act: &Act,
 ) -> Result<(Ready, Prepared), PrepareFault>
-    requires placed { is_placed (length code.now.ops.items) frame.now ≡ true }
-    requires opened { is_open (processes code.now.ops.items) frame.now ≡ true }
+    requires placed { is_placed (length code.now.code.ops.items) frame.now ≡ true }
+    requires opened { is_open (processes code.now.code.ops.items) frame.now ≡ true }
     ensures same { store_of store.new ≡ store_of store.old }
     ensures has_room { OnOk result (0 < room store.new) }
     ensures no_act { IsErrOf result PrepareFault.NoAct ↔ (acting me.now act.now
-        (frame_process (processes code.now.ops.items) frame.now) ≡ None) }
-    ensures made { IfOk result (λ made. IsMade code.now.ops.items me.now (store_of store.old)
-        act.now (acting me.now act.now (frame_process (processes code.now.ops.items) frame.now))
+        (frame_process (processes code.now.code.ops.items) frame.now) ≡ None) }
+    ensures made { IfOk result (λ made. IsMade code.now.code.ops.items me.now (store_of store.old)
+        act.now
+        (acting me.now act.now (frame_process (processes code.now.code.ops.items) frame.now))
         made.0 made.1) }
 {
     match find(me, act, code, frame) {
@@ -85,14 +86,15 @@ pub(crate) fn make_ready(
 fn made_ready(
     alloc: Global,
     me: &Role,
-    code: &Code,
+    code: &LiveCode,
     store: &Store,
     act: &Act,
     part: Part<'_>,
 ) -> Result<(Ready, Prepared), Memory>
-    requires { IsInside (length code.now.ops.items) part }
-    ensures { IfOk result (λ made. IsMade code.now.ops.items me.now (store_of store.now) act.now
-        (Some (part_process (processes code.now.ops.items) part.entry)) made.0 made.1) }
+    requires { IsInside (length code.now.code.ops.items) part }
+    ensures { IfOk result (λ made. IsMade code.now.code.ops.items me.now (store_of store.now)
+        act.now (Some (part_process (processes code.now.code.ops.items) part.entry))
+        made.0 made.1) }
 {
     let value = value_for(alloc, store, code, part)?;
     let prepared = prepared_at(alloc, me, act, &value, code, part)?;
@@ -106,14 +108,14 @@ fn made_ready(
 fn ready_at(
     alloc: Global,
     me: &Role,
-    code: &Code,
+    code: &LiveCode,
     act: &Act,
     value: &Value,
     part: Part<'_>,
 ) -> Result<Ready, Memory>
-    requires { IsInside (length code.now.ops.items) part }
-    ensures { IfOk result (IsReadyFor code.now.ops.items me.now act.now value.now
-        (part_process (processes code.now.ops.items) part.entry)) }
+    requires { IsInside (length code.now.code.ops.items) part }
+    ensures { IfOk result (IsReadyFor code.now.code.ops.items me.now act.now value.now
+        (part_process (processes code.now.code.ops.items) part.entry)) }
 {
     let write = write_for(alloc, value, code, part)?;
     let growth = growth_at(alloc, me, value, code, part)?;
@@ -129,22 +131,22 @@ fn ready_at(
 pub(crate) fn advance(
     me: &Role,
     act: &Act,
-    code: &Code,
+    code: &LiveCode,
     frame: &mut Frame,
     store: &mut Store,
     ready: Ready,
     got: Got,
 )
     requires has_room { 0 < room store.old }
-    requires placed { is_placed (length code.now.ops.items) frame.old ≡ true }
-    requires opened { is_open (processes code.now.ops.items) frame.old ≡ true }
-    requires growth { is_growth_placed (length code.now.ops.items) ready.growth ≡ true }
+    requires placed { is_placed (length code.now.code.ops.items) frame.old ≡ true }
+    requires opened { is_open (processes code.now.code.ops.items) frame.old ≡ true }
+    requires growth { is_growth_placed (length code.now.code.ops.items) ready.growth ≡ true }
     requires acts { is_some (acting me.now act.now
-        (frame_process (processes code.now.ops.items) frame.old)) ≡ true }
-    ensures changed { frame_process (processes code.now.ops.items) frame.new
-        ≡ replaced me.now act.now (frame_process (processes code.now.ops.items) frame.old)
-        (flat_grown (processes code.now.ops.items) ready.growth (handed got)) }
-    ensures placed { is_placed (length code.now.ops.items) frame.new ≡ true }
+        (frame_process (processes code.now.code.ops.items) frame.old)) ≡ true }
+    ensures changed { frame_process (processes code.now.code.ops.items) frame.new
+        ≡ replaced me.now act.now (frame_process (processes code.now.code.ops.items) frame.old)
+        (flat_grown (processes code.now.code.ops.items) ready.growth (handed got)) }
+    ensures placed { is_placed (length code.now.code.ops.items) frame.new ≡ true }
     ensures stored { store_of store.new ≡
         with_written (write_of ready.write) (handed_value (handed got)) (store_of store.old) }
 {

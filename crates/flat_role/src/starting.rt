@@ -11,7 +11,7 @@ impl Begins for FlatRole {
         let compiled = compile(alloc, &proc);
         drop(proc);
         match compiled {
-            Ok(code) => FlatRole::new(role, code, store),
+            Ok(code) => FlatRole::new(alloc, role, code, store),
             Err(fault) => give_up((role, store), fault),
         }
     }

@@ -5,10 +5,11 @@ ghost use Rattle.dioc_terms.specs.KeptStores.{store_of};
 ghost use Rattle.flat_role.specs.Frames.{is_placed};
 
 use crate::frames::{Frame, is_ended};
+use crate::live_code::LiveCode;
 use crate::offered::{add_offers, can_act};
 use crate::opening::settle;
 use crate::ready::{Ready, advance, clear, keep_ready, make_ready};
-use dioc_terms::{Act, Memory, Role, Store};
+use dioc_terms::{Act, Memory, Role, Store, give_up};
 use dpoc_process::{Got, PrepareFault, Prepared, Runs};
 use flat_code::Code;
 use std::alloc::Global;
@@ -18,11 +19,11 @@ use std::alloc::Global;
 #[derive(Drop)]
 pub struct FlatRole {
     role: Role,
-    code: Code,
+    code: LiveCode,
     frame: Frame,
     store: Store,
     ready: Option<Ready>,
-    ghost placed: { is_placed (length code.ops.items) frame ≡ true },
+    ghost placed: { is_placed (length code.code.ops.items) frame ≡ true },
 }
 
 impl FlatRole {
@@ -30,20 +31,24 @@ impl FlatRole {
     ghost use Rattle.flat_code.specs.Codes.{process_of};
     ghost use Rattle.flat_role.specs.FlatStates.{code_len, local_of};
 
-    /// The role with the process that the code stands for and this store. Want of memory is the
-    /// error of the signature; it takes none.
-    pub fn new(role: Role, code: Code, store: Store) -> Result<FlatRole, Memory>
+    /// The role with the process that the code stands for and this store. It notes of each place
+    /// of the code where its live part stands, in memory by the code's length, of which the want is
+    /// the error.
+    pub fn new(alloc: Global, role: Role, code: Code, store: Store) -> Result<FlatRole, Memory>
         ensures { IfOk result (λ flat. local_of flat ≡ local role (process_of code)
             (store_of store)) }
     {
         let frame = Frame::At(code.start);
-        Ok(FlatRole {
-            role,
-            code,
-            frame,
-            store,
-            ready: None,
-        })
+        match LiveCode::new(alloc, code) {
+            Ok(code) => Ok(FlatRole {
+                role,
+                code,
+                frame,
+                store,
+                ready: None,
+            }),
+            Err(fault) => give_up((role, store), fault),
+        }
     }
 
     /// How many ops the code has: those that it was made with, and those of the parts that were
@@ -51,7 +56,7 @@ impl FlatRole {
     pub fn code_len(&self) -> usize
         ensures { result ≡ code_len self.now }
     {
-        self.code.ops.len()
+        self.code.code.ops.len()
     }
 }
 

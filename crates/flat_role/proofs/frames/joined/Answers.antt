@@ -10,7 +10,7 @@ use Rattle.flat_role.proofs.frames.joined.Goals as goal
 
 pub returns-then-is_ended-clause-stands : goal.returns-then-is_ended-clause-stands
 returns-then-is_ended-clause-stands c =
-    let done : List Process = processes c.args.code.now.ops.items in
+    let done : List Process = processes c.args.code.now.code.ops.items in
     let P = frame_process done c.args.first in
     let Q = frame_process done c.args.second in
     let over : ended P ≡ true = sym c.is_ended.ensures ∙ c.if-is_ended.true in
@@ -18,7 +18,7 @@ returns-then-is_ended-clause-stands c =
 
 pub returns-clause-stands : goal.returns-clause-stands
 returns-clause-stands c =
-    let done : List Process = processes c.args.code.now.ops.items in
+    let done : List Process = processes c.args.code.now.code.ops.items in
     let P = frame_process done c.args.first in
     let Q = frame_process done c.args.second in
     let goes : ended P ≡ false = sym c.is_ended.ensures ∙ c.if-is_ended.false in

@@ -14,7 +14,7 @@ use Rattle.flat_role.proofs.growth.growth_of.Goals as goal
 
 pub returns-in_ok-made-in-IfLead : goal.returns-in_ok-made-in-IfLead
 returns-in_ok-made-in-IfLead c =
-    let ops = c.args.code.now.ops.items in
+    let ops = c.args.code.now.code.ops.items in
     let done : List Process = processes ops in
     let me = c.args.me.now in
     let v = c.args.value.now in
@@ -35,7 +35,7 @@ returns-in_ok-made-in-IfLead c =
 
 pub returns-in-ScopeFollow : goal.returns-in-ScopeFollow
 returns-in-ScopeFollow c =
-    let ops = c.args.code.now.ops.items in
+    let ops = c.args.code.now.code.ops.items in
     let done : List Process = processes ops in
     let op = c.in-ScopeFollow in
     let stands : at done c.args.place ≡ ScopeFollow op.index op.leader (at done op.body) =

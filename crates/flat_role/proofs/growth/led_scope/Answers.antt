@@ -10,8 +10,8 @@ use Rattle.flat_role.proofs.growth.led_scope.Goals as goal
 
 pub returns-in-Ok : goal.returns-in-Ok
 returns-in-Ok c =
-    let done : List Process = processes c.args.code.now.ops.items in
-    let n = length c.args.code.now.ops.items in
+    let done : List Process = processes c.args.code.now.code.ops.items in
+    let n = length c.args.code.now.code.ops.items in
     let body = at done c.args.body in
     let made = c.led_entrance.result in
     subst

@@ -14,7 +14,7 @@ use Rattle.flat_role.proofs.growth.picked.Goals as goal
 
 pub returns-in-IfLead-clause-stands : goal.returns-in-IfLead-clause-stands
 returns-in-IfLead-clause-stands c =
-    let done : List Process = processes c.args.code.now.ops.items in
+    let done : List Process = processes c.args.code.now.code.ops.items in
     let me = c.args.me.now in
     let flag = c.args.flag in
     let op = c.in-IfLead in
@@ -31,7 +31,7 @@ returns-in-IfLead-clause-stands c =
 
 pub returns-in-false-clause-stands : goal.returns-in-false-clause-stands
 returns-in-false-clause-stands c =
-    let done : List Process = processes c.args.code.now.ops.items in
+    let done : List Process = processes c.args.code.now.code.ops.items in
     let me = c.args.me.now in
     let op = c.in-WhileLead in
     let stands : at done c.args.place ≡ WhileLead op.index (expression op.guard) op.others

@@ -11,7 +11,7 @@ use Rattle.flat_role.proofs.ready.advance.Goals as goal
 
 pub returns-clause-changed : goal.returns-clause-changed
 returns-clause-changed c =
-    let done : List Process = processes c.args.code.now.ops.items in
+    let done : List Process = processes c.args.code.now.code.ops.items in
     surely c.try_change-over.result (c.try_change-over.ensures.acts ∙ c.requires.acts)
     c.try_change-over.ensures.replaced
     ∙ ap (replaced c.args.me.now c.args.act.now (frame_process done c.args.frame.now))

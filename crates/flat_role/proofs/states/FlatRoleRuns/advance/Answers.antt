@@ -19,11 +19,11 @@ returns-clause-steps c = λ given brings.
     let s = store_of flat.store in
     let ready = c.requires.ready in
     let used : c.unwrap-ready.result ≡ ready.ready = cc in
-    let made : IsReadyFor flat.code.ops.items me a (value_at s ready.part) ready.part
+    let made : IsReadyFor flat.code.code.ops.items me a (value_at s ready.part) ready.part
     c.unwrap-ready.result = subst
-    (IsReadyFor flat.code.ops.items me a (value_at s ready.part) ready.part) (sym used)
+    (IsReadyFor flat.code.code.ops.items me a (value_at s ready.part) ready.part) (sym used)
     ready.made in
     subst (IsStep (local me P s) a given)
     (ap₂ (local me) (sym c.advance.ensures.changed) (sym c.advance.ensures.stored))
-    (flat-steps flat.code.ops.items me s a P c.unwrap-ready.result ready.acts made
+    (flat-steps flat.code.code.ops.items me s a P c.unwrap-ready.result ready.acts made
     (handed c.args.got) c.requires.can given brings)

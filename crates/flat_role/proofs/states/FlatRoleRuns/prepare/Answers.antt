@@ -63,7 +63,7 @@ returns-in-Ok-clause-shown c =
     let a = c.args.act.now in
     let s = store_of c.args.self.now.store in
     let P = frames_of c.args.self.now in
-    let ops = c.settle.new.code.ops.items in
+    let ops = c.settle.new.code.code.ops.items in
     let Q : Process = frame_process (processes ops) c.settle.new.frame in
     let made : IsMade ops me s a (acting me a Q) c.in-Ok.ready c.in-Ok.prepared =
     c.in-Ok.ensures.made in
