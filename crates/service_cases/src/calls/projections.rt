@@ -8,9 +8,23 @@ use trace_text::write_process;
 
 /// Appends the text of the role's process.
 pub fn answer(alloc: Global, case: &Case, out: &mut Vec<u8>) -> Result<(), Problem> {
-    let role = role_of(alloc, case)?;
     let choreo = whole_choreo(alloc, case)?;
-    Ok(write_projection(alloc, &choreo, &role, out)?)
+    let written = write_process_of(alloc, case, &choreo, out);
+    drop(choreo);
+    written
+}
+
+// Appends the text of the process of the role that the option names.
+fn write_process_of(
+    alloc: Global,
+    case: &Case,
+    choreo: &Choreo,
+    out: &mut Vec<u8>,
+) -> Result<(), Problem> {
+    let role = role_of(alloc, case)?;
+    let written = write_projection(alloc, choreo, &role, out);
+    drop(role);
+    Ok(written?)
 }
 
 fn role_of(alloc: Global, case: &Case) -> Result<Role, Problem> {
@@ -29,6 +43,10 @@ fn write_projection(
 ) -> Result<(), Memory> {
     casts_are_roles();
     let cast = roles(alloc, choreo)?;
-    let proc = project(alloc, choreo, role, cast.as_slice())?;
-    write_process(&proc, out)
+    let projected = project(alloc, choreo, role, cast.as_slice());
+    drop(cast);
+    let proc = projected?;
+    let written = write_process(&proc, out);
+    drop(proc);
+    written
 }

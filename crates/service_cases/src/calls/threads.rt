@@ -45,17 +45,41 @@ fn judged_run<R: Threads + Wait + Sync>(
     text: &[u8],
 ) -> Result<Vec<u8>, Problem> {
     let made = serve_threaded(rt, alloc, words, text)?;
+    let judged = replayed(alloc, text, &made.out);
+    let code = made.code;
+    drop(made);
+    Ok(judged_line(alloc, code, judged?)?)
+}
+
+// The exit code of `replay` of a trace, put behind the bundle.
+fn replayed(alloc: Global, text: &[u8], trace: &[u8]) -> Result<u8, Problem> {
+    let bundle = with_trace(alloc, text, trace)?;
+    let judged = replay_of(alloc, &bundle);
+    drop(bundle);
+    judged
+}
+
+fn with_trace(alloc: Global, text: &[u8], trace: &[u8]) -> Result<Vec<u8>, Memory> {
     let mut bundle = text.to_vec(alloc)?;
     write_bytes(b"\ntrace {\n", &mut bundle)?;
-    write_bytes(&made.out, &mut bundle)?;
+    write_bytes(trace, &mut bundle)?;
     write_bytes(b"}\n", &mut bundle)?;
-    let replay = copy_words(alloc, &[b"replay"], &[])?;
-    let judged = serve(alloc, &replay, &bundle, &Devices::usual())?;
+    Ok(bundle)
+}
+
+fn replay_of(alloc: Global, bundle: &[u8]) -> Result<u8, Problem> {
+    let words = copy_words(alloc, &[b"replay"], &[])?;
+    let judged = serve(alloc, &words, bundle, &Devices::usual())?;
+    Ok(judged.code)
+}
+
+// The line of a run with this exit code, whose trace was replayed with the other.
+fn judged_line(alloc: Global, code: u8, replayed: u8) -> Result<Vec<u8>, Memory> {
     let mut line = Vec::new(alloc);
     write_bytes(b"code ", &mut line)?;
-    write_number(u64::from(made.code), &mut line)?;
+    write_number(u64::from(code), &mut line)?;
     write_bytes(b", replayed with code ", &mut line)?;
-    write_number(u64::from(judged.code), &mut line)?;
+    write_number(u64::from(replayed), &mut line)?;
     Ok(line)
 }
 
