@@ -1,6 +1,8 @@
 //! The reserved words and the symbols.
 
 ghost use Rattle.std.specs.Prelude.{◌≡◌, ◌∷◌, []};
+ghost use Rattle.std.specs.List.{find};
+ghost use Rattle.std.specs.Str.{bytes_eq};
 ghost use Rattle.aioc_tokens.specs.Words.{word_spelling, word_of, punctuator_spelling, punctuator_of};
 
 /// A reserved word, which is no name in the grammar.
@@ -75,33 +77,47 @@ pub enum Sort {
     Symbol(Punctuator),
 }
 
+/// All reserved words.
+const WORDS: [Word; 19] = [
+    Word::Aioc,
+    Word::Skip,
+    Word::If,
+    Word::Else,
+    Word::While,
+    Word::Scope,
+    Word::Prop,
+    Word::Rule,
+    Word::On,
+    Word::Do,
+    Word::True,
+    Word::False,
+    Word::Nil,
+    Word::And,
+    Word::Or,
+    Word::Not,
+    Word::Input,
+    Word::N,
+    Word::E,
+];
+
+/// The first of the words that these bytes spell.
+fn find_spelled(words: &[Word], bytes: &[u8]) -> Option<Word>
+    ensures { result ≡ find (λ word. bytes_eq bytes.now (word_spelling word)) words.now }
+{
+    for word in words {
+        if word.spelling() == bytes {
+            return Some(*word);
+        }
+    }
+    None
+}
+
 /// The reserved word that these bytes spell.
 #[tactic(auto, unfolding(crate::specs::Words::word_of))]
 pub fn find_word(bytes: &[u8]) -> Option<Word>
     ensures { result ≡ word_of bytes.now }
 {
-    match bytes {
-        b"aioc" => Some(Word::Aioc),
-        b"skip" => Some(Word::Skip),
-        b"if" => Some(Word::If),
-        b"else" => Some(Word::Else),
-        b"while" => Some(Word::While),
-        b"scope" => Some(Word::Scope),
-        b"prop" => Some(Word::Prop),
-        b"rule" => Some(Word::Rule),
-        b"on" => Some(Word::On),
-        b"do" => Some(Word::Do),
-        b"true" => Some(Word::True),
-        b"false" => Some(Word::False),
-        b"nil" => Some(Word::Nil),
-        b"and" => Some(Word::And),
-        b"or" => Some(Word::Or),
-        b"not" => Some(Word::Not),
-        b"input" => Some(Word::Input),
-        b"N" => Some(Word::N),
-        b"E" => Some(Word::E),
-        _ => None,
-    }
+    find_spelled(&WORDS, bytes)
 }
 
 #[tactic(auto, unfolding(crate::specs::Words::punctuator_of))]
