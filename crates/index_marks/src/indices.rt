@@ -27,19 +27,18 @@ fn add_all(seen: &mut IndexSet<Index>, choreo: &Choreo) -> Result<bool, Memory>
 {
     match choreo {
         Choreo::Skip => Ok(true),
-        Choreo::Com { index, .. } => add(seen, *index),
-        Choreo::Set { index, .. } => add(seen, *index),
-        Choreo::Input { index, .. } => add(seen, *index),
-        Choreo::Seq(first, second) => Ok(add_all(seen, first)? && add_all(seen, second)?),
-        Choreo::Par(left, right) => Ok(add_all(seen, left)? && add_all(seen, right)?),
-        Choreo::If { index, yes, no, .. } => {
-            if !add(seen, *index)? {
-                return Ok(false);
-            }
-            Ok(add_all(seen, yes)? && add_all(seen, no)?)
+        Choreo::Com { index, .. } | Choreo::Set { index, .. } | Choreo::Input { index, .. } => {
+            add(seen, *index)
         }
-        Choreo::While { index, body, .. } => Ok(add(seen, *index)? && add_all(seen, body)?),
-        Choreo::Scope { index, body, .. } => Ok(add(seen, *index)? && add_all(seen, body)?),
+        Choreo::Seq(first, second) | Choreo::Par(first, second) => {
+            Ok(add_all(seen, first)? && add_all(seen, second)?)
+        }
+        Choreo::If { index, yes, no, .. } => {
+            Ok(add(seen, *index)? && add_all(seen, yes)? && add_all(seen, no)?)
+        }
+        Choreo::While { index, body, .. } | Choreo::Scope { index, body, .. } => {
+            Ok(add(seen, *index)? && add_all(seen, body)?)
+        }
     }
 }
 

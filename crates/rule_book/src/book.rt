@@ -5,7 +5,7 @@ ghost use Rattle.std.specs.Vec.{vec_capacity};
 ghost use Rattle.std.specs.VecDeque.{deque_len};
 ghost use Rattle.indexmap.specs.IndexMap.{spare};
 
-use crate::keeping::{keep_opening, keep_script};
+use crate::keeping::{keep_env, keep_opening, keep_script};
 use crate::kept::{KeptChange, KeptRule};
 use dioc_terms::{
     Bundle, Change, Memory, Name, ScopeHead, Store, Value, casts_are_roles, choices_go_on,
@@ -18,7 +18,7 @@ use std::collections::VecDeque;
 /// The rule book of a bundle: the rules that may replace scopes, in the order of their first
 /// adding, the environment, and the changes of the script that are still to come. The memory of
 /// these changes is taken when the book is made.
-#[derive(Debug, Drop)]
+#[derive(Drop)]
 pub struct Book {
     rules: IndexMap<Name, KeptRule>,
     // The last pair of a name counts.
@@ -46,11 +46,10 @@ impl Book {
             bundle.now.script) }
         ensures of { IfOk result (IsBookOf (plain bundle.now).rules) }
     {
-        let coming = keep_script(alloc, bundle.rules.as_slice(), bundle.script.as_slice())?;
-        let mut rules = keep_opening(alloc, bundle.rules.as_slice(), bundle.opening)?;
-        rules.reserve(coming.len())?;
-        let mut env = bundle.env.copy(alloc)?.into_vec();
-        env.reserve(coming.len())?;
+        let rules = bundle.rules.as_slice();
+        let coming = keep_script(alloc, rules, bundle.script.as_slice())?;
+        let env = keep_env(alloc, &bundle.env, coming.len())?;
+        let rules = keep_opening(alloc, rules, bundle.opening, coming.len())?;
         Ok(Book { rules, env, coming })
     }
 

@@ -1,35 +1,54 @@
 //! How a bundle's rules and changes are kept.
 
-ghost use Rattle.std.specs.Prelude.{◌≡◌, ◌<◌, ◌≤◌, ℕ, length, map, All, IfOk};
+ghost use Rattle.std.specs.Prelude.{◌≡◌, ◌<◌, ◌≤◌, ◌+◌, ℕ, length, map, vec_len, All, IfOk};
 ghost use Rattle.std.specs.List.{AllByRecursion};
+ghost use Rattle.std.specs.Vec.{vec_capacity};
+ghost use Rattle.indexmap.specs.IndexMap.{spare};
 ghost use Rattle.dioc_terms.specs.Bundles.{IsFormedRule, adds};
 ghost use Rattle.dioc_terms.specs.Plain.{plain_rule};
 ghost use Rattle.dioc_terms.specs.Rules.{opening_order};
 ghost use Rattle.rule_book.specs.Kept.{change_of, order_of, IsKept, AreKept, IsKeptChange};
 
 use crate::kept::{KeptChange, KeptRule};
-use dioc_terms::{Change, Memory, Name, Rule, Timed, conditions_join_nothing, roles};
+use dioc_terms::{Change, Items, Memory, Name, Rule, Timed, Value, conditions_join_nothing, roles};
 use indexmap::IndexMap;
 use std::alloc::Global;
 use std::collections::VecDeque;
 
-/// The rules that are in the book from the start, under their names.
+/// The rules that are in the book from the start, under their names, with room for so many more.
 pub(crate) fn keep_opening(
     alloc: Global,
     rules: &[Rule],
     opening: u32,
+    more: usize,
 ) -> Result<IndexMap<Name, KeptRule>, Memory>
     requires formed { All IsFormedRule (map plain_rule rules.now) }
     requires there { opening ≤ length rules.now }
     ensures order { IfOk result (λ kept. order_of kept.entries
         ≡ opening_order (map plain_rule rules.now) opening) }
     ensures kept { IfOk result (λ kept. AreKept (map plain_rule rules.now) kept.entries) }
+    ensures room { IfOk result (λ kept. more ≤ spare kept) }
 {
     let mut kept = IndexMap::new(alloc);
     for number in 0..opening {
         let (name, rule) = keep_rule(alloc, rules, number)?;
         kept.insert(name, rule)?;
     }
+    kept.reserve(more)?;
+    Ok(kept)
+}
+
+/// The pairs of the environment, with room for so many more.
+pub(crate) fn keep_env(
+    alloc: Global,
+    env: &Items<(Name, Value)>,
+    more: usize,
+) -> Result<Vec<(Name, Value)>, Memory>
+    ensures pairs { IfOk result (λ kept. kept.items ≡ env.now) }
+    ensures room { IfOk result (λ kept. vec_len kept + more ≤ vec_capacity kept) }
+{
+    let mut kept = env.copy(alloc)?.into_vec();
+    kept.reserve(more)?;
     Ok(kept)
 }
 
@@ -78,9 +97,9 @@ fn keep_rule(alloc: Global, rules: &[Rule], number: u32) -> Result<(Name, KeptRu
 {
     conditions_join_nothing();
     let rule = &rules[number as usize];
+    let roles = roles(alloc, &rule.body)?;
     let name = rule.name.copy(alloc)?;
     let cond = rule.cond.copy(alloc)?;
-    let roles = roles(alloc, &rule.body)?;
     let kept = KeptRule {
         number,
         priority: rule.priority,

@@ -15,7 +15,7 @@ use dioc_terms::{Expr, Name, Role, Roles, ScopeHead, Store, Value, test};
 use limits::TOP_LEVEL;
 
 /// What a book keeps of a rule.
-#[derive(Debug, Drop)]
+#[derive(Drop)]
 pub struct KeptRule {
     /// Its number in the bundle.
     pub(crate) number: u32,
@@ -29,7 +29,7 @@ pub struct KeptRule {
 }
 
 /// A change that is still to come, with the memory that it takes.
-#[derive(Debug, Drop)]
+#[derive(Drop)]
 pub enum KeptChange {
     /// The rule is added by its name.
     Add(Name, KeptRule),
