@@ -38,7 +38,6 @@ pub fn write_truth(truth: bool, out: &mut Vec<u8>) -> Result<(), Memory>
 }
 
 /// Appends the value of a text in quotes, with a `\` before each `"` and `\`.
-#[tactic(auto, using(crate::proofs::KeptFronts::front_of_front))]
 pub fn write_quoted(bytes: &[u8], out: &mut Vec<u8>) -> Result<(), Memory>
     ensures ok { OnOk result (out.new.items ≡ out.old.items ++ quoted bytes.now) }
     ensures memory { OnErr result (KeepsFront out.old.items out.new.items) }
