@@ -84,16 +84,6 @@ fn minus(alloc: Global, inner: Found) -> Result<Found, Memory>
     })
 }
 
-/// Whether a token of this sort stands at a place of the text.
-fn stands(text: &Lexed<'_>, at: usize, sort: Sort) -> bool
-    ensures value { IsTrue result ↔ (sort ≡ sort_of (drop at text.now)) }
-    ensures within { IsTrue result → sort ≢ Sort.End → at < length text.now }
-    ensures small { length text.now < 2 ^ 63 }
-{
-    let here = text.sort(at);
-    here == sort
-}
-
 /// Whether one operator at most may stand between operands of this level.
 fn is_comparison(level: Level) -> bool
     ensures { IsTrue result ↔ (level ≡ Level.Comparison) }
@@ -110,7 +100,7 @@ fn is_denied(text: &Lexed<'_>, level: Level, at: usize) -> bool
     ensures within { IsTrue result → at < length text.now }
     ensures small { length text.now < 2 ^ 63 }
 {
-    let denied = stands(text, at, Sort::Reserved(Word::Not));
+    let denied = matches!(text.sort(at), Sort::Reserved(Word::Not));
     !is_inside(level) && denied
 }
 

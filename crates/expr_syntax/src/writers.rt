@@ -7,7 +7,7 @@ ghost use Rattle.text_pieces.specs.Pieces.{KeepsFront};
 ghost use Rattle.expr_syntax.specs.Writing.{is_compound, operator_lexeme, written, written_value};
 ghost use Rattle.expr_syntax.specs.Pieces.{opening_text, closing_text, expression_text};
 
-use dioc_terms::{Expr, Memory, Oper, Value};
+use dioc_terms::{Expr, Memory, Name, Oper, Value};
 use text_pieces::{Minus, cut_back, write_bytes};
 
 /// Appends the text of an expression: its tokens with one space between two. A `-` stands before an
@@ -46,18 +46,11 @@ fn write_part(expr: &Expr, out: &mut Vec<u8>) -> Result<(), Memory>
     match expr {
         Expr::Const(value) => text_pieces::write_value(value, Minus::Apart, out),
         Expr::Var(name) => write_bytes(name.bytes(), out),
-        Expr::Prop(name) => {
-            write_bytes(b"N . ", out)?;
-            write_bytes(name.bytes(), out)
-        }
-        Expr::Env(name) => {
-            write_bytes(b"E . ", out)?;
-            write_bytes(name.bytes(), out)
-        }
+        Expr::Prop(name) => write_member(b"N . ", name, out),
+        Expr::Env(name) => write_member(b"E . ", name, out),
         Expr::Not(inner) => {
             let compound = is_compound(inner);
-            write_bytes(b"not ", out)?;
-            write_opening(compound, out)?;
+            write_not(compound, out)?;
             write_part(inner, out)?;
             write_closing(compound, out)
         }
@@ -78,11 +71,33 @@ fn write_part(expr: &Expr, out: &mut Vec<u8>) -> Result<(), Memory>
     }
 }
 
+/// A name behind the `N` or the `E` of which it is a member.
+fn write_member(front: &[u8], name: &Name, out: &mut Vec<u8>) -> Result<(), Memory>
+    ensures ok { OnOk result (out.new.items ≡ out.old.items ++ (front.now ++ name.now)) }
+    ensures memory { OnErr result (KeepsFront out.old.items out.new.items) }
+{
+    write_bytes(front, out)?;
+    write_bytes(name.bytes(), out)
+}
+
 /// Whether an operand stands in brackets.
 fn is_compound(expr: &Expr) -> bool
     ensures { result ≡ is_compound (expression expr.now) }
 {
     matches!(expr, Expr::Not(_) | Expr::Neg(_) | Expr::Bin(_, _, _))
+}
+
+/// A `not`, and the bracket behind it where there is one.
+fn write_not(compound: bool, out: &mut Vec<u8>) -> Result<(), Memory>
+    ensures ok { OnOk result (out.new.items ≡ out.old.items
+        ++ (codes "not " ++ opening_text compound)) }
+    ensures memory { OnErr result (KeepsFront out.old.items out.new.items) }
+{
+    if compound {
+        write_bytes(b"not ( ", out)
+    } else {
+        write_bytes(b"not ", out)
+    }
 }
 
 fn write_opening(compound: bool, out: &mut Vec<u8>) -> Result<(), Memory>
