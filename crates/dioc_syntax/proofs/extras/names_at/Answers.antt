@@ -1,4 +1,4 @@
-use Rattle.std.proofs.Common.{◌+◌, [], ◌∷◌, ◌++◌, refl, sym, ap, ◌∙◌, subst, drop}
+use Rattle.std.proofs.Common.{◌+◌, [], ◌∷◌, ◌++◌, refl, sym, ap, ◌∙◌, subst, drop, arith}
 use Rattle.aioc_tokens.specs.declared.words.Sort.TheVariants as sorts
 use Rattle.aioc_tokens.specs.declared.words.Punctuator.TheVariants as punctuator
 use Rattle.aioc_tokens.specs.Fronts.{Longest}
@@ -22,6 +22,11 @@ loop-alloc-preserved c =
     let role = c.in_ok-role_at-2.field-0 in
     subst (λ items. NamesUpTo c.args.text.now c.args.at items (c.loop-alloc.next + 2)) (sym c.in_ok-push-2.ensures.items)
     (names_go_on c.args.text.now c.args.at c.loop-alloc.roles.items role.0 c.loop-alloc.next c.loop-alloc.invariant (c.begins.ensures.0 cc) c.in_ok-role_at-2.ensures.value)
+
+pub loop-alloc-smaller : goal.loop-alloc-smaller
+loop-alloc-smaller c =
+    let more = names_go_on c.args.text.now c.args.at c.loop-alloc.roles.items c.in_ok-role_at-2.field-0.0 c.loop-alloc.next c.loop-alloc.invariant (c.begins.ensures.0 cc) c.in_ok-role_at-2.ensures.value in
+    let within = more.within in omega arith
 
 pub returns : goal.returns
 returns c =

@@ -1,0 +1,16 @@
+use Rattle.std.proofs.Common.{arith}
+use Rattle.std.proofs.lemmas.Grind.{common_steps}
+use Rattle.text_pieces.proofs.KeptFronts.{front_of_front}
+use Rattle.dioc_syntax.proofs.writer.write_properties.Goals as goal
+
+pub returns-in_err-write_property-in-len1-up-clause-memory : goal.returns-in_err-write_property-in-len1-up-clause-memory
+returns-in_err-write_property-in-len1-up-clause-memory c = grind (arith, front_of_front)
+
+pub returns-in_err-write_next_properties-in-len1-up-clause-memory : goal.returns-in_err-write_next_properties-in-len1-up-clause-memory
+returns-in_err-write_next_properties-in-len1-up-clause-memory c = grind (arith, front_of_front)
+
+pub returns-in_ok-write_next_properties-in-len1-up-clause-ok : goal.returns-in_ok-write_next_properties-in-len1-up-clause-ok
+returns-in_ok-write_next_properties-in-len1-up-clause-ok c = grind (arith, common_steps)
+
+pub returns-in_ok-write_next_properties-in-len1-up-clause-memory : goal.returns-in_ok-write_next_properties-in-len1-up-clause-memory
+returns-in_ok-write_next_properties-in-len1-up-clause-memory c = grind (arith, front_of_front)
