@@ -8,3 +8,9 @@ loop-next-preserved c = grind (arith, common_steps)
 
 pub returns-in_err-write_next_property-clause-memory : goal.returns-in_err-write_next_property-clause-memory
 returns-in_err-write_next_property-clause-memory c = grind (arith, front_of_front)
+
+pub returns-clause-ok : goal.returns-clause-ok
+returns-clause-ok c = grind (arith, common_steps)
+
+pub returns-clause-memory : goal.returns-clause-memory
+returns-clause-memory c = grind (arith, front_of_front)

@@ -14,3 +14,6 @@ returns-clause-ok c = grind (arith, common_steps)
 
 pub returns-clause-memory : goal.returns-clause-memory
 returns-clause-memory c = grind (arith, front_of_front)
+
+pub returns-in_err-write_last-clause-memory : goal.returns-in_err-write_last-clause-memory
+returns-in_err-write_last-clause-memory c = grind (arith, common_steps)
