@@ -1,10 +1,19 @@
-use Rattle.text_pieces.proofs.KeptFronts.{err_front}
+use Rattle.std.proofs.Common.{arith}
+use Rattle.std.proofs.lemmas.Grind.{common_steps}
+use Rattle.text_pieces.proofs.KeptFronts.{front_of_front}
 use Rattle.bundle_text.proofs.writer.write_bound.Goals as goal
 
+pub returns-in_err-write_bytes-2-clause-memory : goal.returns-in_err-write_bytes-2-clause-memory
+returns-in_err-write_bytes-2-clause-memory c = grind (arith, front_of_front)
+
+pub returns-in_err-write_bytes-3-clause-memory : goal.returns-in_err-write_bytes-3-clause-memory
+returns-in_err-write_bytes-3-clause-memory c = grind (arith, front_of_front)
+
+pub returns-in_err-write_value-clause-memory : goal.returns-in_err-write_value-clause-memory
+returns-in_err-write_value-clause-memory c = grind (arith, common_steps)
+
+pub returns-clause-ok : goal.returns-clause-ok
+returns-clause-ok c = grind (arith, common_steps)
+
 pub returns-clause-memory : goal.returns-clause-memory
-returns-clause-memory c =
-    let result = c.write_bytes-4.result in
-    let bytes = c.write_bytes-4.new.out.items in
-    err_front _ _ _ result bytes c.in_ok-write_bytes.ensures.ok
-    (err_front _ _ _ result bytes c.in_ok-write_bytes-2.ensures.ok
-    (err_front _ _ _ result bytes c.in_ok-write_bytes-3.ensures.ok (err_front _ _ _ result bytes c.in_ok-write_value.ensures.ok c.write_bytes-4.ensures.memory)))
+returns-clause-memory c = grind (arith, front_of_front)

@@ -11,3 +11,6 @@ pub returns-in_err-write_input-clause-memory : goal.returns-in_err-write_input-c
 returns-in_err-write_input-clause-memory c =
     let p = err_from_is_err_and c.from_residual.result c.from_residual.ensures.1 in
     rw p.1 (front_after _ _ _ _ c.loop-input.invariant c.in_err-write_input.ensures.memory)
+
+pub returns-clause-ok : goal.returns-clause-ok
+returns-clause-ok c = grind (arith, common_steps)

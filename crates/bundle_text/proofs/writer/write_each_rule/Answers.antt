@@ -11,3 +11,6 @@ pub returns-in_err-write_spaced_rule-clause-memory : goal.returns-in_err-write_s
 returns-in_err-write_spaced_rule-clause-memory c =
     let p = err_from_is_err_and c.from_residual.result c.from_residual.ensures.1 in
     rw p.1 (front_after _ _ _ _ c.loop-rule.invariant c.in_err-write_spaced_rule.ensures.memory)
+
+pub returns-clause-ok : goal.returns-clause-ok
+returns-clause-ok c = grind (arith, common_steps)
