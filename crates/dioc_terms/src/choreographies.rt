@@ -5,7 +5,7 @@ ghost use Rattle.dioc_terms.specs.Expressions.{expression};
 ghost use Rattle.dioc_terms.specs.Leaves.{is_leaf_term};
 ghost use Rattle.dioc_terms.specs.Terms.{term, Com, Set, Input, If, While, Scope};
 
-use crate::copies::new_box;
+use crate::copies::{copy_both, new_box};
 use crate::expressions::Expr;
 use crate::faults::Memory;
 use crate::lists::{Bindings, Roles};
@@ -158,13 +158,15 @@ fn copy_of_com(
     ensures { IfOk result (λ copy. term copy ≡ Com index op.now from.now (expression expr.now)
         to.now var.now) }
 {
+    let (op, var) = copy_both(alloc, op, var)?;
+    let (from, to) = copy_both(alloc, from, to)?;
     Ok(Choreo::Com {
         index,
-        op: op.copy(alloc)?,
-        from: from.copy(alloc)?,
+        op,
+        from,
         expr: expr.copy(alloc)?,
-        to: to.copy(alloc)?,
-        var: var.copy(alloc)?,
+        to,
+        var,
     })
 }
 
@@ -177,10 +179,11 @@ fn copy_of_set(
 ) -> Result<Choreo, Memory>
     ensures { IfOk result (λ copy. term copy ≡ Set index var.now role.now (expression expr.now)) }
 {
+    let (var, role) = copy_both(alloc, var, role)?;
     Ok(Choreo::Set {
         index,
-        var: var.copy(alloc)?,
-        role: role.copy(alloc)?,
+        var,
+        role,
         expr: expr.copy(alloc)?,
     })
 }

@@ -25,7 +25,7 @@ impl<T: TryCopy> Items<T> {
         let items = self.as_slice();
         let mut copies = Vec::with_capacity(alloc, items.len())?;
         for item in items {
-            copies.push(item.try_copy(alloc)?)?;
+            copies.push_reserved(item.try_copy(alloc)?);
         }
         Ok(Items::new(copies))
     }
@@ -63,10 +63,21 @@ impl TryCopy for Entry {
 
 impl TryCopy for (Name, Value) {
     fn try_copy(&self, alloc: Global) -> Result<(Name, Value), Memory> {
-        let name = self.0.copy(alloc)?;
-        let value = self.1.copy(alloc)?;
-        Ok((name, value))
+        copy_both(alloc, &self.0, &self.1)
     }
+}
+
+/// Copies of both.
+pub(crate) fn copy_both<T: TryCopy, U: TryCopy>(
+    alloc: Global,
+    first: &T,
+    second: &U,
+) -> Result<(T, U), Memory>
+    ensures { IfOk result (λ copies. copies ≡ (first.now, second.now)) }
+{
+    let first = first.try_copy(alloc)?;
+    let second = second.try_copy(alloc)?;
+    Ok((first, second))
 }
 
 /// A box with the value, or want of memory for it; the value is then let go.

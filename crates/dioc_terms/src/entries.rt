@@ -4,6 +4,7 @@ ghost use Rattle.std.specs.Prelude.{◌≡◌, IfOk};
 ghost use Rattle.dioc_terms.specs.declared.entries.Entry.TheVariants as entry;
 ghost use Rattle.dioc_terms.specs.Equality.{variable_eq};
 
+use crate::copies::copy_both;
 use crate::faults::Memory;
 use crate::names::{Index, Name, Role};
 use crate::processes::Key;
@@ -243,11 +244,13 @@ fn copy_of_set(
 ) -> Result<Entry, Memory>
     ensures { IfOk result (λ copy. copy ≡ entry.Set index role.now var.now value.now) }
 {
+    let role = role.copy(alloc)?;
+    let (var, value) = copy_both(alloc, var, value)?;
     Ok(Entry::Set {
         index,
-        role: role.copy(alloc)?,
-        var: var.copy(alloc)?,
-        value: value.copy(alloc)?,
+        role,
+        var,
+        value,
     })
 }
 
@@ -260,11 +263,13 @@ fn copy_of_input(
 ) -> Result<Entry, Memory>
     ensures { IfOk result (λ copy. copy ≡ entry.Input index role.now var.now value.now) }
 {
+    let role = role.copy(alloc)?;
+    let (var, value) = copy_both(alloc, var, value)?;
     Ok(Entry::Input {
         index,
-        role: role.copy(alloc)?,
-        var: var.copy(alloc)?,
-        value: value.copy(alloc)?,
+        role,
+        var,
+        value,
     })
 }
 

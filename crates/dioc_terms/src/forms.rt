@@ -4,6 +4,7 @@ ghost use Rattle.std.specs.Prelude.{◌≡◌, IfOk};
 ghost use Rattle.dioc_terms.specs.Expressions.{expression};
 ghost use Rattle.dioc_terms.specs.Processes.{process, Send, Recv, Assign, Read, IfLead, IfFollow, WhileLead, WhileFollow, ScopeFollow};
 
+use crate::copies::copy_both;
 use crate::expressions::Expr;
 use crate::faults::Memory;
 use crate::lists::Roles;
@@ -23,10 +24,11 @@ impl Proc {
         ensures { IfOk result (λ proc. process proc ≡ Send index op.now to.now
             (expression expr.now)) }
     {
+        let (op, to) = copy_both(alloc, op, to)?;
         Ok(Proc::Send {
             index,
-            op: op.copy(alloc)?,
-            to: to.copy(alloc)?,
+            op,
+            to,
             expr: expr.copy(alloc)?,
         })
     }
@@ -41,11 +43,13 @@ impl Proc {
     ) -> Result<Proc, Memory>
         ensures { IfOk result (λ proc. process proc ≡ Recv index op.now from.now var.now) }
     {
+        let op = op.copy(alloc)?;
+        let (from, var) = copy_both(alloc, from, var)?;
         Ok(Proc::Recv {
             index,
-            op: op.copy(alloc)?,
-            from: from.copy(alloc)?,
-            var: var.copy(alloc)?,
+            op,
+            from,
+            var,
         })
     }
 

@@ -4,7 +4,7 @@ ghost use Rattle.std.specs.Prelude.{◌≡◌, true, IfOk};
 ghost use Rattle.dioc_terms.specs.Leaves.{is_follower, is_leaf_process};
 ghost use Rattle.dioc_terms.specs.Processes.{process, letters, load, ScopeLead};
 
-use crate::copies::new_box;
+use crate::copies::{copy_both, new_box};
 use crate::expressions::Expr;
 use crate::faults::Memory;
 use crate::lists::{Bindings, Keys, Roles};
@@ -105,9 +105,10 @@ impl Key {
     pub fn copy(&self, alloc: Global) -> Result<Key, Memory>
         ensures { IfOk result (λ copy. copy ≡ self.now) }
     {
+        let (from, to) = copy_both(alloc, &self.from, &self.to)?;
         Ok(Key {
-            from: self.from.copy(alloc)?,
-            to: self.to.copy(alloc)?,
+            from,
+            to,
             index: self.index,
             tag: self.tag.copy(alloc)?,
         })
@@ -313,6 +314,14 @@ impl Payload {
             Payload::Done => Ok(Payload::Done),
         }
     }
+
+    /// A copy in a box.
+    #[cycle(copy_process)]
+    fn to_box(&self, alloc: Global) -> Result<Box<Payload>, Memory>
+        ensures { IfOk result (λ copy. load copy.value ≡ load self.now) }
+    {
+        new_box(alloc, self.copy(alloc)?)
+    }
 }
 
 impl Messages {
@@ -324,12 +333,19 @@ impl Messages {
         match self {
             Messages::Nothing => Ok(Messages::Nothing),
             Messages::More(key, payload, rest) => {
-                let key = key.copy(alloc)?;
-                let payload = new_box(alloc, payload.copy(alloc)?)?;
-                let rest = new_box(alloc, rest.copy(alloc)?)?;
-                Ok(Messages::More(key, payload, rest))
+                let payload = payload.to_box(alloc)?;
+                let rest = rest.to_box(alloc)?;
+                Ok(Messages::More(key.copy(alloc)?, payload, rest))
             }
         }
+    }
+
+    /// A copy in a box.
+    #[cycle(copy_process)]
+    fn to_box(&self, alloc: Global) -> Result<Box<Messages>, Memory>
+        ensures { IfOk result (λ copy. letters copy.value ≡ letters self.now) }
+    {
+        new_box(alloc, self.copy(alloc)?)
     }
 }
 
