@@ -24,10 +24,10 @@ fn doer(entry: &Entry) -> Option<&Role>
     match entry {
         Entry::Put { key, .. } => Some(&key.from),
         Entry::Take { key, .. } => Some(&key.to),
-        Entry::Set { role, .. } => Some(role),
-        Entry::Input { role, .. } => Some(role),
-        Entry::Pick { role, .. } => Some(role),
-        Entry::Scope { role, .. } => Some(role),
+        Entry::Set { role, .. }
+        | Entry::Input { role, .. }
+        | Entry::Pick { role, .. }
+        | Entry::Scope { role, .. } => Some(role),
         Entry::Add { .. } | Entry::Drop { .. } | Entry::Env { .. } => None,
     }
 }

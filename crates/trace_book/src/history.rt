@@ -139,8 +139,8 @@ impl History {
     fn push_copy(&mut self, entry: &Entry) -> Result<(), Memory>
         ensures { OnOk result (self.new.entries ≡ self.old.entries ++ entry.now ∷ []) }
     {
-        let copy = entry.copy(*self.entries.allocator())?;
         self.reserve(1)?;
+        let copy = entry.copy(*self.entries.allocator())?;
         self.push(copy);
         Ok(())
     }
