@@ -5,7 +5,7 @@ use indexmap::IndexMap;
 use std::alloc::Global;
 
 /// The pending messages. No two of them have one key, and their order means nothing.
-#[derive(Debug, Drop)]
+#[derive(Drop)]
 pub struct Mail {
     pending: IndexMap<Key, Payload>,
 }
