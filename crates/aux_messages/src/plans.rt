@@ -40,7 +40,7 @@ fn keys_to(
 {
     let mut plan = Vec::with_capacity(alloc, others.len())?;
     for other in others {
-        plan.push(key_to(alloc, tag, index, leader, other)?)?;
+        plan.push_reserved(key_to(alloc, tag, index, leader, other)?);
     }
     Ok(plan)
 }
