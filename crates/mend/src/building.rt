@@ -34,13 +34,17 @@ pub(crate) fn name(alloc: Global, bytes: &[u8]) -> Result<Name, Memory>
 fn message(alloc: Global, from: &Role, to: &Role) -> Result<Choreo, Memory>
     ensures { IfOk result (λ made. term made ≡ message from.now to.now) }
 {
+    let op = name(alloc, b"sq_")?;
+    let var = name(alloc, b"sq_v")?;
+    let from = from.copy(alloc)?;
+    let to = to.copy(alloc)?;
     Ok(Choreo::Com {
         index: Index { epoch: 0, place: 0 },
-        op: name(alloc, b"sq_")?,
-        from: from.copy(alloc)?,
+        op,
+        from,
         expr: Expr::Const(Value::Nil),
-        to: to.copy(alloc)?,
-        var: name(alloc, b"sq_v")?,
+        to,
+        var,
     })
 }
 
