@@ -186,9 +186,9 @@ fn turns(alloc: Global, b: u32, c: u32) -> Result<Choreo, Memory>
         (setting_variable (counter b) c
         (Bin operators.Add (Var (counter b)) (number_literal 1))))) }
 {
-    let leader = role(alloc, c)?;
     let body = turn(alloc, b, c)?;
     let body = new_box(alloc, body)?;
+    let leader = role(alloc, c)?;
     match of_counter(alloc, b, Oper::Lt, 2) {
         Ok(guard) => Ok(Choreo::While {
             index: UNMARKED,
@@ -196,7 +196,7 @@ fn turns(alloc: Global, b: u32, c: u32) -> Result<Choreo, Memory>
             guard,
             body,
         }),
-        Err(fault) => give_up(body, fault),
+        Err(fault) => give_up((leader, body), fault),
     }
 }
 
@@ -228,16 +228,18 @@ fn scope(alloc: Global, b: u32, c: u32) -> Result<Choreo, Memory>
     requires is_role { c < 8 }
     ensures { IfOk result (λ made. term made ≡ block kinds.Scope b c) }
 {
-    let leader = role(alloc, c)?;
-    let props = property(alloc, c)?;
     let body = passing(alloc, b, c)?;
     let body = new_box(alloc, body)?;
-    Ok(Choreo::Scope {
-        index: UNMARKED,
-        leader,
-        body,
-        extra: Items::new(Vec::new(alloc)),
-        props,
-        level: 0,
-    })
+    let leader = role(alloc, c)?;
+    match property(alloc, c) {
+        Ok(props) => Ok(Choreo::Scope {
+            index: UNMARKED,
+            leader,
+            body,
+            extra: Items::new(Vec::new(alloc)),
+            props,
+            level: 0,
+        }),
+        Err(fault) => give_up((leader, body), fault),
+    }
 }

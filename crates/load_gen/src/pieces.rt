@@ -142,7 +142,7 @@ pub(crate) fn sending(alloc: Global, op: Name, j: u32, expr: Expr) -> Result<Cho
             to,
             var,
         }),
-        Err(fault) => give_up(expr, fault),
+        Err(fault) => give_up((op, expr), fault),
     }
 }
 
@@ -158,6 +158,6 @@ pub(crate) fn setting(alloc: Global, var: Name, j: u32, expr: Expr) -> Result<Ch
             role,
             expr,
         }),
-        Err(fault) => give_up(expr, fault),
+        Err(fault) => give_up((var, expr), fault),
     }
 }

@@ -22,9 +22,9 @@ use std::alloc::Global;
 pub(crate) fn roles(alloc: Global) -> Result<Roles, Memory>
     ensures { IfOk result (λ roles. roles ≡ map role_numbered eight) }
 {
-    let mut roles = Vec::new(alloc);
+    let mut roles = Vec::with_capacity(alloc, 8)?;
     for j in 0..8 {
-        roles.push(role(alloc, j)?)?;
+        roles.push_reserved(role(alloc, j)?);
     }
     Ok(Items::new(roles))
 }
@@ -129,7 +129,7 @@ fn rule(alloc: Global, j: u32) -> Result<Rule, Memory>
             cond,
             body,
         }),
-        Err(fault) => give_up(cond, fault),
+        Err(fault) => give_up((name, cond), fault),
     }
 }
 
@@ -193,14 +193,14 @@ fn dropping(alloc: Global) -> Result<Timed, Memory>
 pub(crate) fn script(alloc: Global) -> Result<Items<Timed>, Memory>
     ensures { IfOk result (λ timed. timed ≡ script) }
 {
-    let mut script = Vec::new(alloc);
+    let mut script = Vec::with_capacity(alloc, 10)?;
     for j in 0..8 {
-        script.push(Timed {
+        script.push_reserved(Timed {
             after: 10,
             change: Change::Add(j),
-        })?;
+        });
     }
-    script.push(calming(alloc)?)?;
-    script.push(dropping(alloc)?)?;
+    script.push_reserved(calming(alloc)?);
+    script.push_reserved(dropping(alloc)?);
     Ok(Items::new(script))
 }
