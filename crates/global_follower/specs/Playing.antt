@@ -2,10 +2,13 @@
 use Rattle.std.specs.Prelude.{List, [], Bool, true, false, Option, Some, None}
 use Rattle.dioc_terms.specs.Attempts.{Attempt, Stuck, Does}
 use Rattle.dioc_terms.specs.Plain.{PlainRule}
-use Rattle.dioc_terms.specs.Terms.{Term, Seq, Par, If, While, Scope}
+use Rattle.dioc_terms.specs.Terms as terms
+use Rattle.dioc_terms.specs.Terms.{Term, If, While, Scope}
 use Rattle.global_follower.specs.declared.effects.Effect.{Effect as KeptEffect}
 use Rattle.global_follower.specs.declared.plays.Played.{Played}
 use Rattle.global_follower.specs.declared.plays.Scene.{Scene}
+use Rattle.global_follower.specs.declared.plays.Stand.{Stand}
+use Rattle.global_follower.specs.declared.plays.Stand.TheVariants as stands
 use Rattle.global_follower.specs.declared.running.Running.{Running as KeptRunning}
 use Rattle.global_follower.specs.declared.running.Running as kept
 use Rattle.global_follower.specs.KeptBooks.{book_of}
@@ -13,7 +16,7 @@ use Rattle.global_follower.specs.KeptRunning.{running}
 use Rattle.global_follower.specs.KeptEffects.{effect_of}
 use Rattle.global_follower.specs.KeptStores.{stores_of}
 use Rattle.global_steps.specs.Follow.{Effect, book_choice, plays}
-use Rattle.global_steps.specs.Running.{Running, ended}
+use Rattle.global_steps.specs.Running.{Running, Seq, Par, ended}
 
 -- how what is left plays the entry of the scene
 abbrev pub plays_in : List PlainRule → Scene → Running → Attempt Effect Running
@@ -31,6 +34,13 @@ attempt_with (Some effect) G = Does (effect_of effect) G
 abbrev pub attempt_of : Option Played → Attempt Effect Running
 attempt_of None = Stuck
 attempt_of (Some played) = Does (effect_of played.effect) (running played.left)
+
+-- a part that stands so beside the part H
+abbrev pub beside : Stand → Running → Running → Running
+beside stands.First H = λ G. Seq G H
+beside stands.Second H = Seq H
+beside stands.Left H = λ G. Par G H
+beside stands.Right H = Par H
 
 -- no part of it plays an entry before it: a leaf, or a loop whose turn has ended
 abbrev pub plays_itself : KeptRunning → Bool
@@ -53,6 +63,6 @@ is_branching _ = false
 
 -- neither a sequence nor a parallel
 abbrev pub is_whole : Term → Bool
-is_whole (Seq I J) = false
-is_whole (Par I J) = false
+is_whole (terms.Seq I J) = false
+is_whole (terms.Par I J) = false
 is_whole _ = true

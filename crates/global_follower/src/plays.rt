@@ -7,7 +7,7 @@ ghost use Rattle.dioc_terms.specs.Terms.{term, roles_in, is_in};
 ghost use Rattle.global_follower.specs.declared.effects.Effect.TheVariants as effects;
 ghost use Rattle.global_follower.specs.KeptBooks.{rules_of};
 ghost use Rattle.global_follower.specs.KeptRunning.{flying, marked, part_term, running};
-ghost use Rattle.global_follower.specs.Playing.{attempt_of, attempt_with, is_branching, is_whole, plays_alone, plays_in, plays_itself};
+ghost use Rattle.global_follower.specs.Playing.{attempt_of, attempt_with, beside, is_branching, is_whole, plays_alone, plays_in, plays_itself};
 ghost use Rattle.global_steps.specs.Follow.{is_doer_due};
 ghost use Rattle.global_steps.specs.Running.{light, started};
 ghost use Rattle.global_steps.specs.Running as runs;
@@ -21,7 +21,7 @@ use crate::running::{
 use crate::scopes::play_scope;
 use crate::shown::{input_value, is_take, picked, put_value, set_value};
 use crate::stores::Stores;
-use dioc_terms::{Choreo, Entry, Expr, Index, Memory, Name, Role, Value, new_box};
+use dioc_terms::{Choreo, Entry, Expr, Index, Memory, Name, Role, Value, give_up, new_box};
 use std::alloc::Global;
 
 /// What an entry does, and what the part that plays it becomes.
@@ -39,6 +39,19 @@ pub(crate) struct Scene<'s> {
     pub book: &'s PlainBook,
     pub updates: u64,
     pub entry: &'s Entry,
+}
+
+/// Where a part that plays stands beside one that nobody has begun.
+#[derive(Clone, Copy)]
+pub(crate) enum Stand {
+    /// First in a sequence.
+    First,
+    /// Second in a sequence.
+    Second,
+    /// On the left of a parallel.
+    Left,
+    /// On the right of a parallel.
+    Right,
 }
 
 /// Plays the entry, where what is left plays it. Otherwise, and after want of memory, what is left
@@ -174,20 +187,20 @@ fn play_part<'a>(
     match choreo {
         Choreo::Seq(first, second) => {
             if let Some(played) = play_part(alloc, first, marks, rules, scene)? {
-                return in_first(alloc, played, marks.inside(second));
+                return beside(alloc, Some(played), Stand::First, marks.inside(second));
             }
             if !is_empty(first) {
                 return Ok(None);
             }
             let played = play_part(alloc, second, marks, rules, scene)?;
-            in_second(alloc, marks.inside(first), played)
+            beside(alloc, played, Stand::Second, marks.inside(first))
         }
         Choreo::Par(left, right) => {
             if let Some(played) = play_part(alloc, left, marks, rules, scene)? {
-                return in_left(alloc, played, marks.inside(right));
+                return beside(alloc, Some(played), Stand::Left, marks.inside(right));
             }
             let played = play_part(alloc, right, marks, rules, scene)?;
-            in_right(alloc, marks.inside(left), played)
+            beside(alloc, played, Stand::Right, marks.inside(left))
         }
         construct => play_construct(alloc, construct, marks, rules, scene),
     }
@@ -433,84 +446,41 @@ pub(crate) fn leaves<'a>(left: Running<'a>) -> Played<'a>
     }
 }
 
-/// The first part of a sequence plays.
-fn in_first<'a>(
+/// What is left where a part plays beside another that nobody has begun.
+fn beside<'a>(
     alloc: Global,
-    played: Played<'a>,
-    second: Part<'a>,
-) -> Result<Option<Played<'a>>, Memory>
-    ensures { IfOk result (λ whole. attempt_of whole
-        ≡ under (λ K. runs.Seq K (started (part_term second.entry)))
-        (attempt_of (Some played.entry))) }
-{
-    let Played { effect, left } = played;
-    let first = new_box(alloc, left)?;
-    let second = new_box(alloc, Running::Still(second))?;
-    Ok(Some(Played {
-        effect,
-        left: Running::Seq(first, second),
-    }))
-}
-
-/// The second part of a sequence plays.
-fn in_second<'a>(
-    alloc: Global,
-    first: Part<'a>,
     played: Option<Played<'a>>,
+    stand: Stand,
+    other: Part<'a>,
 ) -> Result<Option<Played<'a>>, Memory>
     ensures { IfOk result (λ whole. attempt_of whole
-        ≡ under (runs.Seq (started (part_term first.entry))) (attempt_of played.entry)) }
+        ≡ under (beside stand (started (part_term other.entry))) (attempt_of played.entry)) }
 {
-    match played {
-        None => Ok(None),
-        Some(Played { effect, left }) => {
-            let second = new_box(alloc, left)?;
-            let first = new_box(alloc, Running::Still(first))?;
-            Ok(Some(Played {
-                effect,
-                left: Running::Seq(first, second),
-            }))
-        }
+    let Some(Played { effect, left }) = played else {
+        return Ok(None);
+    };
+    match joined(alloc, stand, left, Running::Still(other)) {
+        Ok(left) => Ok(Some(Played { effect, left })),
+        Err(fault) => give_up(effect, fault),
     }
 }
 
-/// The left part of a parallel plays.
-fn in_left<'a>(
+/// A part that stands so beside another, each in a box.
+fn joined<'a>(
     alloc: Global,
-    played: Played<'a>,
-    right: Part<'a>,
-) -> Result<Option<Played<'a>>, Memory>
-    ensures { IfOk result (λ whole. attempt_of whole
-        ≡ under (λ K. runs.Par K (started (part_term right.entry)))
-        (attempt_of (Some played.entry))) }
+    stand: Stand,
+    part: Running<'a>,
+    other: Running<'a>,
+) -> Result<Running<'a>, Memory>
+    ensures { IfOk result (λ whole. running whole
+        ≡ beside stand (running other.entry) (running part.entry)) }
 {
-    let Played { effect, left } = played;
-    let left = new_box(alloc, left)?;
-    let right = new_box(alloc, Running::Still(right))?;
-    Ok(Some(Played {
-        effect,
-        left: Running::Par(left, right),
-    }))
-}
-
-/// The right part of a parallel plays.
-fn in_right<'a>(
-    alloc: Global,
-    left: Part<'a>,
-    played: Option<Played<'a>>,
-) -> Result<Option<Played<'a>>, Memory>
-    ensures { IfOk result (λ whole. attempt_of whole
-        ≡ under (runs.Par (started (part_term left.entry))) (attempt_of played.entry)) }
-{
-    match played {
-        None => Ok(None),
-        Some(Played { effect, left: next }) => {
-            let right = new_box(alloc, next)?;
-            let left = new_box(alloc, Running::Still(left))?;
-            Ok(Some(Played {
-                effect,
-                left: Running::Par(left, right),
-            }))
-        }
-    }
+    let part = new_box(alloc, part)?;
+    let other = new_box(alloc, other)?;
+    Ok(match stand {
+        Stand::First => Running::Seq(part, other),
+        Stand::Second => Running::Seq(other, part),
+        Stand::Left => Running::Par(part, other),
+        Stand::Right => Running::Par(other, part),
+    })
 }
