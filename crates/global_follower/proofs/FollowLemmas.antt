@@ -1,14 +1,15 @@
 -- One step of a play, from what the running term does.
-use Rattle.std.proofs.Common.{◌≡◌, ℕ, suc, ◌+◌, Some, None, refl, sym, ap, ap₂, subst}
+use Rattle.std.proofs.Common.{◌≡◌, ℕ, suc, ◌+◌, Bool, true, false, ◌&&◌, Some, None, slice_get, nat_le, refl, sym, ap, ap₂, subst}
 use Rattle.dioc_terms.specs.declared.names.Role.{Role}
 use Rattle.dioc_terms.specs.declared.entries.Entry.{Entry}
+use Rattle.dioc_terms.specs.declared.bundles.Timed.{Timed}
 use Rattle.dioc_terms.specs.Attempts.{Attempt, Stuck, Does}
 use Rattle.dioc_terms.specs.Plain.{PlainBundle, Setting}
-use Rattle.dioc_terms.specs.Rules.{Book, opening_book}
+use Rattle.dioc_terms.specs.Rules.{Book, apply, opening_book}
 use Rattle.dioc_terms.specs.Stores.{Store}
 use Rattle.dioc_terms.specs.Terms as term
 use Rattle.dioc_terms.specs.Terms.{Term, constructs, indexed, indexed_from, stamped}
-use Rattle.global_steps.specs.Follow.{Effect, State, affected, book_choice, follow_role, opening_store, play_start, plays, updated, updates_after}
+use Rattle.global_steps.specs.Follow.{Effect, State, affected, book_choice, follow_change, follow_role, opening_store, play_start, plays, shows, updated, updates_after}
 use Rattle.global_steps.specs.Running.{Running, started}
 
 module _ (b : Setting) (S : State) (r : Role) (e : Entry) where
@@ -42,6 +43,30 @@ module _ (b : Setting) (S : State) (r : Role) (e : Entry) where
       let does : Does effect G ≡ played_with S.stores =
       subst (λ (s : Role → Store). Does effect G ≡ played_with s) same is in
       rw (← does, becomes, more, one_more, same) refl
+
+module _ (b : Setting) (S : State) (e : Entry) (timed : Timed) where
+  abbrev pub may_be_made : Bool
+  may_be_made = shows b.rules e timed.change && nat_le timed.after S.entries
+
+  pub change_stray : slice_get b.script S.changes ≡ Some timed → may_be_made ≡ false
+      → follow_change b S e ≡ None
+  change_stray at not_so = rw (at, not_so) refl
+
+  pub change_made : (book : Book) (changes entries : ℕ)
+      → slice_get b.script S.changes ≡ Some timed → may_be_made ≡ true
+      → book ≡ apply b.rules S.book timed.change → changes ≡ suc S.changes
+      → entries ≡ suc S.entries
+      → follow_change b S e
+      ≡ Some (record {
+        running = S.running;
+        stores = S.stores;
+        book = book;
+        updates = S.updates;
+        changes = changes;
+        entries = entries;
+      })
+  change_made book changes entries at is_so applied one_change one_entry =
+      rw (at, is_so, applied, one_change, one_entry) refl
 
 -- marks of the program's own text change nothing
 marked_before : (n : ℕ) (I : Term) → stamped (indexed_from n I) 0 0 ≡ indexed_from n I
