@@ -126,7 +126,8 @@ fn all_among(some: &[Role], roles: &[Role]) -> bool
     some.iter().all(|role| is_among(role, roles))
 }
 
-fn is_among(role: &Role, roles: &[Role]) -> bool
+/// Whether the role is one of these.
+pub(crate) fn is_among(role: &Role, roles: &[Role]) -> bool
     ensures { result ≡ member role.now roles.now }
 {
     roles.iter().any(|one| role == one)

@@ -2,7 +2,7 @@
 
 ghost use Rattle.std.specs.Prelude.{◌≡◌, ◌==◌, ◌<◌, ◌++◌, ◌∷◌, [], suc, true, None, Some, IfOk, IfSome, OnOk, if◌then◌else◌, option_map};
 ghost use Rattle.dioc_terms.specs.declared.entries.Chosen.TheVariants.{Keep as keeps, Rule as takes};
-ghost use Rattle.dioc_terms.specs.Equality.{chosen_eq, member};
+ghost use Rattle.dioc_terms.specs.Equality.{chosen_eq};
 ghost use Rattle.dioc_terms.specs.Plain.{plain_rule};
 ghost use Rattle.dioc_terms.specs.Terms.{at_epoch, is_in, roles_in, stamped, term};
 ghost use Rattle.global_follower.specs.KeptBooks.{rules_of};
@@ -12,7 +12,7 @@ ghost use Rattle.global_follower.specs.Scopes.{choice_by, choice_of, chosen_body
 ghost use Rattle.global_steps.specs.Running.{started};
 
 use crate::plays::{Played, Scene, leaves};
-use crate::rules::RuleList;
+use crate::rules::{RuleList, is_among};
 use crate::running::{Marks, Part, Running};
 use crate::shown::choice;
 use dioc_terms::{
@@ -219,13 +219,6 @@ fn names(part: &Choreo, role: &Role) -> bool
             body,
             extra,
             ..
-        } => role == leader || names(body, role) || is_one_of(role, extra.as_slice()),
+        } => role == leader || names(body, role) || is_among(role, extra.as_slice()),
     }
-}
-
-/// Whether the role is one of these.
-fn is_one_of(role: &Role, roles: &[Role]) -> bool
-    ensures { result ≡ member role.now roles.now }
-{
-    roles.iter().any(|one| role == one)
 }

@@ -14,9 +14,9 @@ returns-then-not-shows-clause-stray c = λ _.
     at (slice_get_read c.as_slice.result.now _ old.changes c.in-Some.timed.now refl
     c.in-Some.ensures.lookup.3.0 c.in-Some.ensures.lookup.1))
     (elim c.then-not-shows.branch [
-      then-not-shows-via-then-not-shows w ↦ rw (← w.if-not-shows.ensures) refl
-    | then-not-shows-via-else-not-shows+then-self-timed w ↦
-      rw (← w.if-not-shows.ensures) (search (rules, tests))
+      | then-not-shows-via-then-not-shows w ↦ rw (← w.if-not-shows.ensures) refl
+      | then-not-shows-via-else-not-shows+then-self-timed w ↦
+          rw (← w.if-not-shows.ensures) (search (rules, tests))
     ])
 
 pub returns-in_ok-apply-in-Some-clause-followed : goal.returns-in_ok-apply-in-Some-clause-followed
