@@ -4,7 +4,6 @@ use Rattle.global_follower.specs.KeptBooks.{book_of}
 use Rattle.global_follower.specs.KeptPlays.{setting_of, state_of}
 use Rattle.global_follower.proofs.FollowLemmas.{change_made, change_stray}
 use Rattle.global_follower.proofs.follower.Follower.follow_change.Goals as goal
-use Rattle.global_follower.proofs.follower.Follower.follow_change.Goals.{then-not-shows-via-then-not-shows, then-not-shows-via-else-not-shows+then-self-timed}
 
 pub returns-then-not-shows-clause-stray : goal.returns-then-not-shows-clause-stray
 returns-then-not-shows-clause-stray c = λ _.
@@ -13,11 +12,7 @@ returns-then-not-shows-clause-stray c = λ _.
     (rw c.as_slice.ensures
     at (slice_get_read c.as_slice.result.now _ old.changes c.in-Some.timed.now refl
     c.in-Some.ensures.lookup.3.0 c.in-Some.ensures.lookup.1))
-    (elim c.then-not-shows.branch [
-      | then-not-shows-via-then-not-shows w ↦ rw (← w.if-not-shows.ensures) refl
-      | then-not-shows-via-else-not-shows+then-self-timed w ↦
-          rw (← w.if-not-shows.ensures) (search (rules, tests))
-    ])
+    (search (rules, tests))
 
 pub returns-in_ok-apply-in-Some-clause-followed : goal.returns-in_ok-apply-in-Some-clause-followed
 returns-in_ok-apply-in-Some-clause-followed c =
