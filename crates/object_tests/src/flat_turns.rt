@@ -322,8 +322,8 @@ fn turns_by_letter(
 fn roles_are_alike(rt: HostRuntime) -> Result<(), Fail> {
     let alloc = rt.alloc();
     let found = turns_of_role(alloc, b'a')?;
-    assert_eq!(rt; found, Some(12));
+    assert!(rt; found == Some(12));
     let found = turns_of_role(alloc, b'b')?;
-    assert_eq!(rt; found, Some(23));
+    assert!(rt; found == Some(23));
     Ok(())
 }

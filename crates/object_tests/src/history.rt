@@ -1,95 +1,75 @@
 //! Each public call of a history, with values that were worked out by hand.
 
-use crate::names::{name, operation, role};
-use dioc_terms::{Entry, Index, Key, NameFault, Note, Tag, Value};
+use crate::names::role;
+use bundle_text::read_bundle;
+use dioc_terms::{Entry, Role};
 use std::alloc::Global;
 use std::test::Fail;
 use trace_book::History;
 
-/// The entries of the tests, in their order.
-#[derive(Clone, Copy)]
-enum Sort {
-    /// `a` puts a message to `b`.
-    Put,
-    /// `b` takes it.
-    Take,
-    /// `a` puts an auxiliary message to `b`.
-    Tell,
-    /// `b` takes it.
-    Hear,
-    /// `b` sets a variable.
-    Set,
-    /// A rule is added.
-    Add,
+/// A bundle whose trace has the entries of the tests: those of `a` are 0 and 1, those of `b` 2, 3
+/// and 4; 1 and 4 are auxiliary.
+const BUNDLE: &[u8] = b"aioc { skip }
+trace {
+  put a -> b o#0.0 = 1
+  put a -> b !choice#0.0 = true
+  take a -> b o#0.0 x
+  set x@b #0.1 = 1
+  take a -> b !choice#0.0
+  add k
 }
+";
 
-const SORTS: [Sort; 6] = [
-    Sort::Put,
-    Sort::Tell,
-    Sort::Take,
-    Sort::Set,
-    Sort::Hear,
-    Sort::Add,
-];
-
-fn key(alloc: Global, tag: Tag) -> Result<Key, NameFault> {
-    Ok(Key {
-        from: role(alloc, b'a')?,
-        to: role(alloc, b'b')?,
-        index: Index { epoch: 0, place: 0 },
-        tag,
-    })
-}
-
-fn put(alloc: Global, tag: Tag, note: Note) -> Result<Entry, NameFault> {
-    let key = key(alloc, tag)?;
-    Ok(Entry::Put { key, note })
-}
-
-fn take(alloc: Global, tag: Tag) -> Result<Entry, NameFault> {
-    let key = key(alloc, tag)?;
-    Ok(Entry::Take { key, var: None })
-}
-
-fn set(alloc: Global) -> Result<Entry, NameFault> {
-    Ok(Entry::Set {
-        index: Index { epoch: 0, place: 1 },
-        role: role(alloc, b'b')?,
-        var: name(alloc, b'x')?,
-        value: Value::Int(1),
-    })
-}
-
-fn add(alloc: Global) -> Result<Entry, NameFault> {
-    Ok(Entry::Add {
-        name: name(alloc, b'k')?,
-    })
-}
-
-fn entry(alloc: Global, sort: Sort) -> Result<Entry, NameFault> {
-    match sort {
-        Sort::Put => put(alloc, operation(alloc)?, Note::Val(Value::Int(1))),
-        Sort::Take => take(alloc, operation(alloc)?),
-        Sort::Tell => put(alloc, Tag::Choice, Note::Flag(true)),
-        Sort::Hear => take(alloc, Tag::Choice),
-        Sort::Set => set(alloc),
-        Sort::Add => add(alloc),
-    }
-}
-
-fn history(alloc: Global) -> Result<History, Fail> {
+fn history(alloc: Global, entries: &[Entry]) -> Result<History, Fail> {
     let mut history = History::new(alloc);
-    fill(alloc, &mut history)?;
+    fill(alloc, &mut history, entries)?;
     Ok(history)
 }
 
-/// Adds the entries of the tests.
-fn fill(alloc: Global, history: &mut History) -> Result<(), Fail> {
-    for sort in SORTS {
+fn fill(alloc: Global, history: &mut History, entries: &[Entry]) -> Result<(), Fail> {
+    for entry in entries {
         history.reserve(1)?;
-        let entry = entry(alloc, sort)?;
+        let entry = entry.copy(alloc)?;
         history.push(entry);
     }
+    Ok(())
+}
+
+/// Whether the history has these entries alone, in this order.
+fn has_entries(history: &History, entries: &[Entry]) -> bool {
+    for (number, entry) in entries.iter().enumerate() {
+        if history.get(number as u64) != Some(entry) {
+            return false;
+        }
+    }
+    history.len() == 6
+        && history.as_slice() == entries
+        && history.get(6).is_none()
+        && history.get(u64::MAX).is_none()
+}
+
+/// Whether the history of these entries has them.
+fn keeps_entries(alloc: Global, entries: &[Entry]) -> Result<bool, Fail> {
+    let history = history(alloc, entries)?;
+    let told = has_entries(&history, entries);
+    drop(history);
+    Ok(told)
+}
+
+/// The same of the entries of the bundle.
+fn keeps_all(alloc: Global) -> Result<bool, Fail> {
+    let bundle = read_bundle(alloc, BUNDLE)?;
+    let told = keeps_entries(alloc, bundle.trace.entries.as_slice());
+    drop(bundle);
+    told
+}
+
+#[test]
+fn keeps_entries_in_order(rt: HostRuntime) -> Result<(), Fail> {
+    let alloc = rt.alloc();
+    assert!(rt; History::new(alloc).len() == 0);
+    let told = keeps_all(alloc)?;
+    assert!(rt; told);
     Ok(())
 }
 
@@ -105,35 +85,13 @@ fn is_part(part: &History, whole: &History, numbers: &[u64]) -> bool {
     part.len() == count
 }
 
-/// Whether the history has entries of three of the sorts at their places.
-fn has_its_entries(alloc: Global, history: &History) -> Result<bool, Fail> {
-    for (number, sort) in [(0, Sort::Put), (1, Sort::Tell), (5, Sort::Add)] {
-        if !has_entry(alloc, history, number, sort)? {
-            return Ok(false);
-        }
-    }
-    Ok(true)
-}
-
-fn has_entry(alloc: Global, history: &History, number: u64, sort: Sort) -> Result<bool, Fail> {
-    let want = entry(alloc, sort)?;
-    let has = history.get(number) == Some(&want);
-    drop(want);
-    Ok(has)
-}
-
-#[test]
-fn keeps_entries_in_order(rt: HostRuntime) -> Result<(), Fail> {
-    let alloc = rt.alloc();
-    assert_eq!(rt; History::new(alloc).len(), 0);
-    let history = history(alloc)?;
-    assert_eq!(rt; history.len(), 6);
-    assert_eq!(rt; history.as_slice().len(), 6);
-    let told = has_its_entries(alloc, &history)?;
-    assert!(rt; told);
-    assert!(rt; history.get(6).is_none());
-    assert!(rt; history.get(u64::MAX).is_none());
-    Ok(())
+/// Whether the visible entries are exactly those of these numbers.
+fn has_visible(history: &History, numbers: &[u64]) -> Result<bool, Fail> {
+    let part = history.visible()?;
+    let count = numbers.len() as u64;
+    let told = is_part(&part, history, numbers) && part.visible_len() == count;
+    drop(part);
+    Ok(told && history.visible_len() == count)
 }
 
 /// Whether the entries of the role of that letter are exactly those of these numbers.
@@ -144,25 +102,48 @@ fn has_of_role(
     numbers: &[u64],
 ) -> Result<bool, Fail> {
     let role = role(alloc, letter)?;
-    let part = history.of_role(&role)?;
-    Ok(is_part(&part, history, numbers))
+    let told = has_of(history, &role, numbers);
+    drop(role);
+    told
+}
+
+/// The same of the role.
+fn has_of(history: &History, role: &Role, numbers: &[u64]) -> Result<bool, Fail> {
+    let part = history.of_role(role)?;
+    let told = is_part(&part, history, numbers);
+    drop(part);
+    Ok(told)
+}
+
+/// Whether the parts of the history are as they must be.
+fn has_parts(alloc: Global, history: &History) -> Result<bool, Fail> {
+    Ok(
+        has_visible(history, &[0, 2, 3, 5])?
+            && has_of_role(alloc, history, b'a', &[0, 1])?
+            && has_of_role(alloc, history, b'b', &[2, 3, 4])?
+            && has_of_role(alloc, history, b'c', &[])?,
+    )
+}
+
+/// The history of the entries of the bundle.
+fn whole(alloc: Global) -> Result<History, Fail> {
+    let bundle = read_bundle(alloc, BUNDLE)?;
+    let made = history(alloc, bundle.trace.entries.as_slice());
+    drop(bundle);
+    made
+}
+
+/// Whether its parts are as they must be.
+fn finds_parts(alloc: Global) -> Result<bool, Fail> {
+    let history = whole(alloc)?;
+    let told = has_parts(alloc, &history);
+    drop(history);
+    told
 }
 
 #[test]
 fn finds_the_visible_entries_and_those_of_a_role(rt: HostRuntime) -> Result<(), Fail> {
-    let alloc = rt.alloc();
-    let history = history(alloc)?;
-    assert_eq!(rt; history.visible_len(), 4);
-    let visible = history.visible()?;
-    assert!(rt; is_part(&visible, &history, &[0, 2, 3, 5]));
-    assert_eq!(rt; visible.visible_len(), 4);
-    for (letter, numbers) in [
-        (b'a', [0, 1].as_slice()),
-        (b'b', [2, 3, 4].as_slice()),
-        (b'c', [].as_slice()),
-    ] {
-        let told = has_of_role(alloc, &history, letter, numbers)?;
-        assert!(rt; told, "{letter}");
-    }
+    let told = finds_parts(rt.alloc())?;
+    assert!(rt; told);
     Ok(())
 }

@@ -85,16 +85,22 @@ fn take_sent(alloc: Global, mail: &mut Mail, epoch: u32, place: u32) -> Result<O
     Ok(take(mail, &key))
 }
 
+/// Whether the messages are put and taken as told.
+fn is_told(alloc: Global, mail: &mut Mail) -> Result<bool, Fail> {
+    Ok(
+        mail.len() == 0
+            && puts_as_told(alloc, mail)?
+            && mail.len() == 3
+            && takes_as_told(alloc, mail)?,
+    )
+}
+
 #[test]
 fn takes_a_message_once_by_its_key(rt: HostRuntime) -> Result<(), Fail> {
-    let alloc = rt.alloc();
-    let mut mail = Mail::new(alloc);
-    assert_eq!(rt; mail.len(), 0);
-    let told = puts_as_told(alloc, &mut mail)?;
-    assert!(rt; told);
-    assert_eq!(rt; mail.len(), 3);
-    let told = takes_as_told(alloc, &mut mail)?;
-    assert!(rt; told);
+    let mut mail = Mail::new(rt.alloc());
+    let told = is_told(rt.alloc(), &mut mail);
+    drop(mail);
+    assert!(rt; told?);
     Ok(())
 }
 
@@ -104,27 +110,41 @@ fn puts_end(alloc: Global, mail: &mut Mail) -> Result<bool, Fail> {
     put(mail, end, 1)
 }
 
-/// Whether there is a message of the second key alone, which has the number 1.
-fn has_second_alone(mail: &mut Mail, first: &Key, second: &Key) -> bool {
-    let holds_second = !mail.holds(first) && mail.holds(second);
-    let found = take(mail, first);
-    holds_second && found.is_none() && take(mail, second) == Some(1)
+fn holds_tag(alloc: Global, mail: &Mail, tag: Tag) -> Result<bool, Fail> {
+    let key = key(alloc, 0, 0, tag)?;
+    let held = mail.holds(&key);
+    drop(key);
+    Ok(held)
 }
 
-/// Whether there is a message of the tag `!end`, and none of the tag `!out`.
+fn take_tag(alloc: Global, mail: &mut Mail, tag: Tag) -> Result<Option<i64>, Fail> {
+    let key = key(alloc, 0, 0, tag)?;
+    let found = take(mail, &key);
+    drop(key);
+    Ok(found)
+}
+
+/// Whether there is a message of the tag `!end`, which has the number 1, and none of the tag
+/// `!out`.
 fn has_end_alone(alloc: Global, mail: &mut Mail) -> Result<bool, Fail> {
-    let out = key(alloc, 0, 0, Tag::Out)?;
-    let end = key(alloc, 0, 0, Tag::End)?;
-    Ok(has_second_alone(mail, &out, &end))
+    Ok(
+        !holds_tag(alloc, mail, Tag::Out)?
+            && holds_tag(alloc, mail, Tag::End)?
+            && take_tag(alloc, mail, Tag::Out)?.is_none()
+            && take_tag(alloc, mail, Tag::End)? == Some(1),
+    )
+}
+
+/// Whether a message is found by its tag alone.
+fn finds_by_tag(alloc: Global, mail: &mut Mail) -> Result<bool, Fail> {
+    Ok(puts_end(alloc, mail)? && has_end_alone(alloc, mail)?)
 }
 
 #[test]
 fn tells_tags_apart(rt: HostRuntime) -> Result<(), Fail> {
-    let alloc = rt.alloc();
-    let mut mail = Mail::new(alloc);
-    let told = puts_end(alloc, &mut mail)?;
-    assert!(rt; told);
-    let told = has_end_alone(alloc, &mut mail)?;
-    assert!(rt; told);
+    let mut mail = Mail::new(rt.alloc());
+    let told = finds_by_tag(rt.alloc(), &mut mail);
+    drop(mail);
+    assert!(rt; told?);
     Ok(())
 }

@@ -5,12 +5,13 @@ ghost use Rattle.dioc_terms.specs.Bundles.{IsFormed};
 ghost use Rattle.dioc_terms.specs.Plain.{plain};
 
 use crate::meeting::Meeting;
-use dioc_terms::{Bundle, Memory};
+use dioc_terms::{Bundle, Memory, give_up};
 use load_gen::make;
 use session_pool::{Answer, OpenWatch, Watch, run_sessions};
 use std::alloc::Global;
 use std::sync::Wait;
 use std::test::Fail;
+use std::thread::Threads;
 
 /// Holds the claim of session 0 until session 1 was claimed, or its turns have run out.
 #[derive(Drop)]
@@ -59,9 +60,7 @@ fn same(first: &Answer, second: &Answer) -> bool {
 
 #[test]
 fn two_workers_claim_at_once(rt: HostRuntime) -> Result<(), Fail> {
-    let Ok(bundles) = bundles(rt.alloc(), 2) else {
-        panic!(rt; "no memory")
-    };
+    let bundles = bundles(rt.alloc(), 2)?;
     let watch = HoldFirst {
         second: Meeting::new(),
     };
@@ -71,24 +70,40 @@ fn two_workers_claim_at_once(rt: HostRuntime) -> Result<(), Fail> {
     Ok(())
 }
 
+/// Whether all sessions were answered the same.
+fn all_same(first: &[Answer], second: &[Answer]) -> bool {
+    first.len() == second.len()
+        && first
+            .iter()
+            .zip(second)
+            .all(|(one, other)| same(one, other))
+}
+
+/// Whether one worker and sixteen answer the same.
+fn answers_alike<R: Threads + Wait + Sync>(
+    rt: &R,
+    alloc: Global,
+    sessions: &[Bundle],
+) -> Result<bool, Memory>
+    requires formed { All (λ b. IsFormed (plain b)) sessions.now }
+    requires few { length sessions.now ≤ 1000 }
+{
+    let by_one = run_sessions(rt, alloc, sessions, 1, Some(7), 2000, &OpenWatch)?;
+    match run_sessions(rt, alloc, sessions, 16, Some(7), 2000, &OpenWatch) {
+        Ok(by_many) => {
+            let alike = by_one.len() == sessions.len() && all_same(&by_one, &by_many);
+            drop((by_one, by_many));
+            Ok(alike)
+        }
+        Err(fault) => give_up(by_one, fault),
+    }
+}
+
 #[test]
 fn workers_change_no_answer(rt: HostRuntime) -> Result<(), Fail> {
-    let Ok(bundles) = bundles(rt.alloc(), 100) else {
-        panic!(rt; "no memory")
-    };
-    let sessions = bundles.as_slice();
-    let Ok(by_one) = run_sessions(&rt, rt.alloc(), sessions, 1, Some(7), 2000, &OpenWatch) else {
-        panic!(rt; "no memory for one worker")
-    };
-    let Ok(by_many) = run_sessions(&rt, rt.alloc(), sessions, 16, Some(7), 2000, &OpenWatch) else {
-        panic!(rt; "no memory for sixteen workers")
-    };
-    assert_eq!(rt; by_one.len(), 100);
-    assert_eq!(rt; by_many.len(), 100);
-    let all_same = by_one
-        .iter()
-        .zip(by_many.iter())
-        .all(|(one, other)| same(one, other));
-    assert!(rt; all_same);
+    let bundles = bundles(rt.alloc(), 100)?;
+    let alike = answers_alike(&rt, rt.alloc(), bundles.as_slice());
+    drop(bundles);
+    assert!(rt; alike == Ok(true));
     Ok(())
 }
