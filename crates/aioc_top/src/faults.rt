@@ -13,7 +13,7 @@ use std::alloc::Global;
 use text_pieces::{write_bytes, write_number};
 
 /// Why a command did not do its work. Where its line has to be made it is here.
-#[derive(Debug, Drop)]
+#[derive(Drop)]
 pub enum Fault {
     Usage,
     ReadFault,

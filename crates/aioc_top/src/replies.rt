@@ -13,7 +13,7 @@ use std::alloc::Global;
 use text_pieces::{write_bytes, write_number};
 
 /// How a command ended that has a text to write.
-#[derive(Clone, Copy, Debug, PartialEq, Eq)]
+#[derive(Clone, Copy)]
 pub enum End {
     /// It did its work; of a run: the network has ended.
     Done,
@@ -38,7 +38,7 @@ impl End {
 }
 
 /// The text of a command, and how the command ended.
-#[derive(Debug, Drop)]
+#[derive(Drop)]
 pub struct Written {
     /// How it ended.
     pub end: End,

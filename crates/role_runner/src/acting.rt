@@ -28,7 +28,7 @@ use std::sync::Wait;
 use turn_lock::Seat;
 
 /// How a try of an act ended.
-#[derive(Clone, Copy, Debug, PartialEq, Eq)]
+#[derive(Clone, Copy)]
 pub(crate) enum Tried {
     /// It was done.
     Done,

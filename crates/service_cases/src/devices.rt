@@ -15,7 +15,7 @@ const PIECE: usize = 65_536;
 
 /// How the calls of a device go: each moves at most `most` bytes, and the one whose number is
 /// `fails` fails, where the first has the number 1.
-#[derive(Clone, Copy, Debug)]
+#[derive(Clone, Copy)]
 pub struct Course {
     most: usize,
     fails: u64,
@@ -49,7 +49,7 @@ impl Course {
 }
 
 /// How the source and the two sinks of a call go.
-#[derive(Clone, Copy, Debug)]
+#[derive(Clone, Copy)]
 pub struct Devices {
     pub source: Course,
     pub out: Course,
@@ -68,7 +68,7 @@ impl Devices {
 }
 
 /// How a call of the program went: its exit code, and what the two sinks took.
-#[derive(Debug, Drop)]
+#[derive(Drop)]
 pub struct Outcome {
     pub code: u8,
     pub out: Vec<u8>,

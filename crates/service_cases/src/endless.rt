@@ -8,7 +8,7 @@ use case_tables::Problem;
 use std::alloc::Global;
 
 // A source of given bytes and of spaces behind them, without an end. It tells no bytes.
-#[derive(Debug, Drop)]
+#[derive(Drop)]
 struct Endless {
     front: SureSource,
 }
