@@ -20,7 +20,8 @@ use crate::makers::{
 };
 use crate::runs::Got;
 use dioc_terms::{
-    Index, Memory, Name, Parts, Payload, Proc, Role, ScopeHead, Store, Tag, Value, eval, new_box,
+    Index, Memory, Name, Parts, Payload, Proc, Role, ScopeHead, Store, Tag, Value, eval, give_up,
+    new_box, new_boxes,
 };
 use std::alloc::Global;
 
@@ -164,9 +165,20 @@ fn led_turn(
         growth_of made ≡ leads_loop me.now index others.now (process body.now) true) }
 {
     let told = tell_flag(alloc, me, others, index, &Tag::Go, true)?;
-    let first = new_box(alloc, told)?;
-    let last = new_box(alloc, gather(alloc, me, others, index, &Tag::Turn)?)?;
-    Ok(Growth::Certain(Change::Turns(turn(alloc, first, body, last)?)))
+    match gather(alloc, me, others, index, &Tag::Turn) {
+        Ok(ends) => turn_between(alloc, told, body, ends),
+        Err(fault) => give_up(told, fault),
+    }
+}
+
+/// A turn between what is told first and the ends of the others.
+fn turn_between(alloc: Global, told: Proc, body: &Proc, ends: Proc) -> Result<Growth, Memory>
+    ensures { IfOk result (λ made. growth_of made ≡ growths.Certain
+        (changes.Turns (process told) (process body.now) (process ends))) }
+{
+    let (first, last) = new_boxes(alloc, told, ends)?;
+    let turn = turn(alloc, first, body, last)?;
+    Ok(Growth::Certain(Change::Turns(turn)))
 }
 
 /// What is told where there is no further turn.
@@ -217,15 +229,28 @@ fn led_scope(alloc: Global, me: &Role, head: &ScopeHead, others: &[Role]) -> Res
         (growths.leader_end me.now others.now head.now.index)) }
 {
     let told = tell(alloc, me, others, head.index, &Tag::Begin, &Payload::Keep)?;
-    let at = Entrance {
-        first: new_box(alloc, told)?,
-        last: leader_end(alloc, me, others, head.index)?,
-        inner: hole(alloc)?,
+    match leader_end(alloc, me, others, head.index) {
+        Ok(last) => led_entrance(alloc, told, last),
+        Err(fault) => give_up(told, fault),
+    }
+}
+
+/// Boxes for the begin of a scope.
+fn led_entrance(alloc: Global, told: Proc, last: Box<Proc>) -> Result<Growth, Memory>
+    ensures { IfOk result (λ made.
+        growth_of made ≡ growths.Leading (process told) (process last.value)) }
+{
+    let (first, inner) = match new_boxes(alloc, told, Proc::Skip) {
+        Ok(both) => both,
+        Err(fault) => return give_up(last, fault),
     };
-    Ok(Growth::Leading {
-        at,
-        own: hole(alloc)?,
-    })
+    match hole(alloc) {
+        Ok(own) => Ok(Growth::Leading {
+            at: Entrance { first, last, inner },
+            own,
+        }),
+        Err(fault) => give_up(((first, last), inner), fault),
+    }
 }
 
 /// The begin of a scope that another role leads: what follows the body.

@@ -4,11 +4,13 @@ ghost use Rattle.std.specs.Prelude.{◌≡◌, ◌∷◌, [], IfOk, map};
 ghost use Rattle.dioc_terms.specs.declared.processes.Tag.TheVariants as tags;
 ghost use Rattle.dioc_terms.specs.Processes.{process, letters, load, Gather, Done, Flag, More};
 ghost use Rattle.dpoc_process.specs.Growth.{leader_end, follower_end};
-ghost use Rattle.process_steps.specs.Steps.{key, letters_to, tell, gather, send_one};
+ghost use Rattle.process_steps.specs.Steps.{after, key, letters_to, tell, gather, send_one};
 
 use crate::changes::{gathering, telling, then};
 use crate::offered::key_of;
-use dioc_terms::{Index, Items, Key, Memory, Messages, Payload, Proc, Role, Tag, new_box};
+use dioc_terms::{
+    Index, Items, Key, Memory, Messages, Payload, Proc, Role, Tag, give_up, new_box, new_boxes,
+};
 use std::alloc::Global;
 
 /// A box for a process that a step moves.
@@ -73,19 +75,49 @@ pub fn letters_to(
         [] => Ok(Messages::Nothing),
         [other, rest @ ..] => {
             let rest = letters_to(alloc, me, rest, index, tag, carried)?;
-            let key = key_of(alloc, me, other, index, tag.copy(alloc)?)?;
-            more(alloc, key, carried.copy(alloc)?, rest)
+            match letter(alloc, me, other, index, tag, carried) {
+                Ok((key, payload)) => more(alloc, key, payload, rest),
+                Err(fault) => give_up(rest, fault),
+            }
         }
     }
+}
+
+/// The key and the payload of one message.
+fn letter(
+    alloc: Global,
+    me: &Role,
+    other: &Role,
+    index: Index,
+    tag: &Tag,
+    carried: &Payload,
+) -> Result<(Key, Payload), Memory>
+    ensures key { IfOk result (λ made. made.0 ≡ key me.now other.now index tag.now) }
+    ensures payload { IfOk result (λ made. load made.1 ≡ load carried.now) }
+{
+    let key = key_with(alloc, me, other, index, tag)?;
+    match carried.copy(alloc) {
+        Ok(payload) => Ok((key, payload)),
+        Err(fault) => give_up(key, fault),
+    }
+}
+
+/// The key of a message, with a copy of the tag.
+fn key_with(alloc: Global, from: &Role, to: &Role, index: Index, tag: &Tag) -> Result<Key, Memory>
+    ensures { IfOk result (λ made. made ≡ key from.now to.now index tag.now) }
+{
+    let tag = tag.copy(alloc)?;
+    key_of(alloc, from, to, index, tag)
 }
 
 /// The message, and those after it.
 pub fn more(alloc: Global, key: Key, payload: Payload, rest: Messages) -> Result<Messages, Memory>
     ensures { IfOk result (λ messages. letters messages ≡ More key (load payload) (letters rest)) }
 {
-    let payload = new_box(alloc, payload)?;
-    let rest = new_box(alloc, rest)?;
-    Ok(Messages::More(key, payload, rest))
+    match new_boxes(alloc, payload, rest) {
+        Ok((payload, rest)) => Ok(Messages::More(key, payload, rest)),
+        Err(fault) => give_up(key, fault),
+    }
 }
 
 /// Takes a message of each of these roles, one by one.
@@ -115,7 +147,8 @@ pub fn keys_from(
 {
     let mut keys = Vec::with_capacity(alloc, others.len())?;
     for other in others {
-        keys.push(key_of(alloc, other, me, index, tag.copy(alloc)?)?)?;
+        let key = key_with(alloc, other, me, index, tag)?;
+        keys.push(key)?;
     }
     Ok(keys)
 }
@@ -157,12 +190,19 @@ pub(crate) fn leader_end(
 ) -> Result<Box<Proc>, Memory>
     ensures { IfOk result (λ end. process end.value ≡ leader_end me.now others.now index) }
 {
-    let ends = new_box(alloc, gather(alloc, me, others, index, &Tag::End)?)?;
-    let release = new_box(
-        alloc,
-        tell(alloc, me, others, index, &Tag::Out, &Payload::Done)?,
-    )?;
-    new_box(alloc, then(ends, release))
+    let ends = gather(alloc, me, others, index, &Tag::End)?;
+    match tell(alloc, me, others, index, &Tag::Out, &Payload::Done) {
+        Ok(release) => joined(alloc, ends, release),
+        Err(fault) => give_up(ends, fault),
+    }
+}
+
+/// The first, and then the second, in boxes.
+fn joined(alloc: Global, first: Proc, second: Proc) -> Result<Box<Proc>, Memory>
+    ensures { IfOk result (λ whole. process whole.value ≡ after (process first) (process second)) }
+{
+    let (first, second) = new_boxes(alloc, first, second)?;
+    new_box(alloc, then(first, second))
 }
 
 /// What another role of a scope does after its part: it puts its end, and takes the release.

@@ -88,28 +88,26 @@ fn entry_at(alloc: Global, me: &Role, value: &Value, part: &Proc) -> Result<Opti
     ensures { IfOk result (λ entry. entry ≡ entry_at me.now value.now (process part.now)) }
 {
     match part {
-        Proc::Send { index, op, to, .. } => {
-            put_entry(alloc, operation(alloc, me, to, *index, op)?, value)
-        }
+        Proc::Send { index, op, to, .. } => { send_entry(alloc, me, to, *index, op, value) }
         Proc::Recv {
             index,
             op,
             from,
             var,
-        } => keep_entry(alloc, operation(alloc, from, me, *index, op)?, var),
+        } => receive_entry(alloc, from, me, *index, op, var),
         Proc::Assign { index, var, .. } => set_entry(alloc, *index, me, var, value),
         Proc::Read { index, var } => input_entry(alloc, *index, me, var, value),
         Proc::IfLead { index, .. } | Proc::WhileLead { index, .. } => {
             pick_entry(alloc, *index, me, is_true(value))
         }
         Proc::IfFollow { index, leader, .. } => {
-            take_entry(key_of(alloc, leader, me, *index, Tag::Choice)?)
+            follow_entry(alloc, leader, me, *index, Tag::Choice)
         }
         Proc::WhileFollow { index, leader, .. } => {
-            take_entry(key_of(alloc, leader, me, *index, Tag::Go)?)
+            follow_entry(alloc, leader, me, *index, Tag::Go)
         }
         Proc::ScopeFollow { index, leader, .. } => {
-            take_entry(key_of(alloc, leader, me, *index, Tag::Begin)?)
+            follow_entry(alloc, leader, me, *index, Tag::Begin)
         }
         Proc::Tell { messages } => tell_entry(alloc, me, value, messages),
         Proc::Gather { keys } => gather_entry(alloc, me, value, keys.as_slice()),
@@ -117,18 +115,75 @@ fn entry_at(alloc: Global, me: &Role, value: &Value, part: &Proc) -> Result<Opti
     }
 }
 
+/// The entry of a send.
+fn send_entry(
+    alloc: Global,
+    me: &Role,
+    to: &Role,
+    index: Index,
+    op: &Name,
+    value: &Value,
+) -> Result<Option<Entry>, Memory>
+    ensures { IfOk result (λ entry. entry ≡ Some (entries.Put
+        (key me.now to.now index (tags.Op op.now)) (noted (Val value.now)))) }
+{
+    let found = operation(alloc, me, to, index, op)?;
+    put_entry(alloc, found, value)
+}
+
+/// The entry of a receive.
+fn receive_entry(
+    alloc: Global,
+    from: &Role,
+    me: &Role,
+    index: Index,
+    op: &Name,
+    var: &Name,
+) -> Result<Option<Entry>, Memory>
+    ensures { IfOk result (λ entry. entry ≡ Some (entries.Take
+        (key from.now me.now index (tags.Op op.now)) (Some var.now))) }
+{
+    let found = operation(alloc, from, me, index, op)?;
+    keep_entry(alloc, found, var)
+}
+
+/// The entry by which a role follows what another leads.
+fn follow_entry(
+    alloc: Global,
+    leader: &Role,
+    me: &Role,
+    index: Index,
+    tag: Tag,
+) -> Result<Option<Entry>, Memory>
+    ensures { IfOk result (λ entry. entry
+        ≡ Some (entries.Take (key leader.now me.now index tag) None)) }
+{
+    let found = key_of(alloc, leader, me, index, tag)?;
+    take_entry(found)
+}
+
 pub fn put_entry(alloc: Global, found: Key, value: &Value) -> Result<Option<Entry>, Memory>
     ensures { IfOk result (λ entry. entry ≡ Some (entries.Put found (noted (Val value.now)))) }
 {
-    let note = Note::Val(value.copy(alloc)?);
-    Ok(Some(Entry::Put { key: found, note }))
+    match value.copy(alloc) {
+        Ok(value) => Ok(Some(Entry::Put {
+            key: found,
+            note: Note::Val(value),
+        })),
+        Err(fault) => give_up(found, fault),
+    }
 }
 
 pub fn keep_entry(alloc: Global, found: Key, var: &Name) -> Result<Option<Entry>, Memory>
     ensures { IfOk result (λ entry. entry ≡ Some (entries.Take found (Some var.now))) }
 {
-    let var = Some(var.copy(alloc)?);
-    Ok(Some(Entry::Take { key: found, var }))
+    match var.copy(alloc) {
+        Ok(var) => Ok(Some(Entry::Take {
+            key: found,
+            var: Some(var),
+        })),
+        Err(fault) => give_up(found, fault),
+    }
 }
 
 pub fn take_entry(found: Key) -> Result<Option<Entry>, Memory>
@@ -149,11 +204,12 @@ pub fn set_entry(
 ) -> Result<Option<Entry>, Memory>
     ensures { IfOk result (λ entry. entry ≡ Some (entries.Set index me.now var.now value.now)) }
 {
+    let (role, var, value) = copies(alloc, me, var, value)?;
     Ok(Some(Entry::Set {
         index,
-        role: me.copy(alloc)?,
-        var: var.copy(alloc)?,
-        value: value.copy(alloc)?,
+        role,
+        var,
+        value,
     }))
 }
 
@@ -166,12 +222,35 @@ pub fn input_entry(
 ) -> Result<Option<Entry>, Memory>
     ensures { IfOk result (λ entry. entry ≡ Some (entries.Input index me.now var.now value.now)) }
 {
+    let (role, var, value) = copies(alloc, me, var, value)?;
     Ok(Some(Entry::Input {
         index,
-        role: me.copy(alloc)?,
-        var: var.copy(alloc)?,
-        value: value.copy(alloc)?,
+        role,
+        var,
+        value,
     }))
+}
+
+/// Copies of the role, the variable and the value.
+fn copies(
+    alloc: Global,
+    me: &Role,
+    var: &Name,
+    value: &Value,
+) -> Result<(Role, Name, Value), Memory>
+    ensures role { IfOk result (λ made. made.0 ≡ me.now) }
+    ensures var { IfOk result (λ made. made.1 ≡ var.now) }
+    ensures value { IfOk result (λ made. made.2 ≡ value.now) }
+{
+    let role = me.copy(alloc)?;
+    let var = match var.copy(alloc) {
+        Ok(var) => var,
+        Err(fault) => return give_up(role, fault),
+    };
+    match value.copy(alloc) {
+        Ok(value) => Ok((role, var, value)),
+        Err(fault) => give_up((role, var), fault),
+    }
 }
 
 pub fn pick_entry(

@@ -1,12 +1,13 @@
 -- What is made ready is of the part that does the act, which is there exactly where the process
 -- offers the act.
-use Rattle.std.proofs.Common.{◌≡◌, true, Err}
+use Rattle.std.proofs.Common.{◌≡◌, true, Err, ap}
 use Rattle.std.specs.Prelude.{IsErrOf}
 use Rattle.dioc_terms.specs.KeptStores.{store_of}
 use Rattle.dioc_terms.specs.Processes.{process}
 use Rattle.dpoc_process.proofs.StateLemmas.{offered_where_acting, not_offered, acting_nowhere, shows-prepared}
 use Rattle.dpoc_process.specs.Acting.{acting}
 use Rattle.dpoc_process.specs.KeptReady.{IsMade}
+use Rattle.dpoc_process.specs.RoleLaws.{local}
 use Rattle.process_steps.specs.Steps.{offers, is_offered}
 use Rattle.dpoc_process.proofs.states.RoleStateRuns.prepare.Goals as goal
 
@@ -37,3 +38,7 @@ returns-in-Err-clause-no_act c =
       λ fault. not_offered me c.args.act.now P (c.in-Err.ensures.no_act.0 (same_fault fault)),
       λ none. same_fault (c.in-Err.ensures.no_act.1 (acting_nowhere me c.args.act.now P none)),
     )
+
+pub returns-in-Err-clause-same : goal.returns-in-Err-clause-same
+returns-in-Err-clause-same c =
+    ap (local c.args.self.now.role (process c.args.self.now.proc)) c.make_ready.ensures.same
