@@ -1,6 +1,6 @@
 -- What is made ready is of the part that does the act, which is there exactly where the process
 -- offers the act. Settling the frames keeps the process.
-use Rattle.std.proofs.Common.{◌≡◌, true, false, Result, Ok, Err, refl, sym, ap, ◌∙◌}
+use Rattle.std.proofs.Common.{◌≡◌, true, false, Result, Ok, Err, refl, sym, ap, ap₂, ◌∙◌}
 use Rattle.std.specs.Prelude.{IsErrAnd, IsErrOf}
 use Rattle.dioc_terms.specs.KeptStores.{store_of}
 use Rattle.dioc_terms.specs.Processes.{Process}
@@ -9,6 +9,7 @@ use Rattle.dpoc_process.proofs.StateLemmas.{not_offered, acting_nowhere, shows-p
 use Rattle.dpoc_process.specs.Acting.{acting}
 use Rattle.dpoc_process.specs.declared.runs.PrepareFault.{PrepareFault}
 use Rattle.dpoc_process.specs.declared.runs.PrepareFault.TheVariants.{Memory as no_memory, NoAct}
+use Rattle.dpoc_process.specs.RoleLaws.{local}
 use Rattle.flat_code.specs.Places.{processes}
 use Rattle.flat_role.proofs.FrameLemmas.{acts_goes_on}
 use Rattle.flat_role.specs.FlatStates.{frames_of}
@@ -83,3 +84,7 @@ returns-in-Err-clause-no_act c =
       λ fault. not_offered me a P (sym same ∙ c.in-Err.ensures.no_act.0 (same_fault fault)),
       λ none. same_fault (c.in-Err.ensures.no_act.1 (same ∙ acting_nowhere me a P none)),
     )
+
+pub returns-in-Err-clause-same : goal.returns-in-Err-clause-same
+returns-in-Err-clause-same c =
+    ap₂ (local c.args.self.now.role) c.settle.ensures.same c.make_ready.ensures.same
