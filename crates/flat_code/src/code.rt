@@ -7,7 +7,7 @@ use crate::ops::Op;
 
 /// A process as a list of ops, in which the parts of an op stand before it. Contracts see it as the
 /// process.
-#[derive(Debug, Drop)]
+#[derive(Drop)]
 pub struct Code {
     /// The ops. Each place of a part is that of an earlier op.
     pub ops: Vec<Op>,

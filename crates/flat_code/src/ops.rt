@@ -3,7 +3,7 @@
 use dioc_terms::{Expr, Index, Keys, Messages, Name, Role, Roles, ScopeHead};
 
 /// One construct of a process, with the places of its parts.
-#[derive(Debug, Drop)]
+#[derive(Drop)]
 pub enum Op {
     /// Nothing.
     Skip,
