@@ -1,4 +1,5 @@
 use Rattle.std.proofs.Common.{take, arith}
+use Rattle.std.proofs.lemmas.Grind.{common_steps}
 use Rattle.trace_picture.specs.Runs.{pieces_from}
 use Rattle.trace_picture.specs.Svg.{name_box}
 use Rattle.trace_picture.proofs.Repeats.{pieces_from_step, still_front}
@@ -13,3 +14,6 @@ pub returns-in_err-write_box-clause-memory : goal.returns-in_err-write_box-claus
 returns-in_err-write_box-clause-memory c =
     still_front _ c.args.out.now.items (pieces_from (name_box c.args.columns c.args.y) 0 (take c.loop-lane.lane c.args.lanes.now)) c.loop-lane.out.items c.write_box.new.out.items
     c.loop-lane.invariant c.in_err-write_box.ensures.memory
+
+pub returns-clause-ok : goal.returns-clause-ok
+returns-clause-ok c = grind (arith, common_steps)

@@ -1,4 +1,5 @@
 use Rattle.std.proofs.Common.{take, arith}
+use Rattle.std.proofs.lemmas.Grind.{common_steps}
 use Rattle.trace_picture.specs.Runs.{pieces_from}
 use Rattle.trace_picture.specs.Svg.{svg_entry}
 use Rattle.trace_picture.proofs.Repeats.{pieces_from_step, still_front}
@@ -13,3 +14,6 @@ pub returns-in_err-write_entry-clause-memory : goal.returns-in_err-write_entry-c
 returns-in_err-write_entry-clause-memory c =
     still_front _ c.args.out.now.items (pieces_from (svg_entry c.args.columns c.args.lanes.now) 0 (take c.loop-row.row c.args.entries.now)) c.loop-row.out.items c.write_entry.new.out.items
     c.loop-row.invariant c.in_err-write_entry.ensures.memory
+
+pub returns-clause-ok : goal.returns-clause-ok
+returns-clause-ok c = grind (arith, common_steps)

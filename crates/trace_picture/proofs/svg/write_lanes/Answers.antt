@@ -1,4 +1,5 @@
 use Rattle.std.proofs.Common.{take, arith}
+use Rattle.std.proofs.lemmas.Grind.{common_steps}
 use Rattle.trace_picture.specs.Runs.{pieces_from}
 use Rattle.trace_picture.specs.Svg.{svg_lane}
 use Rattle.trace_picture.proofs.Repeats.{pieces_from_step, still_front}
@@ -13,3 +14,6 @@ pub returns-in_err-write_lane-clause-memory : goal.returns-in_err-write_lane-cla
 returns-in_err-write_lane-clause-memory c =
     still_front _ c.args.out.now.items (pieces_from (svg_lane c.args.columns c.args.floor) 0 (take c.loop-lane.lane c.args.lanes.now)) c.loop-lane.out.items c.write_lane.new.out.items
     c.loop-lane.invariant c.in_err-write_lane.ensures.memory
+
+pub returns-clause-ok : goal.returns-clause-ok
+returns-clause-ok c = grind (arith, common_steps)

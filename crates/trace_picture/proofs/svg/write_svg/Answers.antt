@@ -1,4 +1,6 @@
 -- Where memory runs out behind what was written before, what stood in front stands there still.
+use Rattle.std.proofs.Common.{arith}
+use Rattle.std.proofs.lemmas.Grind.{common_steps}
 use Rattle.text_pieces.proofs.KeptFronts.{err_front}
 use Rattle.trace_picture.proofs.Repeats.{still_front}
 use Rattle.trace_picture.proofs.svg.write_svg.Goals as goal
@@ -8,3 +10,6 @@ returns-in_err-write_entries-clause-memory c = still_front _ _ _ _ _ c.in_ok-wri
 
 pub returns-clause-memory : goal.returns-clause-memory
 returns-clause-memory c = err_front _ _ _ _ _ c.in_ok-write_head.ensures.ok (err_front _ _ _ _ _ c.in_ok-write_entries.ensures.ok c.write_tail.ensures.memory)
+
+pub returns-clause-ok : goal.returns-clause-ok
+returns-clause-ok c = grind (arith, common_steps)

@@ -1,0 +1,13 @@
+use Rattle.std.proofs.Common.{arith}
+use Rattle.std.proofs.lemmas.Grind.{common_steps}
+use Rattle.text_pieces.proofs.KeptFronts.{front_of_front}
+use Rattle.trace_picture.proofs.labels.write_choice.Goals as goal
+
+pub returns-in_err-write_bytes-in-Rule-clause-memory : goal.returns-in_err-write_bytes-in-Rule-clause-memory
+returns-in_err-write_bytes-in-Rule-clause-memory c = grind (arith, front_of_front)
+
+pub returns-in_ok-write_bytes-in-Rule-clause-ok : goal.returns-in_ok-write_bytes-in-Rule-clause-ok
+returns-in_ok-write_bytes-in-Rule-clause-ok c = grind (arith, common_steps)
+
+pub returns-in_ok-write_bytes-in-Rule-clause-memory : goal.returns-in_ok-write_bytes-in-Rule-clause-memory
+returns-in_ok-write_bytes-in-Rule-clause-memory c = grind (arith, front_of_front)
