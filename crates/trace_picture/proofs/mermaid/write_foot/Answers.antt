@@ -1,0 +1,12 @@
+use Rattle.std.proofs.Common.{arith}
+use Rattle.std.proofs.lemmas.Grind.{common_steps}
+use Rattle.text_pieces.proofs.KeptFronts.{front_of_front}
+use Rattle.trace_picture.specs.Mermaid.{mermaid_last}
+use Rattle.trace_picture.proofs.mermaid.write_foot.Goals as goal
+
+pub returns-in_ok-write_across-in-Some-clause-ok : goal.returns-in_ok-write_across-in-Some-clause-ok
+unfolding mermaid_last
+returns-in_ok-write_across-in-Some-clause-ok c = grind (arith, common_steps)
+
+pub returns-in_ok-write_across-in-Some-clause-memory : goal.returns-in_ok-write_across-in-Some-clause-memory
+returns-in_ok-write_across-in-Some-clause-memory c = grind (arith, front_of_front)

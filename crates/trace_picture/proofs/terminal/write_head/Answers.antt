@@ -1,0 +1,18 @@
+use Rattle.std.proofs.Common.{arith}
+use Rattle.std.proofs.lemmas.Grind.{common_steps}
+use Rattle.text_pieces.proofs.KeptFronts.{front_of_front}
+use Rattle.trace_picture.specs.Terminal.{head_rows}
+use Rattle.trace_picture.proofs.terminal.write_head.Goals as goal
+
+pub returns-in_err-write_bytes-clause-memory : goal.returns-in_err-write_bytes-clause-memory
+returns-in_err-write_bytes-clause-memory c = grind (arith, front_of_front)
+
+pub returns-in_err-write_numbers-clause-memory : goal.returns-in_err-write_numbers-clause-memory
+returns-in_err-write_numbers-clause-memory c = grind (arith, front_of_front)
+
+pub returns-clause-ok : goal.returns-clause-ok
+unfolding head_rows
+returns-clause-ok c = grind (arith, common_steps)
+
+pub returns-clause-memory : goal.returns-clause-memory
+returns-clause-memory c = grind (arith, front_of_front)
