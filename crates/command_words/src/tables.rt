@@ -7,7 +7,7 @@ ghost use Rattle.command_words.specs.Splits.{known_in};
 use crate::commands::Verb;
 
 /// An option of a command. One that takes no value is a flag.
-#[derive(Clone, Copy, Debug)]
+#[derive(Clone, Copy)]
 pub struct KnownOption {
     /// The name, without the two hyphens.
     pub name: &'static str,
