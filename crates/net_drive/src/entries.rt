@@ -15,7 +15,7 @@ ghost use Rattle.role_network.specs.Nets.{IsSoundRun, network_of};
 ghost use Rattle.schedule.specs.Agendas.{agenda_of, moves_of, ready_seen};
 
 use crate::laws::known;
-use crate::steps::{is_noted, make};
+use crate::steps::{is_noted, make, move_by};
 use dioc_terms::{Act, Entry, Memory};
 use dpoc_process::Runs;
 use net_core::Move;
@@ -109,7 +109,11 @@ pub(crate) fn take_auxiliary<R: Runs>(
     ensures agenda { OnOk result (map ready_seen agenda.new ≡ agenda_of net.new) }
 {
     match find_auxiliary(net.allocator(), agenda)? {
-        Some(next) => make_on(net, agenda, &next),
+        Some(next) => {
+            let is_made = make_on(net, agenda, &next);
+            drop(next);
+            is_made
+        }
         None => Ok(false),
     }
 }
@@ -140,9 +144,8 @@ fn find_auxiliary(alloc: Global, agenda: &[ReadyRole]) -> Result<Option<Move>, M
 {
     for ready in agenda {
         if let Some(act) = first_auxiliary(&ready.acts) {
-            let act = copy_of_act(alloc, act)?;
-            let role = ready.role.copy(alloc)?;
-            return Ok(Some(Move::Act(role, act)));
+            let next = move_by(alloc, &ready.role, copy_of_act(alloc, act)?)?;
+            return Ok(Some(next));
         }
     }
     Ok(None)

@@ -104,7 +104,9 @@ fn redo_entry<R: Runs>(alloc: Global, net: &mut Net<R>, entry: &Entry) -> Result
     ensures run { OnOk result (IsSoundRun net.new) }
 {
     let next = move_of(alloc, entry)?;
-    redo_by(net, &next, entry)
+    let is_redone = redo_by(net, &next, entry);
+    drop(next);
+    is_redone
 }
 
 // The same, with the move that the entry shows.

@@ -10,7 +10,7 @@ ghost use Rattle.net_drive.specs.Making.{Makes, shown_move};
 ghost use Rattle.role_network.specs.Nets.{IsSoundRun, network_of};
 
 use crate::resumed_laws::known;
-use dioc_terms::{Act, Entry, Memory, Role};
+use dioc_terms::{Act, Entry, Memory, Role, give_up};
 use dpoc_process::Runs;
 use net_core::{Move, StepFault};
 use role_network::{ChangeFault, Net};
@@ -22,13 +22,23 @@ pub(crate) fn move_of(alloc: Global, entry: &Entry) -> Result<Move, Memory>
     ensures { IfOk result (λ next. next ≡ shown_move entry.now) }
 {
     match entry {
-        Entry::Put { key, .. } => Ok(Move::Act(key.from.copy(alloc)?, Act::Put(key.copy(alloc)?))),
-        Entry::Take { key, .. } => Ok(Move::Act(key.to.copy(alloc)?, Act::Take(key.copy(alloc)?))),
-        Entry::Set { index, role, .. } => Ok(Move::Act(role.copy(alloc)?, Act::Set(*index))),
-        Entry::Input { index, role, .. } => Ok(Move::Act(role.copy(alloc)?, Act::Input(*index))),
-        Entry::Pick { index, role, .. } => Ok(Move::Act(role.copy(alloc)?, Act::Pick(*index))),
-        Entry::Scope { index, role, .. } => Ok(Move::Act(role.copy(alloc)?, Act::Scope(*index))),
+        Entry::Put { key, .. } => move_by(alloc, &key.from, Act::Put(key.copy(alloc)?)),
+        Entry::Take { key, .. } => move_by(alloc, &key.to, Act::Take(key.copy(alloc)?)),
+        Entry::Set { index, role, .. } => move_by(alloc, role, Act::Set(*index)),
+        Entry::Input { index, role, .. } => move_by(alloc, role, Act::Input(*index)),
+        Entry::Pick { index, role, .. } => move_by(alloc, role, Act::Pick(*index)),
+        Entry::Scope { index, role, .. } => move_by(alloc, role, Act::Scope(*index)),
         Entry::Add { .. } | Entry::Drop { .. } | Entry::Env { .. } => Ok(Move::Change),
+    }
+}
+
+/// The act as a move of the role.
+pub(crate) fn move_by(alloc: Global, role: &Role, act: Act) -> Result<Move, Memory>
+    ensures { IfOk result (λ next. next ≡ Move.Act role.now act) }
+{
+    match role.copy(alloc) {
+        Ok(role) => Ok(Move::Act(role, act)),
+        Err(fault) => give_up(act, fault),
     }
 }
 

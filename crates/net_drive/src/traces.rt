@@ -147,7 +147,9 @@ fn reach<R: Runs>(net: &mut Net<R>, agenda: &mut [ReadyRole], entry: &Entry) -> 
         (λ has_come. has_come ≡ true → map ready_seen agenda.new ≡ agenda_of net.new) }
 {
     let next = move_of(net.allocator(), entry)?;
-    reach_by(net, agenda, &next, entry)
+    let has_come = reach_by(net, agenda, &next, entry);
+    drop(next);
+    has_come
 }
 
 // The same, with the move that the entry shows.

@@ -22,8 +22,8 @@ returns-in-None-clause-makes g c =
 pub returns-in-Some-clause-makes : goal.returns-in-Some-clause-makes
 returns-in-Some-clause-makes g c =
     let old = c.args.net.now in
-    let new = c.make_on.new.net in
+    let new = c.make_on-is_made.new.net in
     let first : first_auxiliary (setting old.bundle) (network_of old) ≡ move_step (setting old.bundle) (network_of old) c.in-Some.next =
     first_of_agenda old (map ready_seen c.args.agenda.now) c.requires.agenda
     ∙ ap (option_and_then (move_step (setting old.bundle) (network_of old))) (sym c.in_ok-next.ensures ∙ c.in-Some.is) in
-    subst (λ (o : Option NextNetwork). IfOk c.make_on.result (Makes o old new)) (sym first) c.make_on.ensures.makes
+    subst (λ (o : Option NextNetwork). IfOk c.make_on-is_made.result (Makes o old new)) (sym first) c.make_on-is_made.ensures.makes
