@@ -14,7 +14,7 @@ ghost use Rattle.rule_book.specs.KeptBooks.{book_of, IsBookOf};
 use crate::own::judge_plain;
 use crate::scopes::judge_scope;
 use crate::updates::Update;
-use dioc_terms::{Act, Bundle, Entry, Memory, Role};
+use dioc_terms::{Act, Bundle, Entry, Memory, Role, give_up};
 use dpoc_process::{PrepareFault, Prepared, Runs};
 use role_mailbox::Mail;
 use rule_book::Book;
@@ -53,7 +53,9 @@ pub(crate) fn judge<R: Runs>(
     ensures updates_stay { OnErr result (updates.new.items ≡ updates.old.items) }
 {
     process_steps::offers_are_steps();
-    mail.reserve(1)?;
+    if let Err(fault) = mail.reserve(1) {
+        return give_up(act, fault);
+    }
     match state.prepare(alloc, &act) {
         Ok(prepared) => match judge_ready(
             alloc, bundle, me, book, updates, mail, state, entry, act, prepared,
@@ -109,7 +111,9 @@ fn judge_ready<R: Runs>(
 {
     process_steps::steps_show_their_acts();
     if is_scope(&act) {
-        return judge_scope(alloc, bundle, book, updates, state, entry, &act, prepared);
+        let kept = judge_scope(alloc, bundle, book, updates, state, entry, &act, prepared);
+        drop(act);
+        return kept;
     }
     Ok(judge_plain(me, state, mail, entry, act, prepared))
 }

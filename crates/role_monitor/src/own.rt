@@ -112,6 +112,7 @@ fn taken_message(mail: &mut Mail, key: Key) -> Option<(Key, Payload)>
     ensures same { IfNone result (SameMessages mail.old mail.new) }
 {
     let Some(payload) = mail.take(&key) else {
+        drop(key);
         return None;
     };
     if fits(&key.tag, &payload) {
@@ -142,7 +143,7 @@ fn keep_own(me: &Role, mail: &mut Mail, act: Act, payload: Option<Payload>)
 {
     match act {
         Act::Put(key) => keep_put(me, mail, key, payload),
-        _ => drop(payload),
+        act => drop((act, payload)),
     }
 }
 

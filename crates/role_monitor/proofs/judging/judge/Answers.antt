@@ -42,12 +42,12 @@ returns-in-Ok-judge_ready-clause-same_mail g c =
     (λ h. messages_after c.args.mail.now c.reserve.new.self c.judge_ready.new.mail (same_messages c.args.mail.now c.reserve.new.self c.reserve.ensures.same) h)
     c.in-Ok-judge_ready.ensures.same_mail
 
-pub returns-in-Err-clause-mail_stays : goal.returns-in-Err-clause-mail_stays
-returns-in-Err-clause-mail_stays g c =
-    messages_after c.args.mail.now c.reserve.new.self c.judge_ready.new.mail (same_messages c.args.mail.now c.reserve.new.self c.reserve.ensures.same) c.in-Err.ensures.mail_stays
+pub returns-in-Err-judge_ready-clause-mail_stays : goal.returns-in-Err-judge_ready-clause-mail_stays
+returns-in-Err-judge_ready-clause-mail_stays g c =
+    messages_after c.args.mail.now c.reserve.new.self c.judge_ready.new.mail (same_messages c.args.mail.now c.reserve.new.self c.reserve.ensures.same) c.in-Err-judge_ready.ensures.mail_stays
 
-pub returns-in-Err-clause-local_stays : goal.returns-in-Err-clause-local_stays
-returns-in-Err-clause-local_stays g c = c.in-Err.ensures.local_stays ∙ c.prepare.ensures.same
+pub returns-in-Err-judge_ready-clause-local_stays : goal.returns-in-Err-judge_ready-clause-local_stays
+returns-in-Err-judge_ready-clause-local_stays g c = c.in-Err-judge_ready.ensures.local_stays ∙ c.prepare.ensures.same
 
 pub returns-in-Err-NoAct-clause-refused : goal.returns-in-Err-NoAct-clause-refused
 returns-in-Err-NoAct-clause-refused g c =
@@ -60,5 +60,5 @@ returns-in-Err-NoAct-clause-same_mail g c = same_messages c.args.mail.now c.rese
 pub returns-in-Err-Memory-clause-mail_stays : goal.returns-in-Err-Memory-clause-mail_stays
 returns-in-Err-Memory-clause-mail_stays g c = same_messages c.args.mail.now c.reserve.new.self c.reserve.ensures.same
 
-pub returns-in_err-reserve-clause-mail_stays : goal.returns-in_err-reserve-clause-mail_stays
-returns-in_err-reserve-clause-mail_stays g c = any_err c.from_residual.result (same_messages c.args.mail.now c.reserve.new.self c.reserve.ensures.same)
+pub returns-in-Err-clause-mail_stays : goal.returns-in-Err-clause-mail_stays
+returns-in-Err-clause-mail_stays g c = any_err c.give_up.result (same_messages c.args.mail.now c.reserve.new.self c.reserve.ensures.same)

@@ -10,23 +10,23 @@ pub returns-then-is_scope-clause-kept : goal.returns-then-is_scope-clause-kept
 returns-then-is_scope-clause-kept g c =
     let b = setting (plain c.args.bundle.now) in
     let s = g.R.Runs.local c.args.state.now in
-    if_ok c.judge_scope.result _ _
-    (λ t h. on_true t (scope_keeps b s c.args.mail.now (book_of c.args.book.now) c.args.updates.now.items c.args.entry.now c.args.act (g.R.Runs.local c.judge_scope.new.state) c.judge_scope.new.updates.items) h)
-    c.judge_scope.ensures.kept
+    if_ok c.judge_scope-kept.result _ _
+    (λ t h. on_true t (scope_keeps b s c.args.mail.now (book_of c.args.book.now) c.args.updates.now.items c.args.entry.now c.args.act (g.R.Runs.local c.judge_scope-kept.new.state) c.judge_scope-kept.new.updates.items) h)
+    c.judge_scope-kept.ensures.kept
 
 pub returns-then-is_scope-clause-refused : goal.returns-then-is_scope-clause-refused
 returns-then-is_scope-clause-refused g c =
     let b = setting (plain c.args.bundle.now) in
     let s = g.R.Runs.local c.args.state.now in
-    if_ok c.judge_scope.result _ _
+    if_ok c.judge_scope-kept.result _ _
     (λ t h. on_false t (scope_refuses b s (book_of c.args.book.now) c.args.updates.now.items c.args.entry.now c.args.act (sym c.is_scope.ensures ∙ c.if-is_scope.true) c.args.mail.now) h)
-    c.judge_scope.ensures.refused
+    c.judge_scope-kept.ensures.refused
 
 pub returns-then-is_scope-clause-same_mail : goal.returns-then-is_scope-clause-same_mail
-returns-then-is_scope-clause-same_mail g c = all_ok c.judge_scope.result _ (λ t. any_false t (record { at = λ k. refl }))
+returns-then-is_scope-clause-same_mail g c = all_ok c.judge_scope-kept.result _ (λ t. any_false t (record { at = λ k. refl }))
 
 pub returns-then-is_scope-clause-mail_stays : goal.returns-then-is_scope-clause-mail_stays
-returns-then-is_scope-clause-mail_stays g c = any_err c.judge_scope.result (record { at = λ k. refl })
+returns-then-is_scope-clause-mail_stays g c = any_err c.judge_scope-kept.result (record { at = λ k. refl })
 
 pub returns-clause-kept : goal.returns-clause-kept
 returns-clause-kept g c =
