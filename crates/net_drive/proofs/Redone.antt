@@ -33,6 +33,10 @@ at_end : (xs : List Entry) (x : Entry) → slice_get (xs ++ x ∷ []) (length xs
 at_end [] x = refl
 at_end (y ∷ ys) x = at_end ys x
 
+pub taken_front : (xs ys : List Entry) → take (length xs) (xs ++ ys) ≡ xs
+taken_front [] ys = refl
+taken_front (x ∷ xs) ys = ap (λ l. x ∷ l) (taken_front xs ys)
+
 -- what stands behind the old history is the entry that was made
 pub noted_is : (old new : NetState) (e : Entry) (noted : Bool) (outcome : NextNetwork) → GoesOn old outcome new
     → noted ≡ option_map_or (entry_eq e) (slice_get new.history (length old.history)) false → noted ≡ entry_eq e outcome.entry

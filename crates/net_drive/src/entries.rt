@@ -24,7 +24,7 @@ use schedule::{ReadyRole, copy_of_act, keep_up_with};
 use std::alloc::Global;
 
 /// What became of an entry that was tried.
-#[derive(Clone, Copy, Debug, PartialEq, Eq)]
+#[derive(Clone, Copy)]
 pub(crate) enum Tried {
     /// It has come.
     Came,

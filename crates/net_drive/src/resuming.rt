@@ -28,7 +28,7 @@ pub enum ResumeFault<R: Runs> {
 }
 
 /// How far the entries were done.
-#[derive(Clone, Copy, Debug, PartialEq, Eq)]
+#[derive(Clone, Copy)]
 pub(crate) enum Redone {
     Whole,
     Stray(u64),
