@@ -5,7 +5,7 @@ ghost use Rattle.role_monitor.specs.Monitoring.{epoch_level, update_numbered};
 
 /// An update of a trace: its number, the number of the rule whose body it is, and how many updates
 /// that body stands inside, itself counted.
-#[derive(Clone, Copy, Debug)]
+#[derive(Clone, Copy)]
 pub(crate) struct Update {
     pub epoch: u32,
     pub rule: u32,
