@@ -69,10 +69,17 @@ fn copy_inputs(alloc: Global, inputs: &[(Role, Values)]) -> Result<Items<(Role, 
     ensures { IfOk result (λ copy. copy ≡ inputs.now) }
 {
     let mut copies = Vec::with_capacity(alloc, inputs.len())?;
-    for (role, values) in inputs {
-        copies.push((role.copy(alloc)?, values.copy(alloc)?))?;
+    for input in inputs {
+        copies.push_reserved(copy_input(alloc, input)?);
     }
     Ok(Items::new(copies))
+}
+
+fn copy_input(alloc: Global, input: &(Role, Values)) -> Result<(Role, Values), Memory>
+    ensures { IfOk result (λ copy. copy ≡ input.now) }
+{
+    let role = input.0.copy(alloc)?;
+    Ok((role, input.1.copy(alloc)?))
 }
 
 fn copy_script(alloc: Global, script: &[Timed]) -> Result<Items<Timed>, Memory>
@@ -80,10 +87,10 @@ fn copy_script(alloc: Global, script: &[Timed]) -> Result<Items<Timed>, Memory>
 {
     let mut copies = Vec::with_capacity(alloc, script.len())?;
     for timed in script {
-        copies.push(Timed {
+        copies.push_reserved(Timed {
             after: timed.after,
             change: copy_change(alloc, &timed.change)?,
-        })?;
+        });
     }
     Ok(Items::new(copies))
 }
