@@ -1,5 +1,5 @@
 -- What is placed is the first of what is left, and the places stay as many.
-use Rattle.std.proofs.Common.{◌∙◌, ◌<◌, Some, arith, length, ap, set, sym, subst}
+use Rattle.std.proofs.Common.{◌∙◌, ◌<◌, Some, arith, length, ap, sym, subst}
 use Rattle.std.specs.List.{AllByRecursion}
 use Rattle.session_pool.specs.declared.jobs.Numbered.{Numbered}
 use Rattle.session_pool.specs.Places.{placed}
