@@ -48,7 +48,7 @@ pub struct Options {
 }
 
 /// What the words ask for.
-#[derive(Drop)]
+#[derive(Debug, Drop)]
 pub enum Command {
     /// Runs a bundle with a thread for each role. It has `--steps`, `--aux` and `--json`.
     Run(Options),
