@@ -18,7 +18,7 @@ NAME = "[A-Za-z][A-Za-z0-9_]*"
 
 
 def reserved_words():
-    return set(re.findall(r'b"([A-Za-z]+)" => Some\(Word::', read(TOKENS)))
+    return set(re.findall(r'Word::\w+ => b"([A-Za-z]+)"', read(TOKENS)))
 
 
 def symbols():
