@@ -7,7 +7,7 @@ use crate::names::{Name, Role};
 use crate::values::Value;
 
 /// A rule: its body replaces a scope where its condition holds.
-#[derive(Debug, Drop)]
+#[derive(Debug)]
 pub struct Rule {
     /// Its name.
     pub name: Name,
@@ -19,8 +19,19 @@ pub struct Rule {
     pub body: Choreo,
 }
 
+impl Drop for Rule {
+    fn drop(self) {
+        let Rule {
+            name: _,
+            priority: _,
+            cond: _,
+            body: _,
+        } = self;
+    }
+}
+
 /// A change of the rule book or of the environment. `Add(n)` adds rule n of the bundle.
-#[derive(Debug, Drop)]
+#[derive(Debug)]
 pub enum Change {
     /// The rule of that number in the bundle is added.
     Add(u32),
@@ -30,13 +41,32 @@ pub enum Change {
     Env(Name, Value),
 }
 
+impl Drop for Change {
+    fn drop(self) {
+        match self {
+            Change::Add(_) => {}
+            Change::Drop(_) => {}
+            Change::Env(_, _) => {}
+        }
+    }
+}
+
 /// A change that may come once so many visible entries stand.
-#[derive(Debug, Drop)]
+#[derive(Debug)]
 pub struct Timed {
     /// So many visible entries must stand.
     pub after: u64,
     /// The change.
     pub change: Change,
+}
+
+impl Drop for Timed {
+    fn drop(self) {
+        let Timed {
+            after: _,
+            change: _,
+        } = self;
+    }
 }
 
 /// The last line of a trace: the number of all entries, and whether the run ended or was stopped.
@@ -59,7 +89,7 @@ pub struct Trace {
 
 /// A whole input. `rules` are those of the `rules` sections, `opening` of them, and then the
 /// script's adds.
-#[derive(Debug, Drop)]
+#[derive(Debug)]
 pub struct Bundle {
     /// 1 or 2. Version 1 knows neither named roles of a scope nor priorities.
     pub version: u32,
@@ -79,4 +109,20 @@ pub struct Bundle {
     pub script: Items<Timed>,
     /// A trace to be judged.
     pub trace: Trace,
+}
+
+impl Drop for Bundle {
+    fn drop(self) {
+        let Bundle {
+            version: _,
+            cast: _,
+            choreo: _,
+            rules: _,
+            opening: _,
+            env: _,
+            inputs: _,
+            script: _,
+            trace: _,
+        } = self;
+    }
 }

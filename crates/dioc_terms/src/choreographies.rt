@@ -13,7 +13,7 @@ use crate::names::{Index, Name, Role};
 use std::alloc::Global;
 
 /// A choreography: one global program of all roles.
-#[derive(Debug, Drop)]
+#[derive(Debug)]
 pub enum Choreo {
     /// Nothing.
     Skip,
@@ -68,6 +68,56 @@ pub enum Choreo {
         props: Bindings,
         level: u32,
     },
+}
+
+impl Drop for Choreo {
+    fn drop(self) {
+        match self {
+            Choreo::Skip => {}
+            Choreo::Com {
+                index: _,
+                op: _,
+                from: _,
+                expr: _,
+                to: _,
+                var: _,
+            } => {}
+            Choreo::Set {
+                index: _,
+                var: _,
+                role: _,
+                expr: _,
+            } => {}
+            Choreo::Input {
+                index: _,
+                var: _,
+                role: _,
+            } => {}
+            Choreo::Seq(_, _) => {}
+            Choreo::Par(_, _) => {}
+            Choreo::If {
+                index: _,
+                leader: _,
+                guard: _,
+                yes: _,
+                no: _,
+            } => {}
+            Choreo::While {
+                index: _,
+                leader: _,
+                guard: _,
+                body: _,
+            } => {}
+            Choreo::Scope {
+                index: _,
+                leader: _,
+                body: _,
+                extra: _,
+                props: _,
+                level: _,
+            } => {}
+        }
+    }
 }
 
 impl Choreo {

@@ -1,7 +1,9 @@
 //! Entries of a history, and acts of a role.
 
-ghost use Rattle.std.specs.Prelude.{◌≡◌, IfOk};
+ghost use Rattle.std.specs.Prelude.{◌≡◌, IfOk, Option};
 ghost use Rattle.dioc_terms.specs.declared.entries.Entry.TheVariants as entry;
+ghost use Rattle.dioc_terms.specs.declared.names.Name.{Name as OneName};
+ghost use Rattle.dioc_terms.specs.declared.processes.Key.{Key as OneKey};
 ghost use Rattle.dioc_terms.specs.Equality.{variable_eq};
 
 use crate::copies::copy_both;
@@ -12,7 +14,7 @@ use crate::values::Value;
 use std::alloc::Global;
 
 /// What an entry shows of a payload: of an update's part its epoch alone.
-#[derive(Debug, Drop)]
+#[derive(Debug)]
 pub enum Note {
     /// The value of an operation.
     Val(Value),
@@ -24,6 +26,18 @@ pub enum Note {
     Part(u32),
     /// Nothing but its tag.
     Done,
+}
+
+impl Drop for Note {
+    fn drop(self) {
+        match self {
+            Note::Val(_) => {}
+            Note::Flag(_) => {}
+            Note::Keep => {}
+            Note::Part(_) => {}
+            Note::Done => {}
+        }
+    }
 }
 
 impl Note {
@@ -69,12 +83,21 @@ impl Eq for Note {
 }
 
 /// What the leader of a scope chose.
-#[derive(Debug, Drop)]
+#[derive(Debug)]
 pub enum Chosen {
     /// To keep its body.
     Keep,
     /// The body of the rule of that name, as the update of that number.
     Rule { name: Name, epoch: u32 },
+}
+
+impl Drop for Chosen {
+    fn drop(self) {
+        match self {
+            Chosen::Keep => {}
+            Chosen::Rule { name: _, epoch: _ } => {}
+        }
+    }
 }
 
 impl Chosen {
@@ -127,7 +150,7 @@ impl Eq for Chosen {
 }
 
 /// One step of a run.
-#[derive(Debug, Drop)]
+#[derive(Debug)]
 pub enum Entry {
     /// A role sent a message.
     Put {
@@ -180,7 +203,52 @@ pub enum Entry {
     },
 }
 
+impl Drop for Entry {
+    fn drop(self) {
+        match self {
+            Entry::Put { key: _, note: _ } => {}
+            Entry::Take { key: _, var: _ } => {}
+            Entry::Set {
+                index: _,
+                role: _,
+                var: _,
+                value: _,
+            } => {}
+            Entry::Input {
+                index: _,
+                role: _,
+                var: _,
+                value: _,
+            } => {}
+            Entry::Pick {
+                index: _,
+                role: _,
+                flag: _,
+            } => {}
+            Entry::Scope {
+                index: _,
+                role: _,
+                chosen: _,
+            } => {}
+            Entry::Add { name: _ } => {}
+            Entry::Drop { name: _ } => {}
+            Entry::Env { key: _, value: _ } => {}
+        }
+    }
+}
+
 impl Entry {
+    /// The key of a take, and the variable in which it keeps what came, if in one.
+    pub fn into_take(self) -> (Key, Option<Name>)
+        requires take { (key : OneKey) × (var : Option OneName) × (self ≡ entry.Take key var) }
+        ensures take { self ≡ entry.Take result.0 result.1 }
+    {
+        match self {
+            Entry::Take { key, var } => (key, var),
+            _ => unreachable!(),
+        }
+    }
+
     /// A copy, the same entry.
     pub fn copy(&self, alloc: Global) -> Result<Entry, Memory>
         ensures { IfOk result (λ copy. copy ≡ self.now) }

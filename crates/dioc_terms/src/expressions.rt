@@ -44,7 +44,7 @@ pub enum Oper {
 
 /// An expression: of a step, over the acting role's variables; of a rule's condition, also over the
 /// scope's properties (`Prop`) and the environment (`Env`).
-#[derive(Debug, Drop)]
+#[derive(Debug)]
 pub enum Expr {
     /// A constant.
     Const(Value),
@@ -60,6 +60,20 @@ pub enum Expr {
     Neg(Box<Expr>),
     /// An operator between its two operands.
     Bin(Oper, Box<Expr>, Box<Expr>),
+}
+
+impl Drop for Expr {
+    fn drop(self) {
+        match self {
+            Expr::Const(_) => {}
+            Expr::Var(_) => {}
+            Expr::Prop(_) => {}
+            Expr::Env(_) => {}
+            Expr::Not(_) => {}
+            Expr::Neg(_) => {}
+            Expr::Bin(_, _, _) => {}
+        }
+    }
 }
 
 impl Expr {

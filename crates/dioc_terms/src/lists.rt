@@ -9,9 +9,15 @@ use crate::values::Value;
 use std::marker::Model;
 
 /// A list that contracts see as the list of its items.
-#[derive(Debug, Drop)]
+#[derive(Debug)]
 pub struct Items<T> {
     items: Vec<T>,
+}
+
+impl<T: Drop> Drop for Items<T> {
+    fn drop(self) {
+        let Items { items: _ } = self;
+    }
 }
 
 impl<T> Model for Items<T> {
@@ -41,7 +47,8 @@ impl<T> Items<T> {
     pub fn into_vec(self) -> Vec<T>
         ensures { result.items ≡ self }
     {
-        self.items
+        let Items { items } = self;
+        items
     }
 
     /// How many items.

@@ -15,9 +15,15 @@ pub const BYTES_IN_PLACE: usize = 16;
 
 /// A name: a letter, then letters, digits and `_`, 1 to 64 bytes in all. Contracts see its bytes.
 /// One of at most `BYTES_IN_PLACE` bytes takes no memory.
-#[derive(Debug, Drop)]
+#[derive(Debug)]
 pub struct Name {
     bytes: SmallVec<u8, BYTES_IN_PLACE>,
+}
+
+impl Drop for Name {
+    fn drop(self) {
+        let Name { bytes: _ } = self;
+    }
 }
 
 impl Model for Name {
@@ -102,9 +108,15 @@ impl Hash for Name {
 }
 
 /// A text: at most 1,024 bytes, each from 0x20 to 0x7E. Contracts see its bytes.
-#[derive(Debug, Drop)]
+#[derive(Debug)]
 pub struct Text {
     bytes: Vec<u8>,
+}
+
+impl Drop for Text {
+    fn drop(self) {
+        let Text { bytes: _ } = self;
+    }
 }
 
 impl Model for Text {
@@ -201,8 +213,14 @@ impl Eq for Text {
 }
 
 /// A role of a choreography, known by its name.
-#[derive(Debug, Drop, Hash)]
+#[derive(Debug, Hash)]
 pub struct Role(pub Name);
+
+impl Drop for Role {
+    fn drop(self) {
+        let Role(_) = self;
+    }
+}
 
 impl Role {
     /// A copy, the same role.

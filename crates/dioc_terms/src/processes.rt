@@ -14,7 +14,7 @@ use std::alloc::Global;
 use std::hash::Hash;
 
 /// What a message is for: an operation of the choreography, or one of the six auxiliary tags.
-#[derive(Debug, Drop, Hash)]
+#[derive(Debug, Hash)]
 pub enum Tag {
     /// An operation of the choreography.
     Op(Name),
@@ -30,6 +30,20 @@ pub enum Tag {
     End,
     /// The leader tells that the scope has ended.
     Out,
+}
+
+impl Drop for Tag {
+    fn drop(self) {
+        match self {
+            Tag::Op(_) => {}
+            Tag::Choice => {}
+            Tag::Go => {}
+            Tag::Turn => {}
+            Tag::Begin => {}
+            Tag::End => {}
+            Tag::Out => {}
+        }
+    }
 }
 
 impl Tag {
@@ -88,7 +102,7 @@ impl Hash for Tag {
 }
 
 /// The key of a message. A receive takes the message of exactly its key.
-#[derive(Debug, Drop, Hash)]
+#[derive(Debug, Hash)]
 pub struct Key {
     /// The sender.
     pub from: Role,
@@ -98,6 +112,17 @@ pub struct Key {
     pub index: Index,
     /// What the message is for.
     pub tag: Tag,
+}
+
+impl Drop for Key {
+    fn drop(self) {
+        let Key {
+            from: _,
+            to: _,
+            index: _,
+            tag: _,
+        } = self;
+    }
 }
 
 impl Key {
@@ -148,7 +173,7 @@ impl Hash for Key {
 }
 
 /// What the leader of a scope shows the book: the scope without its body.
-#[derive(Debug, Drop)]
+#[derive(Debug)]
 pub struct ScopeHead {
     /// The index of the scope.
     pub index: Index,
@@ -160,6 +185,18 @@ pub struct ScopeHead {
     pub props: Bindings,
     /// How many updates it stands inside.
     pub level: u32,
+}
+
+impl Drop for ScopeHead {
+    fn drop(self) {
+        let ScopeHead {
+            index: _,
+            leader: _,
+            roles: _,
+            props: _,
+            level: _,
+        } = self;
+    }
 }
 
 /// What a message carries.
@@ -283,6 +320,20 @@ pub struct Parts {
 }
 
 impl ScopeHead {
+    /// The leader of the scope.
+    pub fn into_leader(self) -> Role
+        ensures { result ≡ self.leader }
+    {
+        let ScopeHead {
+            index: _,
+            leader,
+            roles: _,
+            props: _,
+            level: _,
+        } = self;
+        leader
+    }
+
     /// A copy, the same head.
     pub fn copy(&self, alloc: Global) -> Result<ScopeHead, Memory>
         ensures { IfOk result (λ copy. copy ≡ self.now) }

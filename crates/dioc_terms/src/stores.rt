@@ -10,10 +10,18 @@ use std::alloc::Global;
 use std::collections::VecDeque;
 
 /// The variables of a role, and the inputs that it has left.
-#[derive(Drop)]
 pub struct Store {
     variables: IndexMap<Name, Value>,
     inputs: VecDeque<Value>,
+}
+
+impl Drop for Store {
+    fn drop(self) {
+        let Store {
+            variables: _,
+            inputs: _,
+        } = self;
+    }
 }
 
 impl Store {

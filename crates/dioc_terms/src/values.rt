@@ -7,7 +7,7 @@ use crate::names::Text;
 use std::alloc::Global;
 
 /// What a variable holds and a message carries.
-#[derive(Debug, Drop)]
+#[derive(Debug)]
 pub enum Value {
     /// No value: what an unset variable has.
     Nil,
@@ -17,6 +17,17 @@ pub enum Value {
     Int(i64),
     /// A text.
     Text(Text),
+}
+
+impl Drop for Value {
+    fn drop(self) {
+        match self {
+            Value::Nil => {}
+            Value::Bool(_) => {}
+            Value::Int(_) => {}
+            Value::Text(_) => {}
+        }
+    }
 }
 
 impl Value {

@@ -14,12 +14,22 @@ use std::mem;
 
 /// A role that runs, with its process as a tree. A step copies nothing of the process but the body
 /// of a loop, once a turn.
-#[derive(Drop)]
 pub struct RoleState {
     role: Role,
     proc: Proc,
     store: Store,
     ready: Option<Ready>,
+}
+
+impl Drop for RoleState {
+    fn drop(self) {
+        let RoleState {
+            role: _,
+            proc: _,
+            store: _,
+            ready: _,
+        } = self;
+    }
 }
 
 impl RoleState {

@@ -7,7 +7,6 @@ use crate::ops::Op;
 
 /// A process as a list of ops, in which the parts of an op stand before it. Contracts see it as the
 /// process.
-#[derive(Drop)]
 pub struct Code {
     /// The ops. Each place of a part is that of an earlier op.
     pub ops: Vec<Op>,
@@ -15,6 +14,12 @@ pub struct Code {
     pub start: usize,
     pub ghost placed: { are_placed 0 ops.items ≡ true },
     pub ghost starts: { start < length ops.items },
+}
+
+impl Drop for Code {
+    fn drop(self) {
+        let Code { ops: _, start: _ } = self;
+    }
 }
 
 impl Code {

@@ -16,7 +16,6 @@ use std::alloc::Global;
 
 /// A role that runs over flat code: the code, which only grows, by the parts of updates, and frames
 /// that say what is still to be done of it. A step copies nothing of the process.
-#[derive(Drop)]
 pub struct FlatRole {
     role: Role,
     code: LiveCode,
@@ -24,6 +23,18 @@ pub struct FlatRole {
     store: Store,
     ready: Option<Ready>,
     ghost placed: { is_placed (length code.code.ops.items) frame ≡ true },
+}
+
+impl Drop for FlatRole {
+    fn drop(self) {
+        let FlatRole {
+            role: _,
+            code: _,
+            frame: _,
+            store: _,
+            ready: _,
+        } = self;
+    }
 }
 
 impl FlatRole {

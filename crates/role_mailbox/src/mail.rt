@@ -5,9 +5,14 @@ use indexmap::IndexMap;
 use std::alloc::Global;
 
 /// The pending messages. No two of them have one key, and their order means nothing.
-#[derive(Drop)]
 pub struct Mail {
     pending: IndexMap<Key, Payload>,
+}
+
+impl Drop for Mail {
+    fn drop(self) {
+        let Mail { pending: _ } = self;
+    }
 }
 
 impl Mail {

@@ -38,7 +38,6 @@ pub enum FeedFault {
 }
 
 /// A monitor of one role of a bundle, after some entries of a full trace.
-#[derive(Drop)]
 pub struct Monitor<'a> {
     alloc: Global,
     bundle: &'a Bundle,
@@ -50,6 +49,23 @@ pub struct Monitor<'a> {
     updates: Vec<Update>,
     fed: u64,
     judged: u64,
+}
+
+impl<'a> Drop for Monitor<'a> {
+    fn drop(self) {
+        let Monitor {
+            alloc: _,
+            bundle: _,
+            role: _,
+            state: _,
+            mail: _,
+            book: _,
+            changes: _,
+            updates: _,
+            fed: _,
+            judged: _,
+        } = self;
+    }
 }
 
 impl<'a> Monitor<'a> {

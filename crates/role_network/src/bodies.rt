@@ -3,10 +3,16 @@
 use dioc_terms::{Change, Choreo, Entry, Name};
 
 /// What replaces a scope: the name and the body of a rule.
-#[derive(Debug, Drop)]
+#[derive(Debug)]
 pub struct RuleBody {
     pub name: Name,
     pub body: Choreo,
+}
+
+impl Drop for RuleBody {
+    fn drop(self) {
+        let RuleBody { name: _, body: _ } = self;
+    }
 }
 
 /// A change of the script, with the entry that it shows.

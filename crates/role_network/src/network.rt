@@ -30,7 +30,6 @@ use std::snapshot::Snapshot;
 use trace_book::History;
 
 /// The network of a bundle after some entries, of which there may be at most `limit`.
-#[derive(Drop)]
 pub struct Net<R: Runs> {
     alloc: Global,
     of: Snapshot<Bundle>,
@@ -43,6 +42,24 @@ pub struct Net<R: Runs> {
     updates: u32,
     history: History,
     limit: u64,
+}
+
+impl<R: Runs + Drop> Drop for Net<R> {
+    fn drop(self) {
+        let Net {
+            alloc: _,
+            of: _,
+            cast: _,
+            roles: _,
+            mail: _,
+            book: _,
+            bodies: _,
+            coming: _,
+            updates: _,
+            history: _,
+            limit: _,
+        } = self;
+    }
 }
 
 impl<R: Runs> Model for Net<R> {
@@ -91,7 +108,20 @@ impl<R: Runs> Net<R> {
     pub fn into_history(self) -> History
         ensures { result.entries ≡ self.history }
     {
-        self.history
+        let Net {
+            alloc: _,
+            of: _,
+            cast: _,
+            roles: _,
+            mail: _,
+            book: _,
+            bodies: _,
+            coming: _,
+            updates: _,
+            history,
+            limit: _,
+        } = self;
+        history
     }
 
     /// How many entries there may be.

@@ -117,7 +117,8 @@ fn keep_scope<R: Runs>(state: &mut R, history: &mut History, act: &Act, head: Sc
     ensures pushed { history.new.entries ≡ history.old.entries
         ++ entry.Scope head.index head.leader chosen.Keep ∷ [] }
 {
-    let ScopeHead { index, leader, .. } = head;
+    let index = head.index;
+    let leader = head.into_leader();
     state.advance(act, Got::Keep);
     history.push(Entry::Scope {
         index,
@@ -161,7 +162,8 @@ fn replace_scope<R: Runs>(
     let epoch = *updates + 1;
     match planned(alloc, cast.as_slice(), &head, rule, epoch) {
         Ok((name, parts)) => {
-            let ScopeHead { index, leader, .. } = head;
+            let index = head.index;
+            let leader = head.into_leader();
             state.advance(act, Got::Parts(parts));
             history.push(Entry::Scope {
                 index,

@@ -142,10 +142,7 @@ fn taken(entry: Option<Entry>) -> (Key, Option<Name>)
     requires { (k : OneKey) × (x : Option OneName) × (entry ≡ Some (entries.Take k x)) }
     ensures { entry ≡ Some (entries.Take result.0 result.1) }
 {
-    let Some(Entry::Take { key, var }) = entry else {
-        unreachable!()
-    };
-    (key, var)
+    entry.unwrap().into_take()
 }
 
 /// Does what a role does alone, for which it is ready: it sets a variable, reads an input or picks

@@ -18,7 +18,6 @@ use std::collections::VecDeque;
 /// The rule book of a bundle: the rules that may replace scopes, in the order of their first
 /// adding, the environment, and the changes of the script that are still to come. The memory of
 /// these changes is taken when the book is made.
-#[derive(Drop)]
 pub struct Book {
     rules: IndexMap<Name, KeptRule>,
     // The last pair of a name counts.
@@ -26,6 +25,16 @@ pub struct Book {
     coming: VecDeque<KeptChange>,
     ghost rules_fit: { deque_len coming ≤ spare rules },
     ghost pairs_fit: { vec_len env + deque_len coming ≤ vec_capacity env },
+}
+
+impl Drop for Book {
+    fn drop(self) {
+        let Book {
+            rules: _,
+            env: _,
+            coming: _,
+        } = self;
+    }
 }
 
 impl Book {

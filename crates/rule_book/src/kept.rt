@@ -15,7 +15,6 @@ use dioc_terms::{Expr, Name, Role, Roles, ScopeHead, Store, Value, test};
 use limits::TOP_LEVEL;
 
 /// What a book keeps of a rule.
-#[derive(Drop)]
 pub struct KeptRule {
     /// Its number in the bundle.
     pub(crate) number: u32,
@@ -26,6 +25,17 @@ pub struct KeptRule {
     /// The roles of its body.
     pub(crate) roles: Roles,
     ghost no_join: { has_no_join (expression cond) ≡ true },
+}
+
+impl Drop for KeptRule {
+    fn drop(self) {
+        let KeptRule {
+            number: _,
+            priority: _,
+            cond: _,
+            roles: _,
+        } = self;
+    }
 }
 
 /// A change that is still to come, with the memory that it takes.

@@ -20,7 +20,6 @@ use turn_lock::Chronicle;
 
 /// The history, and what the network of the bundle has after it but for the processes and stores,
 /// which the roles keep. The bundle is kept for contracts alone.
-#[derive(Drop)]
 pub struct Home {
     pub(crate) alloc: Global,
     pub(crate) of: Snapshot<Bundle>,
@@ -36,6 +35,25 @@ pub struct Home {
     // For each role of the cast.
     pub(crate) finished: Vec<bool>,
     pub(crate) stopped: Option<Why>,
+}
+
+impl Drop for Home {
+    fn drop(self) {
+        let Home {
+            alloc: _,
+            of: _,
+            limit: _,
+            cast: _,
+            names: _,
+            mail: _,
+            book: _,
+            coming: _,
+            updates: _,
+            history: _,
+            finished: _,
+            stopped: _,
+        } = self;
+    }
 }
 
 impl Model for Home {
@@ -115,7 +133,21 @@ impl Home {
         ensures entries { result.entries ≡ self.history }
         ensures sound { IsSoundHome self }
     {
-        self.history
+        let Home {
+            alloc: _,
+            of: _,
+            limit: _,
+            cast: _,
+            names: _,
+            mail: _,
+            book: _,
+            coming: _,
+            updates: _,
+            history,
+            finished: _,
+            stopped: _,
+        } = self;
+        history
     }
 
     /// Why no role may commit now, whatever it does.

@@ -27,10 +27,15 @@ use turn_lock::{Missing, Seat, Turn, Turns};
 
 /// What the threads of roles share, under a lock of turns. Each role has a seat, and so has the
 /// feeder of changes.
-#[derive(Drop)]
 pub struct Stage {
     pub(crate) turns: Turns<Home>,
     pub(crate) pulse: Pulse,
+}
+
+impl Drop for Stage {
+    fn drop(self) {
+        let Stage { turns: _, pulse: _ } = self;
+    }
 }
 
 impl Stage {

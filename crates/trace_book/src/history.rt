@@ -13,10 +13,19 @@ use std::marker::Model;
 
 /// The entries so far, in their order. Contracts see their list, and how many more there is room
 /// for.
-#[derive(Debug, Drop)]
+#[derive(Debug)]
 pub struct History {
     entries: Vec<Entry>,
     visible_count: u64,
+}
+
+impl Drop for History {
+    fn drop(self) {
+        let History {
+            entries: _,
+            visible_count: _,
+        } = self;
+    }
 }
 
 impl Model for History {
