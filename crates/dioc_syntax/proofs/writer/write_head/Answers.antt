@@ -1,4 +1,4 @@
-use Rattle.std.proofs.Common.{arith}
+use Rattle.std.proofs.Common.{arith, rules}
 use Rattle.std.proofs.lemmas.Grind.{common_steps}
 use Rattle.text_pieces.proofs.KeptFronts.{front_of_front}
 use Rattle.dioc_syntax.proofs.writer.write_head.Goals as goal
@@ -20,3 +20,6 @@ returns-in_ok-write_bytes-in-Scope-clause-ok c = grind (arith, common_steps)
 
 pub returns-in_ok-write_bytes-in-Scope-clause-memory : goal.returns-in_ok-write_bytes-in-Scope-clause-memory
 returns-in_ok-write_bytes-in-Scope-clause-memory c = grind (arith, front_of_front)
+
+pub returns-in-Seq-clause-ok : goal.returns-in-Seq-clause-ok
+returns-in-Seq-clause-ok c = search rules depth 2

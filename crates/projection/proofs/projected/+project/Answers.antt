@@ -1,4 +1,4 @@
-use Rattle.std.proofs.Common.{◌∙◌, ap, map}
+use Rattle.std.proofs.Common.{◌∙◌, ap, map, rules}
 use Rattle.std.proofs.lemmas.Result.{IfOk-weaker, on_ok_weaker}
 use Rattle.dioc_terms.specs.Terms.{term}
 use Rattle.projection.specs.Named.{names_inside, raised}
@@ -56,3 +56,9 @@ lead-returns-in_ok-head-in-Scope-clause-made t c =
     let flags = scope_flags c.args.cast.now c.args.named.now c.boxed_part-in-Scope.new.named is c.requires.own c.in_ok-body-in-Scope.ensures.named in
     leads_scope c.args.cast.now c.args.role.now c.in_ok-others-in-Scope.others c.boxed_part-in-Scope.new.named is c.requires.leads c.in_ok-head-in-Scope.ensures c.in_ok-others-in-Scope.ensures flags
     c.in_ok-body-in-Scope.ensures.made
+
+pub construct-lead-requires : goal.construct-lead-requires
+construct-lead-requires t c = search rules depth 2
+
+pub part-returns-in_ok-right-in-Par-clause-made : goal.part-returns-in_ok-right-in-Par-clause-made
+part-returns-in_ok-right-in-Par-clause-made t c = search rules depth 2

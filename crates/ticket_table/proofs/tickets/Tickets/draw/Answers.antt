@@ -8,3 +8,9 @@ fetch_add-requires c = (
   omega (arith, c.args.self.now.sized.0),
   draws _ _ _ c.args.drawer.now.token.me c.requires.some c.requires.few,
 )
+
+pub returns-clause-view : goal.returns-clause-view
+returns-clause-view c = cc
+
+pub returns-clause-beyond : goal.returns-clause-beyond
+returns-clause-beyond c = assumption

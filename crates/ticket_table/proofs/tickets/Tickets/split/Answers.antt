@@ -8,3 +8,9 @@ split_seat-token-requires c = (
   omega (arith, c.args.self.now.sized.0),
   splits _ _ c.args.drawer.now.token.me.0 c.requires.parts c.requires.none,
 )
+
+pub returns-clause-view : goal.returns-clause-view
+returns-clause-view c = cc
+
+pub returns-clause-new : goal.returns-clause-new
+returns-clause-new c = cc

@@ -1,0 +1,4 @@
+use Rattle.aioc_io.proofs.standard.StdSinkSink.write.Goals as goal
+
+pub returns-in-Ok-clause-some : goal.returns-in-Ok-clause-some
+returns-in-Ok-clause-some g c = assumption

@@ -1,0 +1,5 @@
+use Rattle.std.proofs.Common.{arith}
+use Rattle.index_marks.proofs.sizes.both.Goals as goal
+
+pub returns : goal.returns
+returns c = omega arith
