@@ -138,7 +138,6 @@ fn add_body(alloc: Global, whole: &Proc, ops: &mut Vec<Op>) -> Result<usize, Mem
 }
 
 /// Appends an op whose parts stand before it, and gives its place.
-#[tactic(auto, using(crate::proofs::PlaceLemmas::placed_push, crate::proofs::PlaceLemmas::push_is_at, crate::proofs::PlaceLemmas::extends_itself, crate::proofs::PlaceLemmas::extends_push))]
 fn push(ops: &mut Vec<Op>, op: Op) -> Result<usize, Memory>
     requires placed { are_placed 0 ops.old.items ≡ true }
     requires earlier { AreBelow (length ops.old.items) (part_places op) }

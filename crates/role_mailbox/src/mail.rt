@@ -46,7 +46,6 @@ impl Mail {
 
     /// Adds a message. It takes no memory: there is room for one, and no message of that key is
     /// pending.
-    #[tactic(auto, using(crate::proofs::MailLemmas::put_shown, crate::proofs::MailLemmas::distinct_shown, crate::proofs::MailLemmas::put_counts))]
     pub fn put(&mut self, key: Key, payload: Payload)
         requires room { 0 < room self.old }
         requires free { payload_at key self.old ≡ None }
@@ -61,7 +60,6 @@ impl Mail {
 
     /// Takes the message of exactly that key, `None` exactly where none is pending. It takes no
     /// memory.
-    #[tactic(auto, using(crate::proofs::MailLemmas::taken_shown, crate::proofs::MailLemmas::distinct_shown, crate::proofs::MailLemmas::payload_in_map))]
     pub fn take(&mut self, key: &Key) -> Option<Payload>
         ensures payload { option_map load result ≡ payload_at key.now self.old }
         ensures taken { ChangesOnly self.old self.new key.now None }
