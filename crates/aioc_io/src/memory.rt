@@ -11,7 +11,7 @@ use crate::{Failed, Sink, Source, SureSource};
 use std::alloc::Global;
 
 /// A source of given bytes whose calls fail as planned.
-#[derive(Debug, Drop)]
+#[derive(Drop)]
 pub struct MemSource {
     inner: SureSource,
     plan: Plan,
@@ -66,7 +66,7 @@ impl Source for MemSource {
 }
 
 /// A sink that keeps what it takes and whose calls fail as planned.
-#[derive(Debug, Drop)]
+#[derive(Drop)]
 pub struct MemSink {
     taken: Vec<u8>,
     plan: Plan,

@@ -7,7 +7,7 @@ use crate::Failed;
 use crate::failed::count_fault;
 
 /// Which calls of a device in memory fail, and how many bytes the others move at most.
-#[derive(Debug, Drop)]
+#[derive(Drop)]
 pub struct Plan {
     pub most: usize,
     fails: Vec<u64>,

@@ -12,7 +12,7 @@ use std::io::{Read, Write};
 /// A reader of `std` as a source. Each error of the reader counts as a fault.
 ///
 /// It tells the bytes that the reader tells, which are none for standard input.
-#[derive(Debug, Drop)]
+#[derive(Drop)]
 pub struct StdSource<R: Read> {
     inner: R,
     faults: u64,
@@ -55,7 +55,7 @@ impl<R: Read> Source for StdSource<R> {
 /// which it takes nothing.
 ///
 /// It tells the bytes that the writer tells, which are none for standard output.
-#[derive(Debug, Drop)]
+#[derive(Drop)]
 pub struct StdSink<W: Write> {
     inner: W,
     faults: u64,

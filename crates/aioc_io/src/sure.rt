@@ -8,7 +8,7 @@ ghost use Rattle.aioc_io.specs.Faults.{last_count};
 use crate::{Failed, Sink, Source};
 
 /// A source of given bytes that never fails.
-#[derive(Debug, Drop)]
+#[derive(Drop)]
 pub struct SureSource {
     bytes: Vec<u8>,
     at: usize,
@@ -56,7 +56,7 @@ fn copy_front(from: &[u8], into: &mut [u8]) -> usize
 }
 
 /// A sink that takes everything, never fails, and keeps only the number of bytes.
-#[derive(Clone, Copy, Debug, Default)]
+#[derive(Clone, Copy, Default)]
 pub struct SureSink {
     count: u64,
 }

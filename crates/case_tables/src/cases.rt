@@ -5,7 +5,7 @@ use crate::problems::Problem;
 use std::alloc::Global;
 
 /// A case: a call, its options and its text.
-#[derive(Debug, Drop)]
+#[derive(Drop)]
 pub struct Case {
     pub call: Vec<u8>,
     pub options: Vec<Vec<u8>>,

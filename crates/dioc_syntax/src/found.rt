@@ -9,7 +9,7 @@ use dioc_terms::{Bindings, Choreo, Index, Memory, Role, Roles, give_up, new_box,
 use std::alloc::Global;
 
 /// A choreography that was read.
-#[derive(Debug, Drop)]
+#[derive(Drop)]
 pub struct FoundChoreo {
     /// The choreography, marked as its text is.
     pub choreo: Choreo,

@@ -16,7 +16,7 @@ pub struct Reader<'a> {
 }
 
 /// A place of a text where a choreography is read, and how far it may go.
-#[derive(Clone, Copy, Debug)]
+#[derive(Clone, Copy)]
 pub struct Place {
     /// How many tokens stand before it.
     pub at: usize,

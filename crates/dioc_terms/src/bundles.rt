@@ -7,7 +7,6 @@ use crate::names::{Name, Role};
 use crate::values::Value;
 
 /// A rule: its body replaces a scope where its condition holds.
-#[derive(Debug)]
 pub struct Rule {
     /// Its name.
     pub name: Name,
@@ -31,7 +30,6 @@ impl Drop for Rule {
 }
 
 /// A change of the rule book or of the environment. `Add(n)` adds rule n of the bundle.
-#[derive(Debug)]
 pub enum Change {
     /// The rule of that number in the bundle is added.
     Add(u32),
@@ -52,7 +50,6 @@ impl Drop for Change {
 }
 
 /// A change that may come once so many visible entries stand.
-#[derive(Debug)]
 pub struct Timed {
     /// So many visible entries must stand.
     pub after: u64,
@@ -70,7 +67,7 @@ impl Drop for Timed {
 }
 
 /// The last line of a trace: the number of all entries, and whether the run ended or was stopped.
-#[derive(Debug, Drop)]
+#[derive(Drop)]
 pub enum Last {
     /// The run ended after so many entries.
     Ended(u64),
@@ -79,7 +76,7 @@ pub enum Last {
 }
 
 /// A trace as it is written in a bundle.
-#[derive(Debug, Drop)]
+#[derive(Drop)]
 pub struct Trace {
     /// The entries, in their order.
     pub entries: Entries,
@@ -89,7 +86,6 @@ pub struct Trace {
 
 /// A whole input. `rules` are those of the `rules` sections, `opening` of them, and then the
 /// script's adds.
-#[derive(Debug)]
 pub struct Bundle {
     /// 1 or 2. Version 1 knows neither named roles of a scope nor priorities.
     pub version: u32,

@@ -13,7 +13,6 @@ use crate::names::{Index, Name, Role};
 use std::alloc::Global;
 
 /// A choreography: one global program of all roles.
-#[derive(Debug)]
 pub enum Choreo {
     /// Nothing.
     Skip,

@@ -14,7 +14,6 @@ use crate::values::Value;
 use std::alloc::Global;
 
 /// What an entry shows of a payload: of an update's part its epoch alone.
-#[derive(Debug)]
 pub enum Note {
     /// The value of an operation.
     Val(Value),
@@ -83,7 +82,6 @@ impl Eq for Note {
 }
 
 /// What the leader of a scope chose.
-#[derive(Debug)]
 pub enum Chosen {
     /// To keep its body.
     Keep,
@@ -150,7 +148,6 @@ impl Eq for Chosen {
 }
 
 /// One step of a run.
-#[derive(Debug)]
 pub enum Entry {
     /// A role sent a message.
     Put {
@@ -548,7 +545,7 @@ fn is_same_variable(mine: &Option<Name>, theirs: &Option<Name>) -> bool
 }
 
 /// What a process can do next.
-#[derive(Debug, Drop)]
+#[derive(Drop)]
 pub enum Act {
     /// To send the message of this key.
     Put(Key),

@@ -10,7 +10,7 @@ use crate::values::Value;
 use std::alloc::Global;
 
 /// The operators that stand between two operands.
-#[derive(Clone, Copy, Debug, PartialEq, Eq)]
+#[derive(Clone, Copy, PartialEq, Eq)]
 pub enum Oper {
     /// `+`
     Add,
@@ -44,7 +44,6 @@ pub enum Oper {
 
 /// An expression: of a step, over the acting role's variables; of a rule's condition, also over the
 /// scope's properties (`Prop`) and the environment (`Env`).
-#[derive(Debug)]
 pub enum Expr {
     /// A constant.
     Const(Value),

@@ -9,7 +9,6 @@ use crate::values::Value;
 use std::marker::Model;
 
 /// A list that contracts see as the list of its items.
-#[derive(Debug)]
 pub struct Items<T> {
     items: Vec<T>,
 }

@@ -108,7 +108,6 @@ impl Hash for Name {
 }
 
 /// A text: at most 1,024 bytes, each from 0x20 to 0x7E. Contracts see its bytes.
-#[derive(Debug)]
 pub struct Text {
     bytes: Vec<u8>,
 }

@@ -14,7 +14,7 @@ use std::alloc::Global;
 use std::hash::Hash;
 
 /// What a message is for: an operation of the choreography, or one of the six auxiliary tags.
-#[derive(Debug, Hash)]
+#[derive(Hash)]
 pub enum Tag {
     /// An operation of the choreography.
     Op(Name),
@@ -102,7 +102,7 @@ impl Hash for Tag {
 }
 
 /// The key of a message. A receive takes the message of exactly its key.
-#[derive(Debug, Hash)]
+#[derive(Hash)]
 pub struct Key {
     /// The sender.
     pub from: Role,
@@ -173,7 +173,6 @@ impl Hash for Key {
 }
 
 /// What the leader of a scope shows the book: the scope without its body.
-#[derive(Debug)]
 pub struct ScopeHead {
     /// The index of the scope.
     pub index: Index,
@@ -201,7 +200,7 @@ impl Drop for ScopeHead {
 
 /// What a message carries.
 #[cycle(process)]
-#[derive(Debug, Drop)]
+#[derive(Drop)]
 pub enum Payload {
     /// The value of an operation.
     Val(Value),
@@ -217,7 +216,7 @@ pub enum Payload {
 
 /// Messages that are still to be sent, in their order.
 #[cycle(process)]
-#[derive(Debug, Drop)]
+#[derive(Drop)]
 pub enum Messages {
     /// No message.
     Nothing,
@@ -227,7 +226,7 @@ pub enum Messages {
 
 /// The process of one role.
 #[cycle(process)]
-#[derive(Debug, Drop)]
+#[derive(Drop)]
 pub enum Proc {
     /// Nothing.
     Skip,
@@ -311,7 +310,7 @@ pub enum Proc {
 }
 
 /// The parts of an update: the leader's own, and the messages with those of the others.
-#[derive(Debug, Drop)]
+#[derive(Drop)]
 pub struct Parts {
     /// The part of the leader.
     pub own: Proc,

@@ -7,7 +7,6 @@ use crate::names::Text;
 use std::alloc::Global;
 
 /// What a variable holds and a message carries.
-#[derive(Debug)]
 pub enum Value {
     /// No value: what an unset variable has.
     Nil,

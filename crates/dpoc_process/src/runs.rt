@@ -7,7 +7,7 @@ use std::alloc::Global;
 use thiserror::Error;
 
 /// What comes with an act from outside of the role.
-#[derive(Debug, Drop)]
+#[derive(Drop)]
 pub enum Got {
     /// Nothing, for an act that is neither a take nor a scope's.
     Nothing,
@@ -20,7 +20,7 @@ pub enum Got {
 }
 
 /// What is known of an act before it is done.
-#[derive(Debug, Drop)]
+#[derive(Drop)]
 pub struct Prepared {
     /// The act.
     pub act: Act,

@@ -7,7 +7,7 @@ use aioc_tokens::{Punctuator, Sort, Word};
 use dioc_terms::Oper;
 
 /// Where an expression stands.
-#[derive(Clone, Copy, Debug, PartialEq, Eq)]
+#[derive(Clone, Copy, PartialEq, Eq)]
 pub enum ExprKind {
     /// In a step of a choreography: over the variables of the acting role alone.
     Step,
@@ -17,7 +17,7 @@ pub enum ExprKind {
 }
 
 /// How tightly an expression binds, from the loosest to the tightest.
-#[derive(Clone, Copy, Debug, PartialEq, Eq)]
+#[derive(Clone, Copy, PartialEq, Eq)]
 pub enum Level {
     /// Joined by `or`.
     Disjunction,

@@ -19,7 +19,7 @@ use dioc_terms::{Expr, Memory, Oper, give_up, new_box};
 use std::alloc::Global;
 
 /// An expression that was read, its depth and the place behind it.
-#[derive(Debug, Drop)]
+#[derive(Drop)]
 pub struct Found {
     pub expr: Expr,
     pub depth: usize,

@@ -6,7 +6,7 @@ use dioc_terms::{Act, Memory, Role};
 use std::alloc::AllocFailed;
 
 /// One move of a network: the script's next change, or an act of a role.
-#[derive(Debug, Drop)]
+#[derive(Drop)]
 pub enum Move {
     Change,
     Act(Role, Act),

@@ -3,7 +3,6 @@
 use dioc_terms::{Change, Choreo, Entry, Name};
 
 /// What replaces a scope: the name and the body of a rule.
-#[derive(Debug)]
 pub struct RuleBody {
     pub name: Name,
     pub body: Choreo,
@@ -16,7 +15,7 @@ impl Drop for RuleBody {
 }
 
 /// A change of the script, with the entry that it shows.
-#[derive(Debug, Drop)]
+#[derive(Drop)]
 pub struct Coming {
     pub after: u64,
     pub change: Change,

@@ -4,7 +4,7 @@ use dioc_terms::Role;
 use std::sync::Wait;
 
 /// What a thread of a run is about to do, or has done. No thread has the turn of the lock there.
-#[derive(Clone, Copy, Debug)]
+#[derive(Clone, Copy)]
 pub enum Place<'a> {
     /// The role is about to try a commit.
     BeforeStep(&'a Role),
@@ -23,7 +23,7 @@ pub trait Gate {
 }
 
 /// Holds no thread.
-#[derive(Clone, Copy, Debug)]
+#[derive(Clone, Copy)]
 pub struct OpenGate;
 
 impl Gate for OpenGate {

@@ -18,7 +18,7 @@ use std::thread::Threads;
 use trace_book::History;
 
 /// What a run gives.
-#[derive(Debug, Drop)]
+#[derive(Drop)]
 pub struct Outcome {
     /// The entries, in the order in which they were committed.
     pub history: History,

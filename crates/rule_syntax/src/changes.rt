@@ -20,7 +20,7 @@ use limits::MOST_BRACKETS;
 use std::alloc::Global;
 
 /// A change of the rule book or of the environment, as it is written.
-#[derive(Debug, Drop)]
+#[derive(Drop)]
 pub enum ReadChange {
     /// The rule is added.
     Add(Rule),

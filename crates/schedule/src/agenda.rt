@@ -14,7 +14,7 @@ use role_network::Net;
 use std::alloc::Global;
 
 /// A role with the acts that it can do now.
-#[derive(Debug, Drop)]
+#[derive(Drop)]
 pub struct ReadyRole {
     /// The role.
     pub role: Role,

@@ -16,7 +16,7 @@ use std::alloc::Global;
 use trace_book::History;
 
 /// What a session is answered.
-#[derive(Debug, Drop)]
+#[derive(Drop)]
 pub enum Answer {
     /// Its bundle was run: the history, and whether the network has ended. Where it hasn't, the
     /// history has as many entries as it may.

@@ -26,7 +26,7 @@ pub struct Order<'a> {
 }
 
 /// An answer with the number of its session.
-#[derive(Debug, Drop)]
+#[derive(Drop)]
 pub struct Numbered {
     pub number: u32,
     pub answer: Answer,

@@ -10,7 +10,7 @@ pub trait Watch {
 }
 
 /// A watch that does nothing.
-#[derive(Clone, Copy, Debug, PartialEq, Eq)]
+#[derive(Clone, Copy, PartialEq, Eq)]
 pub struct OpenWatch;
 
 impl Watch for OpenWatch {

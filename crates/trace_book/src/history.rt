@@ -13,7 +13,6 @@ use std::marker::Model;
 
 /// The entries so far, in their order. Contracts see their list, and how many more there is room
 /// for.
-#[derive(Debug)]
 pub struct History {
     entries: Vec<Entry>,
     visible_count: u64,

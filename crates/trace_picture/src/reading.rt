@@ -24,7 +24,7 @@ pub enum ReadFault {
 }
 
 /// Why a line is not read.
-#[derive(Clone, Copy, Debug, PartialEq, Eq)]
+#[derive(Clone, Copy, PartialEq, Eq)]
 enum LineFault {
     /// It says nothing of a trace.
     NoLine,

@@ -10,7 +10,7 @@ use std::alloc::{AllocError, AllocFailed};
 use thiserror::Error;
 
 /// A line of a trace.
-#[derive(Debug, Drop)]
+#[derive(Drop)]
 pub enum Line {
     /// The line of an entry.
     Entry(Entry),
@@ -31,7 +31,7 @@ pub enum TraceFault {
 }
 
 /// Why a part of a line is not read.
-#[derive(Clone, Copy, Debug, PartialEq, Eq)]
+#[derive(Clone, Copy, PartialEq, Eq)]
 pub enum LineFault {
     /// It doesn't stand there.
     NoLine,
@@ -40,7 +40,7 @@ pub enum LineFault {
 }
 
 /// What a line says that sets a variable.
-#[derive(Debug, Drop)]
+#[derive(Drop)]
 pub struct Setting {
     pub index: Index,
     pub role: Role,
@@ -49,7 +49,7 @@ pub struct Setting {
 }
 
 /// A word that begins a line and isn't reserved.
-#[derive(Clone, Copy, Debug, PartialEq, Eq)]
+#[derive(Clone, Copy, PartialEq, Eq)]
 pub enum LineWord {
     Put,
     Take,
