@@ -1,5 +1,5 @@
 -- The leader went on as the book says, with the parts of the plan.
-use Rattle.std.proofs.Common.{◌≡◌, ◌+◌, suc, ap₂, ◌∙◌, add-one}
+use Rattle.std.proofs.Common.{◌≡◌, ◌+◌, suc, ap₂, ◌∙◌, add-one, arith}
 use Rattle.dioc_terms.specs.Processes.{process, letters}
 use Rattle.dioc_terms.specs.Terms.{term}
 use Rattle.process_steps.specs.Steps.{FromBook}
@@ -18,3 +18,6 @@ returns-in-Ok-clause-steps g c = λ decide decided.
     (process parts.own) (letters parts.tell) led.1 (c.requires.tells led.0 led.1) led.2 decided
     (c.in-Ok.ensures.own ∙ ap₂ (λ cast n. part_of cast c.args.head n body c.args.head.leader) c.as_slice.ensures next)
     (c.in-Ok.ensures.tell ∙ ap₂ (λ cast n. begin_messages cast c.args.head n body) c.as_slice.ensures next))
+
+pub returns-in-Ok-clause-counted : goal.returns-in-Ok-clause-counted
+returns-in-Ok-clause-counted g c = omega arith
