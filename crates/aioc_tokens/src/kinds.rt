@@ -3,7 +3,7 @@
 use thiserror::Error;
 
 /// The kind of a token.
-#[derive(Clone, Copy, PartialEq, Eq)]
+#[derive(Clone, Copy)]
 pub enum Kind {
     /// A letter, and then letters, digits and `_`. A reserved word is a name here.
     Name,
@@ -16,7 +16,7 @@ pub enum Kind {
 }
 
 /// A token, the bytes from `start` up to `end` of its text.
-#[derive(Clone, Copy, PartialEq, Eq)]
+#[derive(Clone, Copy)]
 pub struct Token {
     pub kind: Kind,
     pub start: usize,

@@ -12,7 +12,7 @@ use wanted_tokens::{Goal, first_unwanted};
 
 /// Why a text is not read on: at a place of its tokens something else was wanted, or memory ran
 /// out.
-#[derive(Clone, Copy, PartialEq, Eq)]
+#[derive(Clone, Copy)]
 pub enum Stop {
     At(usize),
     Memory,

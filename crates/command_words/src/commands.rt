@@ -3,7 +3,7 @@
 use dioc_terms::Role;
 
 /// The commands by their names.
-#[derive(Clone, Copy, Debug, PartialEq, Eq)]
+#[derive(Clone, Copy, Debug)]
 pub enum Verb {
     /// `run`
     Run,
@@ -32,7 +32,7 @@ pub enum Verb {
 }
 
 /// The options of a command. One that the command doesn't have is as if it were left out.
-#[derive(Clone, Copy, Debug, PartialEq, Eq)]
+#[derive(Clone, Copy, Debug)]
 pub struct Options {
     /// `--seed`, where it is given.
     pub seed: Option<u64>,

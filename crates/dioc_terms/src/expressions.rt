@@ -10,7 +10,7 @@ use crate::values::Value;
 use std::alloc::Global;
 
 /// The operators that stand between two operands.
-#[derive(Clone, Copy, PartialEq, Eq)]
+#[derive(Clone, Copy)]
 pub enum Oper {
     /// `+`
     Add,

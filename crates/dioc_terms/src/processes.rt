@@ -2,6 +2,9 @@
 
 ghost use Rattle.std.specs.Prelude.{◌≡◌, true, IfOk};
 ghost use Rattle.dioc_terms.specs.Leaves.{is_follower, is_leaf_process};
+ghost use Rattle.dioc_terms.specs.Parts.{has_two, first_of, second_of, has_body, body_of};
+ghost use Rattle.dioc_terms.specs.Parts.{is_tell, messages_of, is_gather, keys_of};
+ghost use Rattle.dioc_terms.specs.Parts.{has_more, behind_first, value_of, is_part, part_of};
 ghost use Rattle.dioc_terms.specs.Processes.{process, letters, load, ScopeLead};
 
 use crate::copies::{copy_both, new_box};
@@ -200,7 +203,6 @@ impl Drop for ScopeHead {
 
 /// What a message carries.
 #[cycle(process)]
-#[derive(Drop)]
 pub enum Payload {
     /// The value of an operation.
     Val(Value),
@@ -214,9 +216,21 @@ pub enum Payload {
     Done,
 }
 
+impl Drop for Payload {
+    #[cycle(process)]
+    fn drop(self) {
+        match self {
+            Payload::Val(_) => {}
+            Payload::Flag(_) => {}
+            Payload::Keep => {}
+            Payload::Part { epoch: _, proc: _ } => {}
+            Payload::Done => {}
+        }
+    }
+}
+
 /// Messages that are still to be sent, in their order.
 #[cycle(process)]
-#[derive(Drop)]
 pub enum Messages {
     /// No message.
     Nothing,
@@ -224,9 +238,18 @@ pub enum Messages {
     More(Key, Box<Payload>, Box<Messages>),
 }
 
+impl Drop for Messages {
+    #[cycle(process)]
+    fn drop(self) {
+        match self {
+            Messages::Nothing => {}
+            Messages::More(_, _, _) => {}
+        }
+    }
+}
+
 /// The process of one role.
 #[cycle(process)]
-#[derive(Drop)]
 pub enum Proc {
     /// Nothing.
     Skip,
@@ -309,6 +332,71 @@ pub enum Proc {
     },
 }
 
+impl Drop for Proc {
+    #[cycle(process)]
+    fn drop(self) {
+        match self {
+            Proc::Skip => {}
+            Proc::Send {
+                index: _,
+                op: _,
+                to: _,
+                expr: _,
+            } => {}
+            Proc::Recv {
+                index: _,
+                op: _,
+                from: _,
+                var: _,
+            } => {}
+            Proc::Assign {
+                index: _,
+                var: _,
+                expr: _,
+            } => {}
+            Proc::Read { index: _, var: _ } => {}
+            Proc::Seq(_, _) => {}
+            Proc::Par(_, _) => {}
+            Proc::IfLead {
+                index: _,
+                guard: _,
+                others: _,
+                yes: _,
+                no: _,
+            } => {}
+            Proc::IfFollow {
+                index: _,
+                leader: _,
+                yes: _,
+                no: _,
+            } => {}
+            Proc::WhileLead {
+                index: _,
+                guard: _,
+                others: _,
+                body: _,
+            } => {}
+            Proc::WhileFollow {
+                index: _,
+                leader: _,
+                body: _,
+            } => {}
+            Proc::ScopeLead {
+                head: _,
+                others: _,
+                body: _,
+            } => {}
+            Proc::ScopeFollow {
+                index: _,
+                leader: _,
+                body: _,
+            } => {}
+            Proc::Tell { messages: _ } => {}
+            Proc::Gather { keys: _ } => {}
+        }
+    }
+}
+
 /// The parts of an update: the leader's own, and the messages with those of the others.
 #[derive(Drop)]
 pub struct Parts {
@@ -348,6 +436,30 @@ impl ScopeHead {
 }
 
 impl Payload {
+    /// The value of an operation, if it is one.
+    pub fn into_value(self) -> Option<Value>
+        ensures { result ≡ value_of (load self) }
+    {
+        match self {
+            Payload::Val(value) => Some(value),
+            Payload::Flag(_) => None,
+            Payload::Keep => None,
+            Payload::Part { epoch: _, proc: _ } => None,
+            Payload::Done => None,
+        }
+    }
+
+    /// The process of a part of an update.
+    pub fn into_part(self) -> Proc
+        requires { is_part (load self) ≡ true }
+        ensures { process result ≡ part_of (load self) }
+    {
+        match self {
+            Payload::Part { epoch: _, proc } => proc,
+            _ => unreachable!(),
+        }
+    }
+
     /// A copy, the same payload.
     #[cycle(copy_process)]
     pub fn copy(&self, alloc: Global) -> Result<Payload, Memory>
@@ -375,6 +487,17 @@ impl Payload {
 }
 
 impl Messages {
+    /// The messages behind the first.
+    pub fn into_rest(self) -> Box<Messages>
+        requires { has_more (letters self) ≡ true }
+        ensures { letters result.value ≡ behind_first (letters self) }
+    {
+        match self {
+            Messages::More(_, _, rest) => rest,
+            Messages::Nothing => unreachable!(),
+        }
+    }
+
     /// A copy, the same messages in the same order.
     #[cycle(copy_process)]
     pub fn copy(&self, alloc: Global) -> Result<Messages, Memory>
@@ -400,6 +523,85 @@ impl Messages {
 }
 
 impl Proc {
+    /// Both parts of a sequence or of a parallel, or both branches of a choice.
+    pub fn into_two(self) -> (Box<Proc>, Box<Proc>)
+        requires { has_two (process self) ≡ true }
+        ensures first { process result.0.value ≡ first_of (process self) }
+        ensures second { process result.1.value ≡ second_of (process self) }
+    {
+        match self {
+            Proc::Seq(first, second) => (first, second),
+            Proc::Par(left, right) => (left, right),
+            Proc::IfLead {
+                index: _,
+                guard: _,
+                others: _,
+                yes,
+                no,
+            } => (yes, no),
+            Proc::IfFollow {
+                index: _,
+                leader: _,
+                yes,
+                no,
+            } => (yes, no),
+            _ => unreachable!(),
+        }
+    }
+
+    /// The body of a loop or of a scope.
+    pub fn into_body(self) -> Box<Proc>
+        requires { has_body (process self) ≡ true }
+        ensures { process result.value ≡ body_of (process self) }
+    {
+        match self {
+            Proc::WhileLead {
+                index: _,
+                guard: _,
+                others: _,
+                body,
+            } => body,
+            Proc::WhileFollow {
+                index: _,
+                leader: _,
+                body,
+            } => body,
+            Proc::ScopeLead {
+                head: _,
+                others: _,
+                body,
+            } => body,
+            Proc::ScopeFollow {
+                index: _,
+                leader: _,
+                body,
+            } => body,
+            _ => unreachable!(),
+        }
+    }
+
+    /// The messages that a process is still to send, where that is all that it does.
+    pub fn into_messages(self) -> Messages
+        requires { is_tell (process self) ≡ true }
+        ensures { letters result ≡ messages_of (process self) }
+    {
+        match self {
+            Proc::Tell { messages } => messages,
+            _ => unreachable!(),
+        }
+    }
+
+    /// The keys whose messages a process is still to take, where that is all that it does.
+    pub fn into_keys(self) -> Keys
+        requires { is_gather (process self) ≡ true }
+        ensures { result ≡ keys_of (process self) }
+    {
+        match self {
+            Proc::Gather { keys } => keys,
+            _ => unreachable!(),
+        }
+    }
+
     /// A copy, the same process.
     #[cycle(copy_process)]
     pub fn copy(&self, alloc: Global) -> Result<Proc, Memory>

@@ -52,8 +52,9 @@ pub(crate) struct Entrance {
 pub(crate) fn replaced(me: &Role, act: &Act, proc: Proc, by: Change) -> Proc
     ensures { process result ≡ replaced me.now act.now (process proc) (part_change by) }
 {
-    match proc {
-        Proc::Seq(first, second) => {
+    match &proc {
+        Proc::Seq(_, _) => {
+            let (first, second) = proc.into_two();
             if is_ended(&first) {
                 return replaced(me, act, Box::into_inner(second), by);
             }
@@ -61,7 +62,8 @@ pub(crate) fn replaced(me: &Role, act: &Act, proc: Proc, by: Change) -> Proc
             let part = replaced(me, act, part, by);
             then(closed(hole, part), second)
         }
-        Proc::Par(left, right) => {
+        Proc::Par(_, _) => {
+            let (left, right) = proc.into_two();
             if find(me, act, &left).is_some() {
                 let (hole, part) = opened(left);
                 let part = replaced(me, act, part, by);
@@ -71,7 +73,7 @@ pub(crate) fn replaced(me: &Role, act: &Act, proc: Proc, by: Change) -> Proc
             let part = replaced(me, act, part, by);
             Proc::Par(left, closed(hole, part))
         }
-        part => changed(part, by),
+        _ => changed(proc, by),
     }
 }
 
@@ -132,11 +134,11 @@ pub(crate) fn closed(hole: Box<Proc>, proc: Proc) -> Box<Proc>
 fn rest_of(part: Proc) -> Proc
     ensures { process result ≡ rest_of (process part) }
 {
-    match part {
-        Proc::Tell { messages } => told(messages),
-        Proc::Gather { keys } => gathered(keys.into_vec()),
-        other => {
-            drop(other);
+    match &part {
+        Proc::Tell { .. } => told(part.into_messages()),
+        Proc::Gather { .. } => gathered(part.into_keys().into_vec()),
+        _ => {
+            drop(part);
             Proc::Skip
         }
     }
@@ -146,12 +148,12 @@ fn rest_of(part: Proc) -> Proc
 fn told(messages: Messages) -> Proc
     ensures { process result ≡ rest_of (Tell (letters messages)) }
 {
-    match messages {
-        Messages::Nothing => Proc::Skip,
-        Messages::More(key, payload, rest) => {
-            drop((key, payload));
-            telling(Box::into_inner(rest))
+    match &messages {
+        Messages::Nothing => {
+            drop(messages);
+            Proc::Skip
         }
+        Messages::More(_, _, _) => telling(Box::into_inner(messages.into_rest())),
     }
 }
 
@@ -159,9 +161,12 @@ fn told(messages: Messages) -> Proc
 pub(crate) fn telling(messages: Messages) -> Proc
     ensures { process result ≡ telling (letters messages) }
 {
-    match messages {
-        Messages::Nothing => Proc::Skip,
-        messages => Proc::Tell { messages },
+    match &messages {
+        Messages::Nothing => {
+            drop(messages);
+            Proc::Skip
+        }
+        Messages::More(_, _, _) => Proc::Tell { messages },
     }
 }
 
@@ -193,28 +198,13 @@ pub(crate) fn gathering(keys: Vec<Key>) -> Proc
 fn branched(first: Box<Proc>, flag: bool, part: Proc) -> Proc
     ensures { process result ≡ branched (process first.value) flag (process part) }
 {
-    match part {
-        Proc::IfLead {
-            guard,
-            others,
-            yes,
-            no,
-            ..
-        } => {
-            drop((guard, others));
+    match &part {
+        Proc::IfLead { .. } | Proc::IfFollow { .. } => {
+            let (yes, no) = part.into_two();
             branch(first, flag, yes, no)
         }
-        Proc::IfFollow {
-            leader,
-            yes,
-            no,
-            ..
-        } => {
-            drop(leader);
-            branch(first, flag, yes, no)
-        }
-        other => {
-            drop((first, other));
+        _ => {
+            drop((first, part));
             Proc::Skip
         }
     }
@@ -255,17 +245,12 @@ fn entered(entrance: Entrance, part: Proc) -> Proc
         body_entered (process entrance.first.value) (process entrance.last.value) (process part) }
 {
     let Entrance { first, last, inner } = entrance;
-    match part {
-        Proc::ScopeLead { head, others, body } => {
-            drop((head, others));
-            within(first, body, last, inner)
+    match &part {
+        Proc::ScopeLead { .. } | Proc::ScopeFollow { .. } => {
+            within(first, part.into_body(), last, inner)
         }
-        Proc::ScopeFollow { leader, body, .. } => {
-            drop(leader);
-            within(first, body, last, inner)
-        }
-        other => {
-            drop(((first, last), (inner, other)));
+        _ => {
+            drop(((first, last), (inner, part)));
             Proc::Skip
         }
     }

@@ -304,12 +304,16 @@ fn by_flag(first: Box<Proc>, got: Got) -> Change
 fn branch_of(first: Box<Proc>, payload: Payload) -> Change
     ensures { part_change result ≡ grown growths.ByFlag (Message (load payload)) }
 {
-    match payload {
-        Payload::Flag(flag) => Change::Branches {
-            first: closed(first, Proc::Skip),
-            flag,
-        },
-        other => nothing(first, other),
+    match &payload {
+        Payload::Flag(flag) => {
+            let flag = *flag;
+            drop(payload);
+            Change::Branches {
+                first: closed(first, Proc::Skip),
+                flag,
+            }
+        }
+        _ => nothing(first, payload),
     }
 }
 
@@ -328,9 +332,13 @@ fn turn_of(turn: Turn, payload: Payload) -> Change
         grown (growths.Looping (process turn.body.value) (process turn.last.value))
         (Message (load payload)) }
 {
-    match payload {
-        Payload::Flag(flag) => turn_for(turn, flag),
-        other => nothing(turn, other),
+    match &payload {
+        Payload::Flag(flag) => {
+            let flag = *flag;
+            drop(payload);
+            turn_for(turn, flag)
+        }
+        _ => nothing(turn, payload),
     }
 }
 
@@ -393,10 +401,10 @@ fn begun_by(at: Entrance, own: Box<Proc>, payload: Payload) -> Change
     ensures { part_change result ≡ grown (growths.Following (process at.last.value))
         (Message (load payload)) }
 {
-    match payload {
-        Payload::Part { proc, .. } => Change::Becomes(then(closed(own, proc), at.last)),
-        other => {
-            drop((own, other));
+    match &payload {
+        Payload::Part { .. } => Change::Becomes(then(closed(own, payload.into_part()), at.last)),
+        _ => {
+            drop((own, payload));
             kept(at)
         }
     }

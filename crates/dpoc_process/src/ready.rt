@@ -153,12 +153,9 @@ fn split_payload(payload: Payload) -> (Option<Value>, Got)
     ensures rest { (made : growths.Growth) →
         grown made (handed result.1) ≡ grown made (Message (load payload)) }
 {
-    match payload {
-        Payload::Val(value) => (Some(value), Got::Nothing),
-        Payload::Flag(flag) => (None, Got::Payload(Payload::Flag(flag))),
-        Payload::Keep => (None, Got::Payload(Payload::Keep)),
-        Payload::Part { epoch, proc } => (None, Got::Payload(Payload::Part { epoch, proc })),
-        Payload::Done => (None, Got::Payload(Payload::Done)),
+    match &payload {
+        Payload::Val(_) => (payload.into_value(), Got::Nothing),
+        _ => (None, Got::Payload(payload)),
     }
 }
 

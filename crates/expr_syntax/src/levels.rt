@@ -7,7 +7,7 @@ use aioc_tokens::{Punctuator, Sort, Word};
 use dioc_terms::Oper;
 
 /// Where an expression stands.
-#[derive(Clone, Copy, PartialEq, Eq)]
+#[derive(Clone, Copy)]
 pub enum ExprKind {
     /// In a step of a choreography: over the variables of the acting role alone.
     Step,

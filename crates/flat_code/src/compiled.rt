@@ -3,7 +3,7 @@
 ghost use Rattle.std.specs.Prelude.{◌≡◌, true, length, IfOk, OnErr};
 ghost use Rattle.dioc_terms.specs.Processes.{process};
 ghost use Rattle.flat_code.specs.Codes.{process_of};
-ghost use Rattle.flat_code.specs.Parts.{body_of, first_of, has_body, has_two, second_of};
+ghost use Rattle.dioc_terms.specs.Parts.{body_of, first_of, has_body, has_two, second_of};
 ghost use Rattle.flat_code.specs.Places.{AreBelow, Extends, IsProcessAt, are_placed, op_process, part_places, processes};
 
 use crate::code::Code;

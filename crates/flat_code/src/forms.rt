@@ -3,7 +3,8 @@
 ghost use Rattle.std.specs.Prelude.{◌≡◌, ◌∷◌, [], true, false, IfOk};
 ghost use Rattle.dioc_terms.specs.Expressions.{expression};
 ghost use Rattle.dioc_terms.specs.Processes.{Send, Recv, Assign, Read, IfLead, IfFollow, WhileLead, WhileFollow, ScopeLead, ScopeFollow, Tell, Gather, letters, process};
-ghost use Rattle.flat_code.specs.Parts.{has_body, has_two, with_body};
+ghost use Rattle.dioc_terms.specs.Parts.{has_body, has_two};
+ghost use Rattle.flat_code.specs.Parts.{with_body};
 ghost use Rattle.flat_code.specs.Places.{IsForm, at};
 
 use crate::ops::Op;

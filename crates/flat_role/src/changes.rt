@@ -158,12 +158,13 @@ fn told(messages: Box<Messages>) -> Frame
         frame_process done result ≡ rest_of (Tell (letters messages.value)) }
     ensures placed { (n : ℕ) → is_placed n result ≡ true }
 {
-    match Box::into_inner(messages) {
-        Messages::Nothing => Frame::Ended,
-        Messages::More(key, payload, rest) => {
-            drop((key, payload));
-            telling(rest)
+    let messages = Box::into_inner(messages);
+    match &messages {
+        Messages::Nothing => {
+            drop(messages);
+            Frame::Ended
         }
+        Messages::More(_, _, _) => telling(messages.into_rest()),
     }
 }
 

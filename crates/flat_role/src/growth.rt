@@ -4,7 +4,7 @@ ghost use Rattle.std.specs.Prelude.{◌≡◌, ◌<◌, ◌∷◌, [], ℕ, List
 ghost use Rattle.dioc_terms.specs.declared.processes.Tag.TheVariants as tags;
 ghost use Rattle.dioc_terms.specs.Processes.{Process, Seq, Done, Flag, Keep, Gather, load};
 ghost use Rattle.dpoc_process.specs.Growth.{follower_end, leader_end};
-ghost use Rattle.dpoc_process.specs.Handed.{handed};
+ghost use Rattle.dpoc_process.specs.Handed.{Message, handed};
 ghost use Rattle.flat_code.specs.Places.{at, processes};
 ghost use Rattle.flat_role.specs.Frames.{frame_process, is_placed};
 ghost use Rattle.flat_role.specs.declared.growth.Growth.TheVariants as growths;
@@ -441,7 +441,7 @@ fn by_flag(on_true: Frame, on_false: Frame, got: Got) -> Change
     ensures placed { (n : ℕ) → is_placed n on_true ≡ true → is_placed n on_false ≡ true →
         is_change_placed n result ≡ true }
 {
-    match got {
+    match &got {
         Got::Payload(Payload::Flag(true)) => {
             drop((on_false, got));
             Change::Becomes(on_true)
@@ -450,8 +450,8 @@ fn by_flag(on_true: Frame, on_false: Frame, got: Got) -> Change
             drop((on_true, got));
             Change::Becomes(on_false)
         }
-        other => {
-            drop(((on_true, on_false), other));
+        _ => {
+            drop(((on_true, on_false), got));
             Change::Becomes(Frame::Ended)
         }
     }
@@ -531,9 +531,25 @@ fn followed_part(got: Got, body: usize, part: Box<Proc>) -> Frame
     ensures placed { (n : ℕ) → body < n → is_placed n result ≡ true }
 {
     match got {
-        Got::Payload(Payload::Part { proc, .. }) => Frame::Arrived(filled(part, proc)),
+        Got::Payload(payload) => part_that_came(payload, body, part),
         other => {
             drop((other, part));
+            Frame::At(body)
+        }
+    }
+}
+
+#[tactic(auto, using(crate::proofs::FrameLemmas::at_placed))]
+fn part_that_came(payload: Payload, body: usize, part: Box<Proc>) -> Frame
+    ensures stands { (done : List Process) (last : Process) →
+        after (frame_process done result) last
+        ≡ grown_part (at done body) last (Message (load payload)) }
+    ensures placed { (n : ℕ) → body < n → is_placed n result ≡ true }
+{
+    match &payload {
+        Payload::Part { .. } => Frame::Arrived(filled(part, payload.into_part())),
+        _ => {
+            drop((payload, part));
             Frame::At(body)
         }
     }

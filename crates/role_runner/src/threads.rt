@@ -24,7 +24,7 @@ use std::{mem, thread};
 use turn_lock::Seat;
 
 /// How the roles of a stage came to their end.
-#[derive(Clone, Copy, PartialEq, Eq)]
+#[derive(Clone, Copy)]
 pub enum Ending {
     /// Each role's process has ended.
     Ended,

@@ -3,7 +3,7 @@
 use dioc_terms::{Index, Memory, Role};
 
 /// The text that a refusal is about: the choreography, or the body of a rule by its number.
-#[derive(Clone, Copy, Debug, PartialEq, Eq)]
+#[derive(Clone, Copy, Debug)]
 pub enum Where {
     /// The choreography, or the inputs beside it.
     Program,
@@ -12,7 +12,7 @@ pub enum Where {
 }
 
 /// What there is too much of.
-#[derive(Clone, Copy, Debug, PartialEq, Eq)]
+#[derive(Clone, Copy, Debug)]
 pub enum Which {
     /// Nodes of the choreography: more than 5,000.
     Nodes,

@@ -17,7 +17,7 @@ use role_network::Net;
 use std::mem;
 
 /// How a run finished: its network has ended, or its history is full.
-#[derive(Clone, Copy, PartialEq, Eq)]
+#[derive(Clone, Copy)]
 pub enum Finish {
     Ended,
     Limit,

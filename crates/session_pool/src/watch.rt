@@ -10,7 +10,7 @@ pub trait Watch {
 }
 
 /// A watch that does nothing.
-#[derive(Clone, Copy, PartialEq, Eq)]
+#[derive(Clone, Copy)]
 pub struct OpenWatch;
 
 impl Watch for OpenWatch {

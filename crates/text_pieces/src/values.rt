@@ -7,7 +7,7 @@ use crate::pieces::{write_bytes, write_number, write_quoted, write_truth};
 use dioc_terms::{Memory, Value};
 
 /// How the `-` of a negative number stands before its digits.
-#[derive(Clone, Copy, PartialEq, Eq)]
+#[derive(Clone, Copy)]
 pub enum Minus {
     /// Directly before them, as in a trace.
     Close,

@@ -21,7 +21,7 @@ use thiserror::Error;
 pub const MOST_ENTRIES: usize = 1_000_000;
 
 /// How a picture is written.
-#[derive(Clone, Copy, PartialEq, Eq)]
+#[derive(Clone, Copy)]
 pub enum Style {
     /// In letters, for a terminal.
     Terminal,

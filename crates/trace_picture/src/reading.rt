@@ -24,7 +24,7 @@ pub enum ReadFault {
 }
 
 /// Why a line is not read.
-#[derive(Clone, Copy, PartialEq, Eq)]
+#[derive(Clone, Copy)]
 enum LineFault {
     /// It says nothing of a trace.
     NoLine,

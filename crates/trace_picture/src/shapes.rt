@@ -7,7 +7,7 @@ use crate::lanes::lane_of;
 use dioc_terms::{Chosen, Entry, Role};
 
 /// A sign on a lane.
-#[derive(Clone, Copy, PartialEq, Eq)]
+#[derive(Clone, Copy)]
 pub enum Sign {
     /// A message was taken.
     Take,
@@ -26,7 +26,7 @@ pub enum Sign {
 }
 
 /// What shows an entry.
-#[derive(Clone, Copy, PartialEq, Eq)]
+#[derive(Clone, Copy)]
 pub enum Shape {
     /// An arrow between two lanes.
     Arrow { from: usize, to: usize },

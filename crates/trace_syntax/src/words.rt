@@ -31,7 +31,7 @@ pub enum TraceFault {
 }
 
 /// Why a part of a line is not read.
-#[derive(Clone, Copy, PartialEq, Eq)]
+#[derive(Clone, Copy)]
 pub enum LineFault {
     /// It doesn't stand there.
     NoLine,
@@ -49,7 +49,7 @@ pub struct Setting {
 }
 
 /// A word that begins a line and isn't reserved.
-#[derive(Clone, Copy, PartialEq, Eq)]
+#[derive(Clone, Copy)]
 pub enum LineWord {
     Put,
     Take,
