@@ -2,8 +2,7 @@
 has threads."""
 import re
 
-TABLE = "crates/service_cases/stdout"
-TABLES = (TABLE, "crates/aioc_cases/stdout")
+TABLE = "crates/aioc_cases/stdout"
 
 # The commands that have threads.
 THREADED = ("run", "sessions")
@@ -73,13 +72,10 @@ def read_rows():
 
 
 def check_input():
-    """A table without its answers is what its program of cases reads."""
-    problems = []
-    for table in TABLES:
-        given = table.replace("stdout", "stdin")
-        asked = "".join(f"{it}\n" for it in lines_of(read(table)) if not it.startswith("  "))
-        problems += [] if asked == read(given) else [f"{given}: it isn't {table} without its answers"]
-    return problems
+    """The table without its answers is what the program of cases reads."""
+    given = TABLE.replace("stdout", "stdin")
+    asked = "".join(f"{it}\n" for it in lines_of(read(TABLE)) if not it.startswith("  "))
+    return [] if asked == read(given) else [f"{given}: it isn't {TABLE} without its answers"]
 
 
 def find(rows, words, text):
