@@ -1,4 +1,5 @@
 pub mod ActingLemmas
 pub mod LeafLemmas
+pub mod Sizes
 pub mod Splits
 pub mod StateLemmas
