@@ -2,7 +2,8 @@
 has threads."""
 import re
 
-TABLE = "crates/aioc_cases/stdout"
+TABLE = "crates/service_cases/stdout"
+TABLES = (TABLE, "crates/aioc_cases/stdout")
 
 # The commands that have threads.
 THREADED = ("run", "sessions")
@@ -72,10 +73,13 @@ def read_rows():
 
 
 def check_input():
-    """The table without its answers is what the program of cases reads."""
-    given = TABLE.replace("stdout", "stdin")
-    asked = "".join(f"{it}\n" for it in lines_of(read(TABLE)) if not it.startswith("  "))
-    return [] if asked == read(given) else [f"{given}: it isn't {TABLE} without its answers"]
+    """A table without its answers is what its program of cases reads."""
+    problems = []
+    for table in TABLES:
+        given = table.replace("stdout", "stdin")
+        asked = "".join(f"{it}\n" for it in lines_of(read(table)) if not it.startswith("  "))
+        problems += [] if asked == read(given) else [f"{given}: it isn't {table} without its answers"]
+    return problems
 
 
 def find(rows, words, text):

@@ -8,14 +8,10 @@ mod expressions;
 mod indices;
 mod lexemes;
 mod links;
-mod projections;
 mod refusals;
 mod rules;
-mod services;
 mod sizes;
 mod spellings;
-mod sweeps;
-mod threads;
 mod tokenizing;
 mod traces;
 mod values;
@@ -23,48 +19,33 @@ mod words;
 
 use case_tables::{Case, Problem};
 use std::alloc::Global;
-use std::sync::Wait;
-use std::thread::Threads;
 
 /// The lines that answer a case.
-pub fn answer<R: Threads + Wait + Sync>(
-    rt: &R,
-    alloc: Global,
-    case: &Case,
-) -> Result<Vec<u8>, Problem> {
+pub fn answer(alloc: Global, case: &Case) -> Result<Vec<u8>, Problem> {
     let mut out = Vec::new(alloc);
-    answer_into(rt, alloc, case, &mut out)?;
-    Ok(out)
+    match write_answer(alloc, case, &mut out) {
+        Ok(()) => Ok(out),
+        Err(problem) => {
+            drop(out);
+            Err(problem)
+        }
+    }
 }
 
-// Appends the lines that answer a case.
-fn answer_into<R: Threads + Wait + Sync>(
-    rt: &R,
-    alloc: Global,
-    case: &Case,
-    out: &mut Vec<u8>,
-) -> Result<(), Problem> {
-    if let Some(answered) = answer_library(alloc, case, out) {
+fn write_answer(alloc: Global, case: &Case, out: &mut Vec<u8>) -> Result<(), Problem> {
+    if let Some(answered) = answer_piece(alloc, case, out) {
         return answered;
     }
-    match answer_command(rt, alloc, case, out) {
+    if let Some(answered) = answer_choreography(alloc, case, out) {
+        return answered;
+    }
+    if let Some(answered) = answer_message(alloc, case, out) {
+        return answered;
+    }
+    match answer_whole(alloc, case, out) {
         Some(answered) => answered,
         None => Err(Problem::Bad("there is no such call")),
     }
-}
-
-// Answers a call that is about a library below the top call, if it is one.
-fn answer_library(alloc: Global, case: &Case, out: &mut Vec<u8>) -> Option<Result<(), Problem>> {
-    if let Some(answered) = answer_piece(alloc, case, out) {
-        return Some(answered);
-    }
-    if let Some(answered) = answer_choreography(alloc, case, out) {
-        return Some(answered);
-    }
-    if let Some(answered) = answer_message(alloc, case, out) {
-        return Some(answered);
-    }
-    answer_whole(alloc, case, out)
 }
 
 // Answers a call that is about names, tokens or expressions, if it is one.
@@ -93,7 +74,6 @@ fn answer_choreography(
         b"indices" => indices::answer(alloc, case, out),
         b"roles" => casts::answer(alloc, case, out),
         b"check" => links::answer(alloc, case, out),
-        b"project" => projections::answer(alloc, case, out),
         _ => return None,
     })
 }
@@ -119,52 +99,6 @@ fn answer_whole(alloc: Global, case: &Case, out: &mut Vec<u8>) -> Option<Result<
         b"read_sessions" => bundles::answer_sessions(alloc, case, out),
         b"accept" => refusals::answer(alloc, case, out),
         b"read_words" => words::answer(alloc, case, out),
-        _ => return None,
-    })
-}
-
-// Answers a call that is about the top call, if it is one.
-fn answer_command<R: Threads + Wait + Sync>(
-    rt: &R,
-    alloc: Global,
-    case: &Case,
-    out: &mut Vec<u8>,
-) -> Option<Result<(), Problem>> {
-    if let Some(answered) = answer_once(rt, alloc, case, out) {
-        return Some(answered);
-    }
-    answer_each(rt, alloc, case, out)
-}
-
-// Answers a call that makes the top call once, if it is one.
-fn answer_once<R: Threads + Wait + Sync>(
-    rt: &R,
-    alloc: Global,
-    case: &Case,
-    out: &mut Vec<u8>,
-) -> Option<Result<(), Problem>> {
-    Some(match case.call.as_slice() {
-        b"serve" => services::answer_threaded(rt, alloc, case, out),
-        b"serve_alone" => services::answer(alloc, case, out),
-        b"serve_over" => services::answer_over(alloc, case, out),
-        b"serve_endless" => services::answer_endless(alloc, case, out),
-        _ => return None,
-    })
-}
-
-// Answers a call that makes the top call again and again, if it is one.
-fn answer_each<R: Threads + Wait + Sync>(
-    rt: &R,
-    alloc: Global,
-    case: &Case,
-    out: &mut Vec<u8>,
-) -> Option<Result<(), Problem>> {
-    Some(match case.call.as_slice() {
-        b"each_read" => sweeps::answer_reads(alloc, case, out),
-        b"each_write" => sweeps::answer_writes(alloc, case, out),
-        b"each_front" => sweeps::answer_fronts(alloc, case, out),
-        b"each_run" => threads::answer_runs(rt, alloc, case, out),
-        b"each_workers" => threads::answer_workers(rt, alloc, case, out),
         _ => return None,
     })
 }

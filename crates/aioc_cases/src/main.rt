@@ -1,9 +1,7 @@
-//! The program of cases: what the libraries answer to texts, and what the top call does.
+//! The program of cases about texts: what the libraries answer to them.
 #![tactic(auto)]
 
 mod calls;
-mod devices;
-mod endless;
 
 use aioc_io::{StdSink, StdSource};
 use case_tables::{Case, answer_lines, answer_source};
@@ -14,7 +12,7 @@ use std::process::ExitCode;
 fn main(rt: HostRuntime) -> io::Result<ExitCode> {
     let mut source = StdSource::new(rt.stdin());
     let mut out = StdSink::new(rt.stdout());
-    let answer = |alloc: Global, case: &Case| answer_lines(alloc, calls::answer(&rt, alloc, case));
+    let answer = |alloc: Global, case: &Case| answer_lines(alloc, calls::answer(alloc, case));
     match answer_source(rt.alloc(), &answer, &mut source, &mut out) {
         Ok(()) => Ok(ExitCode::from(0)),
         Err(why) => {
