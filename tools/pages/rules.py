@@ -1,7 +1,7 @@
 """Whether the index of rules names definitions, functions and cases that there are.
 
-A row of docs/RULES.md has a rule, its definitions, its functions and a case. A definition or a function is a link to its file, and
-the text of the link is its name. A case is a line of a table of cases, or the beginning of one where it ends with ` ..`.
+A row of docs/RULES.md has a rule, its definitions, its functions and a case. A definition or a function is a link to its file,
+and the text of the link is its name. A case is a line of a table of cases, or the beginning of one where it ends with `..`.
 """
 import os
 import re
@@ -57,18 +57,26 @@ def case_problem(cell, cases):
     return None if count == 1 else f"the case stands {count} times in the tables: {case}"
 
 
+def rows():
+    """The rows of the index, with where they stand."""
+    for number, line in enumerate(read(PAGE).split("\n"), 1):
+        if line.startswith("| ") and line != HEAD:
+            yield f"{PAGE}, line {number}", cells(line)
+
+
+def count_of_rules():
+    return len(list(rows()))
+
+
+def row_problems(row, cases):
+    if len(row) != 4:
+        return [f"a row of {len(row)} cells"]
+    wrong = case_problem(row[3], cases)
+    return [*missing_items(row[1], "specs"), *missing_items(row[2], "src"), *([wrong] if wrong else [])]
+
+
 def check_rules():
     cases = [line for table in TABLES for line in read(table.replace("stdout", "stdin")).split("\n")]
-    problems, rows = [], 0
-    for number, line in enumerate(read(PAGE).split("\n"), 1):
-        if not line.startswith("| ") or line == HEAD:
-            continue
-        row, where = cells(line), f"{PAGE}, line {number}"
-        if len(row) != 4:
-            problems.append(f"{where}: a row of {len(row)} cells")
-            continue
-        rows += 1
-        problems += [f"{where}: {it}" for it in [*missing_items(row[1], "specs"), *missing_items(row[2], "src")]]
-        wrong = case_problem(row[3], cases)
-        problems += [f"{where}: {wrong}"] if wrong else []
-    return problems if rows else [f"{PAGE}: no rules"]
+    if not count_of_rules():
+        return [f"{PAGE}: no rules"]
+    return [f"{where}: {it}" for where, row in rows() for it in row_problems(row, cases)]
