@@ -18,7 +18,7 @@ WORDS = (
     (r"\bkept as\b", "represented as"),
 )
 MONTHS = "January|February|March|April|May|June|July|August|September|October|November|December"
-DATE = re.compile(rf"\b(?:[0-9]{{1,2}} )?(?:{MONTHS}),? (?:[0-9]{{1,2}},? )?20[0-9]{{2}}\b|\b20[0-9]{{2}}-[0-9]{{2}}-[0-9]{{2}}\b")
+DATE = re.compile(rf"\b(?:[0-9]{{1,2}} )?(?:{MONTHS}),? (?:[0-9]{{1,2}},? )?20[0-9]{{2}}\b|\b20[0-9]{{2}}(?:-[0-9]{{2}}){{2}}\b")
 FIGURE = re.compile(r"\b[0-9][0-9.,]* (?:processor[- ])?(?:milliseconds?|seconds?|minutes?|hours?)\b")
 
 
