@@ -2,6 +2,7 @@
 import contextlib
 import os
 import shlex
+import signal
 import subprocess
 import tempfile
 import threading
@@ -75,14 +76,21 @@ class Call:
         self.code, self.out, self.err = None, b"", b""
 
     def run(self):
-        piped = {"input": self.text, "stdout": subprocess.PIPE, "stderr": subprocess.PIPE}
+        piped = {"stdin": subprocess.PIPE, "stdout": subprocess.PIPE, "stderr": subprocess.PIPE}
         try:
-            ended = subprocess.run(self.words, timeout=PATIENCE, check=False, **piped)
-        except subprocess.TimeoutExpired as error:
-            raise self.failed(f"it hasn't ended after {PATIENCE} seconds") from error
+            # (a session of its own, so that what a script began ends with it)
+            begun = subprocess.Popen(self.words, start_new_session=True, **piped)
         except OSError as error:
             raise self.failed(f"it can't be run: {error.strerror}") from error
-        self.code, self.out, self.err = ended.returncode, ended.stdout, ended.stderr
+        try:
+            self.out, self.err = begun.communicate(self.text, PATIENCE)
+        except subprocess.TimeoutExpired as error:
+            raise self.failed(f"it hasn't ended after {PATIENCE} seconds") from error
+        finally:
+            if begun.poll() is None:
+                os.killpg(begun.pid, signal.SIGKILL)
+                begun.communicate()
+        self.code = begun.returncode
         return self
 
     def command(self):

@@ -2,10 +2,9 @@
 
 `run` isn't among the commands here: where the memory of a thread is refused, a role that waits for another may wait for ever.
 """
-from testing.runner import Failed
-
-# The limit in KiB that is surely enough, how near the least limit is found, and how many limits are tried.
-ENOUGH, NEAR, LIMITS = 4 * 1024 * 1024, 16, 24
+# Limits in KiB: what is surely enough, how near the least one is found, and what a process may need more at another time; and how
+# many limits are tried.
+ENOUGH, NEAR, SPARE, LIMITS = 4 * 1024 * 1024, 16, 64, 24
 LIMITED = 'limit=$1; shift; ulimit -v "$limit" && exec "$@"'
 REFUSED = ["out of memory"]
 
@@ -43,11 +42,10 @@ def judge(programs, words, text):
     whole = programs.call(words, text)
     if whole.code not in (0, 8, 9):
         raise whole.failed(f"it ended with {whole.code}")
-    low, high = least(programs, ["step"], SMALL, 0), least(programs, words, text, whole.code)
-    if high <= low:
-        raise Failed(f"{' '.join(words)} needs no more memory than a small bundle: this shows nothing")
-    for number in range(LIMITS + 1):
-        limit = low + (high - low) * number // LIMITS
+    # (the least is found once; a little more bears what differs between two beginnings of a process)
+    low = least(programs, ["step"], SMALL, 0) + SPARE
+    high = max(low, least(programs, words, text, whole.code))
+    for limit in sorted({low + (high - low) * number // LIMITS for number in range(LIMITS + 1)}):
         ended = limited(programs, limit, words, text)
         if ended.code == 10:
             ended.expect(10, b"", REFUSED)
