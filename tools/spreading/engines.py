@@ -57,7 +57,7 @@ class Xargs:
 
     def __init__(self, workers):
         need("xargs", "findutils")
-        self.words = ["xargs", "-n", "1", "-P", str(workers), "sh", "./run", str(TRIES)]
+        self.words = ["xargs", "-r", "-n", "1", "-P", str(workers), "sh", "./run", str(TRIES)]
 
 
 class Running:
