@@ -39,7 +39,7 @@ class Parallel:
         need_parallel()
         self.words = ["parallel", "--plain", "--keep-order", "--retries", str(TRIES)]
         self.words += ["--jobs", str(workers)] if workers else []
-        self.words += ["--joblog", f"+{joblog}"] if joblog else []
+        self.words += ["--joblog", f"+{joblog}" if os.path.exists(joblog) else joblog] if joblog else []
         self.words += ["--bar", "--total-jobs", str(whole)] if whole is not None else []
         if hosts:
             need("rsync", "rsync")
@@ -47,7 +47,8 @@ class Parallel:
             self.words += ["--sshloginfile", hosts, "--workdir", f".spread-sessions-{os.getpid()}"]
             self.words += ["--transferfile", "{}", "--return", "{}.answer", "--cleanup"]
             self.words += [word for name in ("run", *copied) for word in ("--basefile", name)]
-        self.words.append("sh ./run 1 {}")
+        # (this machine beside others begins in a folder of that name too, inside the one of the pieces)
+        self.words.append(f"{'[ -e run ] || cd ..; ' if hosts else ''}sh ./run 1 {{}}")
 
 
 class Xargs:

@@ -36,9 +36,7 @@ class Room:
         with open(f"{HERE}/run-piece", encoding="utf-8") as it:
             script = it.read()
         program = " ".join(map(shlex.quote, words))
-        lines = [line.replace("FOLDER", shlex.quote(self.path)) if "cd FOLDER" in line else
-                 program + line[len("PROGRAM"):] if line.startswith("PROGRAM ") else line
-                 for line in script.splitlines(keepends=True)]
+        lines = [program + line[len("PROGRAM"):] if line.startswith("PROGRAM ") else line for line in script.splitlines(keepends=True)]
         self.write("run", "".join(lines).encode("utf-8", "surrogateescape"))
 
     def agree(self, options):
