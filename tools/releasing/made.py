@@ -9,6 +9,8 @@ import shutil
 import subprocess
 import sys
 
+from repository import read_crates, with_those_below
+
 # Each program of the release, with its crate.
 PROGRAMS = {"aioc": "aioc_main", "aioc-diagram": "aioc_diagram"}
 FOLDER = "release"
@@ -65,29 +67,24 @@ def sum_of(data):
 
 # ---- the sources
 
-def lines_of_crates():
-    """The line of each crate in crates.txt, and the crates that it uses."""
-    lines, uses = {}, {}
-    for line in read("crates.txt").decode().splitlines():
-        head, colon, used = line.partition("#")[0].partition(":")
-        if colon:
-            lines[head.split()[0]], uses[head.split()[0]] = line, used.split()
-    return lines, uses
-
-
 def sum_of_sources(crate):
-    """The sum of all that the kit reads for a program: its crate and those below it."""
-    lines, uses = lines_of_crates()
-    below, told = [crate], [sum_of(read("HANDLES"))]
+    """The sum of all that the kit reads for a program: its crate and those below it. Proofs count too: the kit doesn't say
+    that none of them can change a byte of the program."""
+    below = sorted(with_those_below([crate], read_crates()))
+    told = [sum_of(read("HANDLES"))]
+    told += [line for line in read("crates.txt").decode().splitlines() if named_in(line) in below]
     for name in below:
-        below += [it for it in uses[name] if it in uses and it not in below]
-    for name in sorted(below):
-        told.append(lines[name])
         for part in PARTS:
             for at, folders, files in os.walk(f"crates/{name}/{part}"):
                 folders.sort()
                 told += [f"{sum_of(read(f'{at}/{file}'))} {at}/{file}" for file in sorted(files) if is_source(part, file)]
     return sum_of("\n".join(told).encode())
+
+
+def named_in(line):
+    """The crate that a line of crates.txt is about, if it is about one."""
+    head, colon, _ = line.partition("#")[0].partition(":")
+    return head.split()[0] if colon else None
 
 
 def is_source(part, file):

@@ -1,12 +1,14 @@
 """What the examples and the pages show, said by the program itself.
 
-tools/pages/shown.py reads the pages; tools/check-pages says which pages these are, and compares them with the table of cases.
+tools/pages/shown.py reads the pages, and tools/pages/named.py says which pages these are; tools/check-pages compares them with the
+table of cases.
 """
-import runpy
-
+from pages.named import pages
 from pages.shown import Shown, blocks_of_manual, blocks_of_markdown, check_examples, check_page
 from pages.table import read
 from testing.runner import Failed, Test
+
+MANUAL = "docs/aioc.1"
 
 
 class Ran(Shown):
@@ -48,9 +50,7 @@ def of_page(programs, page, blocks):
 
 
 def tests(programs):
-    checked = runpy.run_path("tools/check-pages")
     yield Test("examples", lambda: of_examples(programs), 50)
-    for page in checked["PAGES"]:
+    for page in pages():
         yield Test(page, lambda page=page: of_page(programs, page, blocks_of_markdown(read(page))), 50)
-    manual = checked["MANUAL"]
-    yield Test(manual, lambda: of_page(programs, manual, blocks_of_manual(read(manual))), 50)
+    yield Test(MANUAL, lambda: of_page(programs, MANUAL, blocks_of_manual(read(MANUAL))), 50)
