@@ -17,7 +17,7 @@ from pages.table import read
 from pages.words import table_of_commands
 
 # What is made while the program is built, released or proved; and folders of other places.
-MADE = ("out", "release", "/tmp", "~/", "https:", "http:")
+MADE = re.compile(r"(?:release|/tmp|~|https?:)(?:/|$)|(?:.*/)?out(?:/|$)")
 # Identifiers of other tools and of the system, and names that a page makes up.
 FOREIGN = {"may_wait", "tests_may", "LD_PRELOAD", "RLIMIT_STACK", "CamelCase"}
 # Names of the language's texts that begin like identifiers: added messages, and those of bundles on the pages.
@@ -72,7 +72,7 @@ def known_paths():
 
 def is_path(text):
     path = text.rstrip("/").removeprefix("./")
-    if not path or text.startswith(MADE) or path in known_paths():
+    if not path or MADE.match(text) or path in known_paths():
         return True
     open_parts = re.sub(r"[A-Z]{2,}(?:_[A-Z]+)*", "*", path)
     if "*" not in open_parts:

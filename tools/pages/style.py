@@ -8,6 +8,7 @@ import re
 from pages.named import pages, text_lines
 from pages.table import read
 
+MANUAL = "docs/aioc.1"
 # What a page doesn't say, and what it says instead.
 WORDS = (
     (r"\b(?:let|lets|letting|lets?) go of\b|\bletting[- ]go\b|\blet go\b", "drop"),
@@ -39,5 +40,5 @@ def line_problems(line):
 
 
 def check_style():
-    return [f"{page}, line {number}: {it}" for page in pages() for number, line in text_lines(read(page))
+    return [f"{page}, line {number}: {it}" for page in [*pages(), MANUAL] for number, line in text_lines(read(page))
             for it in line_problems(bare(line))]
