@@ -18,13 +18,12 @@ class Copy:
 
     def __init__(self, programs, folder):
         self.programs, self.top = programs, f"{folder}/top"
-        for each in ("tools", "release", "crates"):
+        for each in ("release", "crates"):
             os.makedirs(f"{self.top}/{each}")
-        for file in ("aioc", "aioc-diagram", "test", "VERSION", "crates.txt", "tools/start", "tools/try", "tools/install"):
+        for each in ("tools", "completions"):
+            shutil.copytree(each, f"{self.top}/{each}")
+        for file in ("aioc", "aioc-diagram", "test", "VERSION", "crates.txt"):
             shutil.copy(file, f"{self.top}/{file}")
-        shutil.copytree("tools/testing", f"{self.top}/tools/testing")
-        shutil.copytree("tools/pages", f"{self.top}/tools/pages")
-        shutil.copytree("completions", f"{self.top}/completions")
         os.mkdir(f"{self.top}/docs")
         shutil.copy("docs/aioc.1", f"{self.top}/docs/aioc.1")
         for name, program in zip(NAMES, (programs.aioc, programs.diagram)):
