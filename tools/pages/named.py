@@ -1,6 +1,7 @@
 """Whether the pages name files, items and words of commands that there are.
 
-A link is to lead to a file, and to a heading where it has a `#`. Text between backticks is looked at where it is
+A link is to lead to a file, to a heading where it has a `#`, and from an item to a source that has it. Text between backticks is
+looked at where it is
 - a path: it is the end of the path of a file or a folder. Words in capitals, as NAME, stand for any name;
 - an identifier with an underscore, with `::`, or of several words in CamelCase: its words stand in the sources, and behind the
   name of a crate in those of that crate;
@@ -89,17 +90,18 @@ def anchors(page):
 
 
 def link_problems(page, line):
-    bare = re.sub(r"(`+)(.+?)\1(?!`)", "", line)
-    for target in re.findall(r"\]\(([^)\s]+)\)", bare):
+    for shown, target in re.findall(r"\[([^\]]*)\]\(([^)\s]+)\)", line):
         if re.match(r"\w+:", target):
             continue
         file, _, heading = target.partition("#")
-        path = os.path.normpath(f"{os.path.dirname(page)}/{file}") if file else page
-        path = path.lstrip("/")
+        path = os.path.normpath(os.path.join(os.path.dirname(page), file)) if file else page
+        item = re.fullmatch(r"`(\w+)`", shown)
         if not os.path.exists(path):
             yield f"the link to {target} leads to no file"
         elif heading and path.endswith(".md") and heading not in anchors(path):
             yield f"{path} has no heading for the link to {target}"
+        elif item and path.endswith((".antt", ".rt")) and not re.search(rf"\b{item[1]}\b", read(path)):
+            yield f"{path} has no `{item[1]}`"
 
 
 # ---- items

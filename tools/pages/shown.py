@@ -28,6 +28,12 @@ class Shown:
         elif row.said(sink) != lines or row.said("err" if sink == "out" else "out"):
             self.problems.append(f"{where}: the case of `{' '.join(words)}` has other lines")
 
+    def join(self, other):
+        """Adds what another one saw."""
+        self.count += other.count
+        self.problems += other.problems
+        self.missing += other.missing
+
     def print_missing(self):
         for words, text, lines in self.missing:
             print_row(words, text, lines)
