@@ -1,4 +1,4 @@
-"""The scripts around the programs: ./aioc and ./aioc-diagram, what they run and what they refuse, tools/install and ./test itself."""
+"""The scripts around the programs: what ./aioc and ./aioc-diagram run and what they refuse, tools/install, and ./test itself."""
 import hashlib
 import os
 import shutil
