@@ -1,9 +1,9 @@
 -- What a call did, from what its parts did.
 use Rattle.std.proofs.Common.{◌≡◌, false, true≢false, Some, refl, sym, ap, ◌∙◌, subst}
-use Rattle.aioc_io.specs.Sink.{SinkState}
+use Rattle.aioc_io.specs.Sink.{SaysLine, SinkState}
 use Rattle.aioc_io.specs.Source.{SourceState}
 use Rattle.command_words.specs.declared.commands.Command.{Command}
-use Rattle.aioc_top.specs.Calls.{Call, Judges, Happens, SaysLine, PrintsReply}
+use Rattle.aioc_top.specs.Calls.{Call, Judges, Happens, PrintsReply}
 use Rattle.aioc_top.specs.Faults.{ReadSo, Stops, line_of, status_of}
 use Rattle.aioc_top.specs.Replies.{Reply}
 use Rattle.aioc_top.specs.Serve.{has_printed}

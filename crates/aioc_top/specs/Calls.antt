@@ -1,8 +1,8 @@
 -- What a call does with its source and its sinks, status by status.
-use Rattle.std.specs.Prelude.{◌≡◌, ◌⊎◌, ℕ, List, Option, Some, None, IfSome}
+use Rattle.std.specs.Prelude.{◌≡◌, ℕ, List, Option, Some, None, IfSome}
 use Rattle.std.specs.Io.KnownBytes.{Appends, IsAtEnd}
 use Rattle.aioc_io.specs.Faults.{Rose}
-use Rattle.aioc_io.specs.Sink.{SinkState, TakesPart}
+use Rattle.aioc_io.specs.Sink.{SaysLine, SinkState, TakesPart}
 use Rattle.aioc_io.specs.Source.{SourceState}
 use Rattle.command_words.specs.declared.commands.Command.{Command}
 use Rattle.aioc_top.specs.Messages.{usage_line, read_fault_line, write_fault_line, too_long_line, memory_line, syntax_line, refusal_line}
@@ -24,12 +24,6 @@ pub record Call : Type 0 where
 -- the bytes were read: the source's own, where it tells them
 abbrev pub IsRead : SourceState → List ℕ → Type 0
 IsRead source bytes = IfSome source.left (λ told. told ≡ bytes)
-
--- a sink took the line, or its count of faults rose and it took a part of it
-abbrev pub SaysLine : SinkState → SinkState → List ℕ → Type 0
-SaysLine err err_after line =
-    Appends err.taken err_after.taken line
-    ⊎ (Rose err.faults err_after.faults × TakesPart err.taken err_after.taken line)
 
 -- a text that is too long isn't read to its end
 abbrev pub ReadsTo : Verdict → SourceState → Type 0

@@ -2,7 +2,7 @@
 use Rattle.std.specs.Prelude.{◌≡◌, ◌⊎◌, ◌↔◌, ◌≤◌, ◌<◌, ℕ, List, length, Bool, true, false, Option, Some, None, IfSome, All}
 use Rattle.std.specs.Io.KnownBytes.{Appends, IsAtEnd}
 use Rattle.aioc_io.specs.Faults.{Rose}
-use Rattle.aioc_io.specs.Sink.{SinkState, TakesPart}
+use Rattle.aioc_io.specs.Sink.{SaysLine, SinkState, TakesPart}
 use Rattle.aioc_io.specs.Source.{SourceState}
 use Rattle.dioc_terms.specs.declared.names.Role.{Role}
 use Rattle.dioc_terms.specs.declared.entries.Entry.{Entry}
@@ -28,7 +28,7 @@ use Rattle.command_words.specs.declared.commands.Verb.TheVariants.{Gen}
 use Rattle.load_gen.specs.Made.{made}
 use Rattle.command_words.specs.declared.commands.Command.{Command}
 use Rattle.command_words.specs.declared.commands.Command.TheVariants as command
-use Rattle.aioc_top.specs.Calls.{IsRead, ReadsNothing, SaysLine}
+use Rattle.aioc_top.specs.Calls.{IsRead, ReadsNothing}
 use Rattle.aioc_top.specs.Judging.{is_cut_short}
 use Rattle.aioc_top.specs.Messages.{usage_line, read_fault_line, write_fault_line, too_long_line, memory_line, syntax_line, refusal_line}
 use Rattle.aioc_top.specs.Reasons.{Reason}

@@ -2,6 +2,7 @@
 
 ghost use Rattle.std.specs.Prelude.{◌≡◌, Some, false};
 ghost use Rattle.aioc_io.specs.Faults.{Rose};
+ghost use Rattle.aioc_io.specs.Sink.{SaysLine};
 ghost use Rattle.bundle_mend.specs.Laws.{MendedAccepted};
 ghost use Rattle.bundle_text.specs.Laws.{OneBundle, SpelledIsFormed, WrittenIsSpelled};
 ghost use Rattle.net_core.specs.Headline.{EveryRun};
@@ -11,7 +12,7 @@ ghost use Rattle.net_core.specs.Laws.{AcceptedIsSound, RunsAreSound, SchedulesRe
 ghost use Rattle.net_drive.specs.Laws.{DrivenExactly, DrivenRuns};
 ghost use Rattle.net_drive.specs.Strays.{DriveStraysAreExact};
 ghost use Rattle.net_drive.specs.ResumedLaws.{ResumedRuns, RunStraysAreExact};
-ghost use Rattle.aioc_top.specs.Calls.{Happens, PrintsReply, SaysLine};
+ghost use Rattle.aioc_top.specs.Calls.{Happens, PrintsReply};
 ghost use Rattle.aioc_top.specs.Faults.{line_of, status_of};
 ghost use Rattle.aioc_top.specs.Replies.{reply_of};
 ghost use Rattle.aioc_top.specs.Serve.{CheckText, ComesExactly, Complete, DriveText, GenText, HeadlineHolds, MendText, MonitorText, ProjectText, ReadsAll, ReplayText, ResumeText, RunText, SaysWhy, SessionsText, Silent, StepText, UpgradeText, UsageComes};

@@ -1,5 +1,13 @@
--- A loop or a scope with another body.
-use Rattle.dioc_terms.specs.Processes.{Process, WhileLead, WhileFollow, ScopeLead, ScopeFollow}
+-- A process with other parts, and a loop or a scope with another body.
+use Rattle.dioc_terms.specs.Processes.{Process, Seq, Par, IfLead, IfFollow, WhileLead, WhileFollow, ScopeLead, ScopeFollow}
+
+-- the process with two other parts
+abbrev pub with_two : Process → Process → Process → Process
+with_two (Seq P Q) R S = Seq R S
+with_two (Par P Q) R S = Par R S
+with_two (IfLead i g others P Q) R S = IfLead i g others R S
+with_two (IfFollow i leader P Q) R S = IfFollow i leader R S
+with_two P R S = P
 
 -- the loop or the scope with another body
 abbrev pub with_body : Process → Process → Process

@@ -73,3 +73,8 @@ pub record IsProcessAt (ops : List Op) (place : ℕ) (P : Process) : Type 0 wher
 pub record IsForm (o : Op) (places : List ℕ) (made : List Process → Process) : Type 0 where
   pub places_are : part_places o ≡ places
   pub stands : (done : List Process) → op_process done o ≡ made done
+
+-- an op whose parts stand among the ops, and the process that it stands for with them
+pub record IsOpOf (ops : List Op) (o : Op) (P : Process) : Type 0 where
+  pub earlier : AreBelow (length ops) (part_places o)
+  pub stands : op_process (processes ops) o ≡ P

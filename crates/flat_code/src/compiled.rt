@@ -4,12 +4,12 @@ ghost use Rattle.std.specs.Prelude.{◌≡◌, true, length, IfOk, OnErr};
 ghost use Rattle.dioc_terms.specs.Processes.{process};
 ghost use Rattle.flat_code.specs.Codes.{process_of};
 ghost use Rattle.dioc_terms.specs.Parts.{body_of, first_of, has_body, has_two, second_of};
-ghost use Rattle.flat_code.specs.Places.{AreBelow, Extends, IsProcessAt, are_placed, op_process, part_places, processes};
+ghost use Rattle.flat_code.specs.Places.{AreBelow, Extends, IsOpOf, IsProcessAt, are_placed, op_process, part_places, processes};
 
 use crate::code::Code;
-use crate::forms::{around, follow_choice, lead_choice, without_parts};
+use crate::forms::{around, joining, without_parts};
 use crate::ops::Op;
-use dioc_terms::{Memory, Proc};
+use dioc_terms::{Memory, Proc, give_up};
 use std::alloc::Global;
 
 /// The code that stands for a process. Its time and its memory are those of the process's size; the
@@ -18,8 +18,10 @@ pub fn compile(alloc: Global, proc: &Proc) -> Result<Code, Memory>
     ensures { IfOk result (λ code. process_of code ≡ process proc.now) }
 {
     let mut ops = Vec::new(alloc);
-    let start = add(alloc, proc, &mut ops)?;
-    Ok(Code { ops, start })
+    match add(alloc, proc, &mut ops) {
+        Ok(start) => Ok(Code { ops, start }),
+        Err(fault) => give_up(ops, fault),
+    }
 }
 
 /// Appends the ops of a process to code, and gives the place at which the process stands. The code
@@ -44,43 +46,37 @@ pub fn link(alloc: Global, code: &mut Code, proc: &Proc) -> Result<usize, Memory
 
 /// Appends the ops of a process, its parts first, and gives the place of the whole.
 #[cycle(compiled)]
-#[tactic(auto, using(crate::proofs::PlaceLemmas::extends_through, crate::proofs::PartLemmas::is_own_body))]
 fn add(alloc: Global, proc: &Proc, ops: &mut Vec<Op>) -> Result<usize, Memory>
     requires placed { are_placed 0 ops.old.items ≡ true }
     ensures placed { are_placed 0 ops.new.items ≡ true }
     ensures appended { Extends ops.old.items ops.new.items }
     ensures stands { IfOk result (λ place. IsProcessAt ops.new.items place (process proc.now)) }
 {
+    let op = add_parts(alloc, proc, ops)?;
+    push(ops, op)
+}
+
+/// Appends the ops of the parts of a process, and gives the op of the whole.
+#[cycle(compiled)]
+fn add_parts(alloc: Global, proc: &Proc, ops: &mut Vec<Op>) -> Result<Op, Memory>
+    requires placed { are_placed 0 ops.old.items ≡ true }
+    ensures placed { are_placed 0 ops.new.items ≡ true }
+    ensures appended { Extends ops.old.items ops.new.items }
+    ensures whole { IfOk result (λ op. IsOpOf ops.new.items op (process proc.now)) }
+{
     match proc {
-        Proc::Seq(..) => {
-            let (first, second) = add_two(alloc, proc, ops)?;
-            push(ops, Op::Seq { first, second })
-        }
-        Proc::Par(..) => {
-            let (left, right) = add_two(alloc, proc, ops)?;
-            push(ops, Op::Par { left, right })
-        }
-        Proc::IfLead {
-            index,
-            guard,
-            others,
-            ..
-        } => {
-            let branches = add_two(alloc, proc, ops)?;
-            push(ops, lead_choice(alloc, *index, guard, others, branches)?)
-        }
-        Proc::IfFollow { index, leader, .. } => {
-            let branches = add_two(alloc, proc, ops)?;
-            push(ops, follow_choice(alloc, *index, leader, branches)?)
+        Proc::Seq(..) | Proc::Par(..) | Proc::IfLead { .. } | Proc::IfFollow { .. } => {
+            let places = add_two(alloc, proc, ops)?;
+            joining(alloc, proc, places)
         }
         Proc::WhileLead { .. }
         | Proc::WhileFollow { .. }
         | Proc::ScopeLead { .. }
         | Proc::ScopeFollow { .. } => {
             let body = add_body(alloc, proc, ops)?;
-            push(ops, around(alloc, proc, body)?)
+            around(alloc, proc, body)
         }
-        other => push(ops, without_parts(alloc, other)?),
+        other => without_parts(alloc, other),
     }
 }
 

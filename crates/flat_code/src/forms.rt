@@ -4,7 +4,7 @@ ghost use Rattle.std.specs.Prelude.{◌≡◌, ◌∷◌, [], true, false, IfOk}
 ghost use Rattle.dioc_terms.specs.Expressions.{expression};
 ghost use Rattle.dioc_terms.specs.Processes.{Send, Recv, Assign, Read, IfLead, IfFollow, WhileLead, WhileFollow, ScopeLead, ScopeFollow, Tell, Gather, letters, process};
 ghost use Rattle.dioc_terms.specs.Parts.{has_body, has_two};
-ghost use Rattle.flat_code.specs.Parts.{with_body};
+ghost use Rattle.flat_code.specs.Parts.{with_body, with_two};
 ghost use Rattle.flat_code.specs.Places.{IsForm, at};
 
 use crate::ops::Op;
@@ -35,6 +35,32 @@ pub(crate) fn without_parts(alloc: Global, proc: &Proc) -> Result<Op, Memory>
         Proc::Read { index, var } => read(alloc, *index, var),
         Proc::Tell { messages } => tell(alloc, messages),
         Proc::Gather { keys } => gather(alloc, keys),
+        _ => unreachable!(),
+    }
+}
+
+/// The op of a process whose two parts stand at these places.
+pub(crate) fn joining(alloc: Global, whole: &Proc, parts: (usize, usize)) -> Result<Op, Memory>
+    requires { has_two (process whole.now) ≡ true }
+    ensures { IfOk result (λ form. IsForm form (parts.0 ∷ parts.1 ∷ [])
+        (λ done. with_two (process whole.now) (at done parts.0) (at done parts.1))) }
+{
+    match whole {
+        Proc::Seq(..) => Ok(Op::Seq {
+            first: parts.0,
+            second: parts.1,
+        }),
+        Proc::Par(..) => Ok(Op::Par {
+            left: parts.0,
+            right: parts.1,
+        }),
+        Proc::IfLead {
+            index,
+            guard,
+            others,
+            ..
+        } => lead_choice(alloc, *index, guard, others, parts),
+        Proc::IfFollow { index, leader, .. } => follow_choice(alloc, *index, leader, parts),
         _ => unreachable!(),
     }
 }
@@ -108,7 +134,7 @@ fn read(alloc: Global, index: Index, var: &Name) -> Result<Op, Memory>
 }
 
 /// Leads a choice between the processes at two places.
-pub(crate) fn lead_choice(
+fn lead_choice(
     alloc: Global,
     index: Index,
     guard: &Expr,
@@ -129,7 +155,7 @@ pub(crate) fn lead_choice(
 }
 
 /// Follows a choice between the processes at two places.
-pub(crate) fn follow_choice(
+fn follow_choice(
     alloc: Global,
     index: Index,
     leader: &Role,

@@ -11,9 +11,9 @@ use Rattle.dioc_terms.specs.declared.entries.Note.{Note}
 use Rattle.dioc_terms.specs.declared.entries.Note.TheVariants as note
 use Rattle.dioc_terms.specs.declared.entries.Entry.{Entry}
 use Rattle.dioc_terms.specs.declared.entries.Entry.TheVariants as entry
-use Rattle.dioc_terms.specs.Expressions.{Expression, Const, Var, Prop, Env, Not, Neg, Bin}
+use Rattle.dioc_terms.specs.Expressions.{Const}
 use Rattle.dioc_terms.specs.Plain.{PlainBundle}
-use Rattle.dioc_terms.specs.Terms.{Term, Skip, Com, Set, Input, Seq, Par, If, While, Scope, cast_of, indexed}
+use Rattle.dioc_terms.specs.Terms.{Term, Com, cast_of, indexed}
 use Rattle.global_steps.specs.Running as running
 use Rattle.global_steps.specs.Follow.{State, play, stray}
 use Rattle.marked_laws.specs.Network.{Network, network_run, network_ended}

@@ -1,8 +1,8 @@
 -- After any run of a sound bundle each move can be done, and there is one where the network has not ended.
-use Rattle.std.proofs.Common.{◌≡◌, ℕ, zero, suc, List, [], ◌∷◌, ◌++◌, Bool, true, false, ◌&&◌, not, Option, Some, None, IsSome, All, slice_get, filter, map, refl, sym, ap, ◌∙◌, subst, ⊎_elim, arith}
+use Rattle.std.proofs.Common.{◌≡◌, ℕ, zero, suc, List, [], ◌∷◌, ◌++◌, Bool, true, false, ◌&&◌, not, Option, Some, None, IsSome, All, Contains, slice_get, filter, map, refl, sym, ap, ◌∙◌, subst, ⊎_elim, arith}
 use Rattle.std.specs.Prelude.{flat_map, is_some, if◌then◌else◌}
 use Rattle.std.proofs.lemmas.Bool.{and_parts, or_left, or_right, or_cases, cond-true, cond-false, both_ways}
-use Rattle.std.proofs.lemmas.List.Elements.{All-nil, All-cons}
+use Rattle.std.proofs.lemmas.List.Elements.{All-nil, All-cons, Contains-append_left, Contains-append_right}
 use Rattle.dioc_terms.specs.declared.names.Role.{Role}
 use Rattle.dioc_terms.specs.declared.processes.Key.{Key}
 use Rattle.dioc_terms.specs.declared.processes.ScopeHead.{ScopeHead}
@@ -41,19 +41,6 @@ use Rattle.net_core.proofs.ScriptLemmas.{change_steps}
 pub some_got : {A : Type 0} (o : Option A) → IsSome o → (x : A) × (o ≡ Some x)
 some_got None h = cc
 some_got (Some x) h = (x, refl)
-
--- whether a list has an element
-abbrev pub has_some : {A : Type 0} → List A → Bool
-has_some [] = false
-has_some (x ∷ xs) = true
-
-has_left : {A : Type 0} (xs ys : List A) → has_some xs ≡ true → has_some (xs ++ ys) ≡ true
-has_left [] ys h = cc
-has_left (x ∷ xs) ys h = refl
-
-has_right : {A : Type 0} (xs ys : List A) → has_some ys ≡ true → has_some (xs ++ ys) ≡ true
-has_right [] ys h = h
-has_right (x ∷ xs) ys h = refl
 
 abbrev message_given : Option Load → Given
 message_given None = Alone
@@ -124,25 +111,32 @@ module _ (offered_steps : OffersAreSteps) (b : PlainBundle) (N : Network) (pendi
       by_test true is = (change_steps b N sound.formed (and_parts (change_due b.script N.changes N.visible) (not (network_ended b.cast N)) is).0, tt)
       by_test false is = tt
 
+-- an element is in a list with another one before it
+contains_later : {A : Type 0} (first : A) (xs : List A) (x : A) → Contains xs x → Contains (first ∷ xs) x
+contains_later first xs x h = Contains-append_right (first ∷ []) xs x h
+
 -- an act that is offered and ready is a move
 act_listed : (N : Network) (q : Role) (a : Act) (acts : List Act) → is_ready N a ≡ true → is_offered a acts ≡ true
-    → has_some (map (move.Act q) (filter (is_ready N) acts)) ≡ true
+    → Contains (map (move.Act q) (filter (is_ready N) acts)) (move.Act q a)
 act_listed N q a [] ready offered = cc
 act_listed N q a (c ∷ acts) ready offered = by_test (is_ready N c) refl (λ h. act_listed N q a acts ready h)
   where
-    by_test : (t : Bool) → is_ready N c ≡ t → (is_offered a acts ≡ true → has_some (map (move.Act q) (filter (is_ready N) acts)) ≡ true)
-        → has_some (map (move.Act q) (filter (is_ready N) (c ∷ acts))) ≡ true
+    by_test : (t : Bool) → is_ready N c ≡ t → (is_offered a acts ≡ true → Contains (map (move.Act q) (filter (is_ready N) acts)) (move.Act q a))
+        → Contains (map (move.Act q) (filter (is_ready N) (c ∷ acts))) (move.Act q a)
     by_test true is more =
-        ap (λ l. has_some (map (move.Act q) l)) (cond-true (is_ready N c) (c ∷ filter (is_ready N) acts) (filter (is_ready N) acts) is)
+        subst (λ l. Contains (map (move.Act q) l) (move.Act q a)) (sym (cond-true (is_ready N c) (c ∷ filter (is_ready N) acts) (filter (is_ready N) acts) is))
+        (⊎_elim (λ same. (0, omega arith, ap (move.Act q) (sym (act_same a c same))))
+        (λ later. contains_later (move.Act q c) (map (move.Act q) (filter (is_ready N) acts)) (move.Act q a) (more later))
+        (or_cases (act_eq a c) (is_offered a acts) offered))
     by_test false is more =
-        ap (λ l. has_some (map (move.Act q) l)) (cond-false (is_ready N c) (c ∷ filter (is_ready N) acts) (filter (is_ready N) acts) is)
-        ∙ ⊎_elim (λ same. absurd (both_ways (is_ready N c) is (subst (λ x. is_ready N x ≡ true) (act_same a c same) ready))) more (or_cases (act_eq a c) (is_offered a acts) offered)
+        subst (λ l. Contains (map (move.Act q) l) (move.Act q a)) (sym (cond-false (is_ready N c) (c ∷ filter (is_ready N) acts) (filter (is_ready N) acts) is))
+        (⊎_elim (λ same. absurd (both_ways (is_ready N c) is (subst (λ x. is_ready N x ≡ true) (act_same a c same) ready))) more (or_cases (act_eq a c) (is_offered a acts) offered))
 
-role_listed : (N : Network) (q : Role) (roles : List Role) → member q roles ≡ true → has_some (role_moves N q) ≡ true → has_some (flat_map (role_moves N) roles) ≡ true
-role_listed N q [] is some = cc
-role_listed N q (r ∷ rs) is some = ⊎_elim
-    (λ same. has_left (role_moves N r) (flat_map (role_moves N) rs) (subst (λ y. has_some (role_moves N y) ≡ true) (role_same q r same) some))
-    (λ later. has_right (role_moves N r) (flat_map (role_moves N) rs) (role_listed N q rs later some))
+role_listed : (N : Network) (q : Role) (roles : List Role) (m : Move) → member q roles ≡ true → Contains (role_moves N q) m → Contains (flat_map (role_moves N) roles) m
+role_listed N q [] m is some = cc
+role_listed N q (r ∷ rs) m is some = ⊎_elim
+    (λ same. Contains-append_left (role_moves N r) (flat_map (role_moves N) rs) m (subst (λ y. Contains (role_moves N y) m) (role_same q r same) some))
+    (λ later. Contains-append_right (role_moves N r) (flat_map (role_moves N) rs) m (role_listed N q rs m later some))
     (or_cases (role_eq q r) (member q rs) is)
 
 -- what a step of a role is: the entry shows the role and the act, and what is taken is pending
@@ -218,8 +212,8 @@ module _ (known : Known) (b : PlainBundle) (sound : IsSound b) where
     ready_step q _ h = refl
 
     -- a step of a role is among the moves
-    pub has_move : HasStep b N → has_some (moves (setting b) N) ≡ true
-    has_move next = has_right (if change_due b.script N.changes N.visible && not (network_ended b.cast N) then move.Change ∷ [] else [])
-        (flat_map (role_moves N) b.cast)
-        (role_listed N next.role b.cast next.in_cast
+    pub has_move : (next : HasStep b N) → Contains (moves (setting b) N) (move.Act next.role next.act)
+    has_move next = Contains-append_right (if change_due b.script N.changes N.visible && not (network_ended b.cast N) then move.Change ∷ [] else [])
+        (flat_map (role_moves N) b.cast) (move.Act next.role next.act)
+        (role_listed N next.role b.cast (move.Act next.role next.act) next.in_cast
         (act_listed N next.role next.act (offers next.role (N.processes next.role)) (ready_step next.role next.act next.defined) next.offered))

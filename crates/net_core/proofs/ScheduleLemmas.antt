@@ -1,5 +1,5 @@
 -- A schedule's entries are a run, up to an end or the limit.
-use Rattle.std.proofs.Common.{◌≡◌, ◌⊎◌, ℕ, zero, suc, ◌+◌, ◌-◌, ◌%◌, ◌/◌, ◌^◌, ◌<◌, ◌≤◌, List, [], ◌∷◌, ◌++◌, length, Bool, true, false, Option, Some, None, refl, sym, ap, ap₂, ◌∙◌, subst, inl, inr, ⊎_elim, arith, length-append}
+use Rattle.std.proofs.Common.{◌≡◌, ◌⊎◌, ℕ, zero, suc, Contains, ◌+◌, ◌-◌, ◌%◌, ◌/◌, ◌^◌, ◌<◌, ◌≤◌, List, [], ◌∷◌, ◌++◌, length, Bool, true, false, Option, Some, None, refl, sym, ap, ap₂, ◌∙◌, subst, inl, inr, ⊎_elim, arith, length-append}
 use Rattle.std.specs.Prelude.{option_and_then}
 use Rattle.std.specs.Option.{option_map_or}
 use Rattle.std.proofs.lemmas.Bool.{cond-true, cond-false}
@@ -17,13 +17,12 @@ use Rattle.marked_laws.proofs.Extension.{extensions}
 use Rattle.marked_laws.proofs.Mark.{Mark}
 use Rattle.marked_laws.proofs.Plays.{entry_doer}
 use Rattle.marked_laws.proofs.Premise.{Known}
-use Rattle.marked_laws.proofs.Shapes.{none_some, some_same}
 use Rattle.marked_laws.proofs.Simulate.{Marks}
 use Rattle.net_core.specs.declared.moves.Move.{Move}
 use Rattle.net_core.specs.declared.moves.Move.TheVariants as move
 use Rattle.net_core.specs.Laws.{AcceptedIsSound, MovesAreSteps, Arrives, RunsAreSound}
 use Rattle.net_core.specs.Schedule.{moves, move_step, move_place, next_number, next_seed, scheduled, continued, sched_from}
-use Rattle.net_core.proofs.MoveLemmas.{some_got, has_some, EachDone, each_at, each_all, moves_done, reached, mail_of_tags, deed_of, has_move}
+use Rattle.net_core.proofs.MoveLemmas.{some_got, EachDone, each_at, each_all, moves_done, reached, mail_of_tags, deed_of, has_move}
 use Rattle.net_core.proofs.ScriptLemmas.{within_got, change_is_nobodys}
 
 -- the network after an entry, by who did it
@@ -45,9 +44,8 @@ place_below : (seed : Option ℕ) (count : ℕ) → 0 < count → move_place see
 place_below None count h = h
 place_below (Some x) count h = rest_below (next_number x / 2 ^ 33) count h
 
-some_length : {A : Type 0} (xs : List A) → has_some xs ≡ true → 0 < length xs
-some_length [] h = cc
-some_length (x ∷ xs) h = omega arith
+some_length : {A : Type 0} (xs : List A) (x : A) → Contains xs x → 0 < length xs
+some_length xs x h = omega (arith, h.1)
 
 -- entries that the schedule takes from a network on
 record Onward (b : Setting) (N : Network) (count : ℕ) (entries : List Entry) : Type 0 where
@@ -72,9 +70,12 @@ module _ (known : Known) (progress : Progress) (offered_steps : OffersAreSteps) 
       let at = reached known b sound H N h in
       moves_done offered_steps b N (mail_of_tags known b sound N at.0 at.1) sound
 
-  some_moves : (H : List Entry) (N : Network) → network_run b H ≡ Some N → network_ended b.cast N ≡ false → has_some (moves (setting b) N) ≡ true
+  some_moves : (H : List Entry) (N : Network) → network_run b H ≡ Some N → network_ended b.cast N ≡ false
+      → (q : Role) × (a : Act) × Contains (moves (setting b) N) (move.Act q a)
   some_moves H N h goes =
-      let at = reached known b sound H N h in has_move known b sound N at.0 at.1 (progress b H N sound h goes)
+      let at = reached known b sound H N h in
+      let next = progress b H N sound h goes in
+      (next.role, next.act, has_move known b sound N at.0 at.1 next)
 
   -- a network that has not ended takes a next entry
   record Next (N : Network) (seed : Option ℕ) : Type 0 where
@@ -85,7 +86,8 @@ module _ (known : Known) (progress : Progress) (offered_steps : OffersAreSteps) 
   next_of : (H : List Entry) (N : Network) (seed : Option ℕ) → network_run b H ≡ Some N → network_ended b.cast N ≡ false → Next N seed
   next_of H N seed h goes =
       let at = reached known b sound H N h in
-      let got = within_got (moves (setting b) N) (move_place seed (length (moves (setting b) N))) (place_below seed (length (moves (setting b) N)) (some_length (moves (setting b) N) (some_moves H N h goes))) in
+      let some = some_moves H N h goes in
+      let got = within_got (moves (setting b) N) (move_place seed (length (moves (setting b) N))) (place_below seed (length (moves (setting b) N)) (some_length (moves (setting b) N) (move.Act some.0 some.1) some.2)) in
       let done = some_got (move_step (setting b) N got.0) (each_at (setting b) N (moves (setting b) N) (move_place seed (length (moves (setting b) N))) got.0 (each_done H N h) got.1) in
       record { outcome = done.0; takes = ap (option_and_then (move_step (setting b) N)) got.1 ∙ done.1; steps = move_after N at.0 at.1 got.0 done.0 done.1 }
 
@@ -115,11 +117,8 @@ module _ (known : Known) (progress : Progress) (offered_steps : OffersAreSteps) 
   pub moves_are_steps : MovesAreSteps
   moves_are_steps = record {
     done = λ b H N accepted h. each_all (setting b) N (moves (setting b) N) (each_done known progress offered_steps b (accepted_sound b accepted) H N h);
-    some = λ b H N accepted h goes none. absurd (no_true (ap has_some (sym none) ∙ some_moves known progress offered_steps b (accepted_sound b accepted) H N h goes));
+    some = λ b H N accepted h goes. some_moves known progress offered_steps b (accepted_sound b accepted) H N h goes;
   }
-    where
-      no_true : false ≡ true → ⊥
-      no_true e = cc
 
   pub runs_are_sound : Simulation → RunsAreSound
   runs_are_sound simulation b H N seed limit accepted h within =

@@ -1,6 +1,8 @@
 -- What holds of each bundle that is accepted: it is sound, each move of its network can be done,
 -- and a schedule gives runs.
-use Rattle.std.specs.Prelude.{◌≡◌, ◌≢◌, ◌≤◌, ◌⊎◌, ℕ, List, [], length, true, false, Option, Some, None, IsSome, All}
+use Rattle.std.specs.Prelude.{◌≡◌, ◌≤◌, ◌⊎◌, ℕ, List, length, true, false, Option, Some, None, IsSome, All, Contains}
+use Rattle.dioc_terms.specs.declared.names.Role.{Role}
+use Rattle.dioc_terms.specs.declared.entries.Act.{Act}
 use Rattle.dioc_terms.specs.declared.entries.Entry.{Entry}
 use Rattle.dioc_terms.specs.Messages.{visible}
 use Rattle.dioc_terms.specs.Plain.{PlainBundle, setting}
@@ -8,6 +10,7 @@ use Rattle.marked_laws.specs.Laws.{IsSound, Explains}
 use Rattle.marked_laws.specs.Network.{Network, network_run, network_ended}
 use Rattle.marked_laws.specs.Versions.{with_version}
 use Rattle.rule_checks.specs.Refusals.{IsAccepted, refusal}
+use Rattle.net_core.specs.declared.moves.Move.TheVariants as move
 use Rattle.net_core.specs.Schedule.{moves, move_step, sched, sched_from, IsPrompt}
 
 -- Accepted is sound: a bundle that is refused nothing is connected, no role of it sends to itself,
@@ -15,13 +18,14 @@ use Rattle.net_core.specs.Schedule.{moves, move_step, sched, sched_from, IsPromp
 abbrev pub AcceptedIsSound : Type 0
 AcceptedIsSound = (b : PlainBundle) → IsAccepted b → IsSound b
 
--- Moves are steps: after any run each move can be done, and there is one where the network has not
--- ended.
+-- Moves are steps: after any run each move can be done, and an act of a role is among them where the
+-- network has not ended.
 pub record MovesAreSteps : Type 0 where
   pub done : (b : PlainBundle) (H : List Entry) (N : Network) → IsAccepted b → network_run b H
       ≡ Some N → All (λ move. IsSome (move_step (setting b) N move)) (moves (setting b) N)
   pub some : (b : PlainBundle) (H : List Entry) (N : Network) → IsAccepted b → network_run b H
-      ≡ Some N → network_ended b.cast N ≡ false → moves (setting b) N ≢ []
+      ≡ Some N → network_ended b.cast N ≡ false
+      → (q : Role) × (a : Act) × Contains (moves (setting b) N) (move.Act q a)
 
 -- the entries are a run, with at most so many entries, and fewer only where the network has ended;
 -- the choreography explains it

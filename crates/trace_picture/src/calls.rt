@@ -1,15 +1,16 @@
 //! The call of the program: from the words of a command line and the bytes of a source to a
 //! picture in a sink, or one line of why not.
 
-ghost use Rattle.std.specs.Prelude.{◌≡◌, ◌≢◌, ◌≤◌, ℕ, Err, IfErr, IfOk, OnOk, OnErr, MatchOption, vec_len};
+ghost use Rattle.std.specs.Prelude.{◌≡◌, ◌≢◌, ℕ, ◌↔◌, Err, IfErr, IfOk, IsErrOf, None, OnOk};
 ghost use Rattle.aioc_io.specs.Faults.{Rose};
-ghost use Rattle.trace_picture.specs.Calls.{style_named, style_of, bytes_of_words, fault_code, Made, Draws, DrawingStops};
+ghost use Rattle.aioc_io.specs.Sink.{SaysLine};
+ghost use Rattle.trace_picture.specs.Calls.{style_named, style_of, bytes_of_words, fault_code, fault_line, BreaksOff, DrawingStops, Draws, HasManyEntries, IsTooLong, Made, NamesManyRoles, OfSource, Tells};
 ghost use Rattle.trace_picture.specs.Reading.{StopsAt};
 ghost use Rattle.trace_picture.specs.declared.calls.DrawFault.TheVariants as draw_fault;
 
 use crate::drawing::{PictureFault, Style, write_picture};
 use crate::reading::{ReadFault, read_trace_text};
-use aioc_io::{ReadAllFault, Sink, Source, read_all, write_all};
+use aioc_io::{Failed, ReadAllFault, Sink, Source, read_all, write_all};
 use dioc_terms::Memory;
 use std::alloc::Global;
 use text_pieces::{write_bytes, write_number};
@@ -84,32 +85,14 @@ fn style_of(words: &[Vec<u8>]) -> Option<Style>
     }
 }
 
-fn read_fault(fault: ReadAllFault) -> DrawFault
-    ensures other { result ≢ DrawFault.Write }
-    ensures no_line { (n : ℕ) → result ≢ draw_fault.BadLine n }
-{
-    match fault {
-        ReadAllFault::Fault => DrawFault::Read,
-        ReadAllFault::TooLong => DrawFault::TooLong,
-        ReadAllFault::Memory => DrawFault::Memory,
-    }
-}
-
-fn picture_fault(fault: PictureFault) -> DrawFault
-    ensures other { result ≢ DrawFault.Write }
-    ensures no_line { (n : ℕ) → result ≢ draw_fault.BadLine n }
-{
-    match fault {
-        PictureFault::TooManyEntries => DrawFault::TooLong,
-        PictureFault::TooManyRoles => DrawFault::TooManyRoles,
-        PictureFault::Memory => DrawFault::Memory,
-    }
-}
-
 /// The picture of the trace that a text says.
 fn made(alloc: Global, style: Style, text: &[u8]) -> Result<Vec<u8>, DrawFault>
     ensures ok { IfOk result (λ drawn. Made style text.now drawn.items) }
-    ensures other { IfErr result (λ fault. fault ≢ DrawFault.Write) }
+    ensures no_usage { IfErr result (λ fault. fault ≢ DrawFault.Usage) }
+    ensures no_read { IfErr result (λ fault. fault ≢ DrawFault.Read) }
+    ensures no_write { IfErr result (λ fault. fault ≢ DrawFault.Write) }
+    ensures too_long { IsErrOf result DrawFault.TooLong → HasManyEntries text.now }
+    ensures roles { IsErrOf result DrawFault.TooManyRoles → NamesManyRoles text.now }
     ensures bad { (n : ℕ) → result ≡ Err (draw_fault.BadLine n) → StopsAt text.now n }
 {
     let trace = match read_trace_text(alloc, text) {
@@ -126,15 +109,20 @@ fn made(alloc: Global, style: Style, text: &[u8]) -> Result<Vec<u8>, DrawFault>
         &mut drawn,
     ) {
         Ok(()) => Ok(drawn),
-        Err(fault) => Err(picture_fault(fault)),
+        Err(PictureFault::TooManyEntries) => Err(DrawFault::TooLong),
+        Err(PictureFault::TooManyRoles) => Err(DrawFault::TooManyRoles),
+        Err(PictureFault::Memory) => Err(DrawFault::Memory),
     }
 }
 
 /// Reads a trace from the source, and writes its picture into the sink.
 ///
-/// Words are none for a picture in letters, or one: `--mermaid` or `--svg`. Where the answer is an
-/// error but `Write`, nothing was written. `BadLine(n)` comes only where line n of the source's
-/// text may not stand where it stands.
+/// Words are none for a picture in plain text, or one: `--mermaid` or `--svg`; others are `Usage`,
+/// and nothing is read. `Read` and `Write` come only where the device counted a fault: after
+/// `Write` the sink has a part of the picture, and after any other error nothing was written.
+/// `TooLong` comes only of more than 67,108,864 bytes or more than 1,000,000 entries,
+/// `TooManyRoles` only of more than 32 roles in no more entries, and `BadLine(n)` only where line n
+/// of the source's text may not stand where it stands.
 pub fn draw<S: Source, O: Sink>(
     alloc: Global,
     words: &[Vec<u8>],
@@ -145,6 +133,15 @@ pub fn draw<S: Source, O: Sink>(
         (O.state out.old).taken (O.state out.new).taken) }
     ensures silent { IfErr result (λ fault. fault ≢ DrawFault.Write
         → O.state out.new ≡ O.state out.old) }
+    ensures usage { IsErrOf result DrawFault.Usage ↔ (style_of (bytes_of_words words.now) ≡ None) }
+    ensures unread { IsErrOf result DrawFault.Usage → S.state source.new ≡ S.state source.old }
+    ensures read_fault { IsErrOf result DrawFault.Read
+        → Rose (S.state source.old).faults (S.state source.new).faults }
+    ensures write_fault { IsErrOf result DrawFault.Write → BreaksOff (bytes_of_words words.now)
+        (S.state source.old).left (O.state out.old) (O.state out.new) }
+    ensures too_long { IsErrOf result DrawFault.TooLong → IsTooLong (S.state source.old).left }
+    ensures too_many { IsErrOf result DrawFault.TooManyRoles
+        → OfSource (S.state source.old).left NamesManyRoles }
     ensures bad { (n : ℕ) → result ≡ Err (draw_fault.BadLine n)
         → DrawingStops (S.state source.old).left n }
 {
@@ -154,40 +151,56 @@ pub fn draw<S: Source, O: Sink>(
     };
     let text = match read_all(alloc, source, MOST_TRACE_BYTES) {
         Ok(text) => text,
-        Err(fault) => return Err(read_fault(fault)),
+        Err(ReadAllFault::Fault) => return Err(DrawFault::Read),
+        Err(ReadAllFault::TooLong) => return Err(DrawFault::TooLong),
+        Err(ReadAllFault::Memory) => return Err(DrawFault::Memory),
     };
     let drawn = made(alloc, style, &text)?;
     match write_all(out, &drawn) {
         Ok(()) => Ok(()),
-        Err(_) => Err(DrawFault::Write),
+        Err(Failed) => Err(DrawFault::Write),
     }
 }
 
-/// Appends the line that tells a fault.
-fn write_told(fault: DrawFault, out: &mut Vec<u8>) -> Result<(), Memory> {
-    match fault {
-        DrawFault::Usage => write_bytes(b"usage: aioc_diagram [--mermaid | --svg]\n", out),
-        DrawFault::Read => write_bytes(b"read fault\n", out),
-        DrawFault::Write => write_bytes(b"write fault\n", out),
-        DrawFault::TooLong => write_bytes(b"too long\n", out),
-        DrawFault::BadLine(number) => {
-            write_bytes(b"syntax: line ", out)?;
-            write_number(number, out)?;
-            write_bytes(b"\n", out)
-        }
-        DrawFault::TooManyRoles => write_bytes(b"refused: too many roles\n", out),
-        DrawFault::Memory => write_bytes(b"out of memory\n", out),
-    }
-}
-
-/// Writes the line that tells a fault, and answers the exit code. Where there is no memory for the
-/// line, or the sink fails, the code is the same.
-pub fn tell<E: Sink>(alloc: Global, fault: DrawFault, err: &mut E) -> u8
-    ensures { result ≡ fault_code fault }
+/// The line that tells that a line of the trace may not stand where it stands.
+fn bad_line(alloc: Global, number: u64) -> Result<Vec<u8>, Memory>
+    ensures { IfOk result (λ line. line.items ≡ fault_line (draw_fault.BadLine number)) }
 {
     let mut line = Vec::new(alloc);
-    if write_told(fault, &mut line).is_ok() {
-        let _ = write_all(err, &line);
+    write_bytes(b"syntax: line ", &mut line)?;
+    write_number(number, &mut line)?;
+    write_bytes(b"\n", &mut line)?;
+    Ok(line)
+}
+
+/// Writes a line. Where the sink fails, the rest of it is dropped.
+fn say<E: Sink>(line: &[u8], err: &mut E)
+    ensures { SaysLine (E.state err.old) (E.state err.new) line.now }
+{
+    match write_all(err, line) {
+        Ok(()) => {}
+        Err(Failed) => {}
+    }
+}
+
+/// Writes the line that tells a fault, and answers the exit code. A fault of the sink changes
+/// nothing. Of `BadLine` nothing is written where memory runs out; the other lines take none.
+pub fn tell<E: Sink>(alloc: Global, fault: DrawFault, err: &mut E) -> u8
+    ensures code { result ≡ fault_code fault }
+    ensures line { Tells fault (E.state err.old) (E.state err.new) }
+{
+    match fault {
+        DrawFault::Usage => say(b"usage: aioc_diagram [--mermaid | --svg]\n", err),
+        DrawFault::Read => say(b"read fault\n", err),
+        DrawFault::Write => say(b"write fault\n", err),
+        DrawFault::TooLong => say(b"too long\n", err),
+        DrawFault::BadLine(number) => {
+            if let Ok(line) = bad_line(alloc, number) {
+                say(&line, err);
+            }
+        }
+        DrawFault::TooManyRoles => say(b"refused: too many roles\n", err),
+        DrawFault::Memory => say(b"out of memory\n", err),
     }
     fault.code()
 }
