@@ -1,7 +1,7 @@
 """What a release is made of: the files of release/, the sums of the sources, the kit, and the programs that it built.
 
-release/ has the two programs, stripped; SHA256SUMS, as sha256sum reads it; MADE-OF, a line for the version, the commit, the kit, and
-for each program the sum of its sources; and README.md, which tells the same to a reader.
+release/ has the two programs, stripped; SHA256SUMS, as sha256sum reads it; MADE-OF, a line for the version, the commit, the kit,
+and for each program the sum of its sources; and README.md, which tells the same to a reader.
 """
 import hashlib
 import os
@@ -18,8 +18,8 @@ PARTS = ("src", "specs", "proofs", "c")
 
 README = """# aioc {version}
 
-The programs `aioc` and `aioc-diagram` for x86-64 Linux, as the Rattle kit builds them from sources that it has proved, stripped of
-their symbols. They need the C library, and nothing else. `./aioc` and `./aioc-diagram` at the top of the repository run them,
+The programs `aioc` and `aioc-diagram` for x86-64 Linux, as the Rattle kit builds them from sources that it has proved, stripped
+of their symbols. They need the C library, and nothing else. `./aioc` and `./aioc-diagram` at the top of the repository run them,
 where no program was built from newer sources, and check their sums first.
 
 | what | |
@@ -33,8 +33,8 @@ where no program was built from newer sources, and check their sums first.
 
 The merge gate proved every crate of that commit and built the programs; `tools/release` took `crates/aioc_main/out/aioc_main` and
 `crates/aioc_diagram/out/aioc_diagram`, stripped them by the kit's `llvm-strip`, tried every test of `./test` with them, and wrote
-this folder. `MADE-OF` has the sum of the sources of each program: of the texts in `src/`, `specs/` and `proofs/` of each crate that it
-is made of, their lines in `crates.txt`, and `HANDLES`.
+this folder. `MADE-OF` has the sum of the sources of each program: of the texts in `src/`, `specs/` and `proofs/` of each crate
+that it is made of, their lines in `crates.txt`, and `HANDLES`.
 
 ## How to make them again
 
@@ -45,8 +45,8 @@ With the same kit (`rt version` prints its line), in a clone of the repository:
     git checkout -
     tools/check-release
 
-The kit compiles the same sources to the same bytes in any folder. `tools/check-release` strips what was built and compares it with
-these files. Where the sources or the kit are others, it runs every case with the release.
+The kit compiles the same sources to the same bytes in any folder. `tools/check-release` strips what was built and compares it
+with these files. Where the sources or the kit are others, it runs every case with the release.
 
 To check the sums alone: `cd release && sha256sum -c SHA256SUMS`.
 """
@@ -110,7 +110,7 @@ def kit_line():
 
 
 def stripped(crate, to):
-    """Writes the program that the kit built, without its symbols, by the kit's own strip, so that one kit gives the same bytes."""
+    """Writes the program that the kit built, without its symbols, by the kit's strip: so one kit gives one sum."""
     built, compiler = f"crates/{crate}/out/{crate}", f"{kit_of()}/toolchain/bin/clang"
     if not os.path.isfile(built):
         raise Trouble(f"there is no {built}: rt ci builds it")

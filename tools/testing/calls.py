@@ -98,9 +98,9 @@ class Call:
         words = " ".join(map(quoted, self.words))
         if not self.text:
             return f"{words} < /dev/null"
-        if len(self.text) > SHORT:
+        if len(self.text) > SHORT or b"\0" in self.text:
             return f"{words} < {shlex.quote(self.programs.kept(self.text))}"
-        return f"printf %s {quoted(self.text)} | {words}" if b"\0" not in self.text else f"{words} < {self.programs.kept(self.text)}"
+        return f"printf %s {quoted(self.text)} | {words}"
 
     def failed(self, problem):
         return Failed(problem, self.command())

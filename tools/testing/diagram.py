@@ -26,7 +26,8 @@ STREAMS = {
     "closed standard input": ('"$1" <&-', 3, ["read fault"]),
     "/dev/full as standard output": ('"$1" > /dev/full', 4, ["write fault"]),
     "/dev/full as standard output of an SVG": ('"$1" --svg > /dev/full', 4, ["write fault"]),
-    "a pipe that closes early": ('{ yes "add r" | head -n 20000 | "$1"; echo "$?" >&2; } | head -c 10 > /dev/null', 0, ["write fault", "4"]),
+    "a pipe that closes early":
+        ('{ yes "add r" | head -n 20000 | "$1"; echo "$?" >&2; } | head -c 10 > /dev/null', 0, ["write fault", "4"]),
     "64 MiB and one byte more": ('head -c 67108865 /dev/zero | tr "\\0" "\\n" | "$1"', 5, ["too long"]),
 }
 
@@ -47,6 +48,10 @@ def picture(programs, stem):
     programs.call(["--svg"], read(f"examples/{stem}.trace"), programs.diagram).expect(0, wanted, b"")
     script = f'"$1" step < {quoted(os.fsencode(f"examples/{stem}.aioc"))} | "$2" --svg'
     programs.shell(script, programs.aioc, programs.diagram).expect(0, wanted, b"")
+
+
+def of_streams(programs, script, code, err):
+    programs.shell(script, programs.diagram, text=TRACE).expect(code, b"", err)
 
 
 def every_form(programs, path):
@@ -70,6 +75,5 @@ def tests(programs):
     for name, words, text, code, err in REFUSED:
         wanted = code, b"", err
         yield Test(f"diagram: {name}", lambda w=words, t=text, it=wanted: programs.call(w, t, programs.diagram).expect(*it))
-    for name, (script, code, err) in STREAMS.items():
-        wanted = code, b"", err
-        yield Test(f"diagram: {name}", lambda s=script, it=wanted: programs.shell(s, programs.diagram, text=TRACE).expect(*it), 30)
+    for name, given in STREAMS.items():
+        yield Test(f"diagram: {name}", lambda given=given: of_streams(programs, *given), 30)

@@ -15,7 +15,7 @@ MANY_SESSIONS = "session { aioc { x@a = 1; o: a(x) -> b(y) } } " * 1000
 DEEP = "aioc { " + "while false @a { " * 255 + "skip" + " }" * 255 + " }"
 
 BUNDLES = (
-    ("a long run", ["step", "--steps", "100000"], MANY_ENTRIES),
+    ("a long run", ["step", "--steps", "20000"], MANY_ENTRIES),
     ("a long trace", ["replay"], LONG_TRACE),
     ("a deep text", ["upgrade"], DEEP),
     ("a thousand sessions", ["sessions", "--workers", "1"], MANY_SESSIONS),

@@ -1,7 +1,7 @@
 """What the examples and the pages show, said by the program itself.
 
-tools/pages/shown.py reads the pages, and tools/pages/named.py says which pages these are; tools/check-pages compares them with the
-table of cases.
+tools/pages/shown.py reads the pages, and tools/pages/named.py says which pages these are; tools/check-pages compares them with
+the table of cases.
 """
 from pages.named import pages
 from pages.shown import Shown, blocks_of_manual, blocks_of_markdown, check_examples, check_page

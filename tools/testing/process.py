@@ -73,7 +73,7 @@ def reads_nothing(programs):
 
 def closing_pipe(programs):
     """The reader goes away after ten bytes: a write fault, and no signal."""
-    script = '{ "$1" step --steps 100000; echo "$?" >&2; } | head -c 10 > /dev/null'
+    script = '{ "$1" step --steps 20000; echo "$?" >&2; } | head -c 10 > /dev/null'
     programs.shell(script, programs.aioc, text=LOOP).expect(0, b"", [*WRITE, "4"])
 
 

@@ -1,4 +1,4 @@
-"""The scripts around the programs: ./aioc and ./aioc-diagram, what they run and what they refuse, tools/install and ./test itself."""
+"""The scripts around the programs: what ./aioc and ./aioc-diagram run and what they refuse, tools/install, and ./test itself."""
 import hashlib
 import os
 import shutil
@@ -18,13 +18,12 @@ class Copy:
 
     def __init__(self, programs, folder):
         self.programs, self.top = programs, f"{folder}/top"
-        for each in ("tools", "release", "crates"):
+        for each in ("release", "crates"):
             os.makedirs(f"{self.top}/{each}")
-        for file in ("aioc", "aioc-diagram", "test", "VERSION", "crates.txt", "tools/start", "tools/try", "tools/install"):
+        for each in ("tools", "completions"):
+            shutil.copytree(each, f"{self.top}/{each}")
+        for file in ("aioc", "aioc-diagram", "test", "VERSION", "crates.txt"):
             shutil.copy(file, f"{self.top}/{file}")
-        shutil.copytree("tools/testing", f"{self.top}/tools/testing")
-        shutil.copytree("tools/pages", f"{self.top}/tools/pages")
-        shutil.copytree("completions", f"{self.top}/completions")
         os.mkdir(f"{self.top}/docs")
         shutil.copy("docs/aioc.1", f"{self.top}/docs/aioc.1")
         for name, program in zip(NAMES, (programs.aioc, programs.diagram)):
@@ -99,6 +98,20 @@ def tells_missing_kit(copy):
     copy.shell(f'{tools} && PATH="$1/bin" AIOC_FROM_SOURCE=1 ./aioc step').expect(1, b"", [f"aioc: {line}"])
 
 
+def compiles_where_asked(copy):
+    """A stand-in for the kit's `rt try`: of what it says the program's lines and its status are passed on."""
+    said = r'echo "$PWD $*"; echo "checked: all" >&2; echo "read fault" >&2; echo "run=ended status=3 seconds=1" >&2'
+    copy.shell("mkdir bin crates/aioc_main crates/aioc_diagram").expect(0)
+    with open(f"{copy.top}/bin/rt", "w", encoding="utf-8") as it:
+        it.write(f"#!/bin/sh\n{said}\n")
+    os.chmod(f"{copy.top}/bin/rt", 0o755)
+    for call, crate in (("./aioc", "aioc_main"), ("./aioc-diagram", "aioc_diagram"), ("tools/try aioc", "aioc_main")):
+        line = f"{os.path.realpath(copy.top)}/crates/{crate} try --seconds 300 -- step --aux"
+        copy.shell(f'PATH="$1/bin:$PATH" AIOC_FROM_SOURCE=1 {call} step --aux').expect(3, [line], ["read fault"])
+    copy.shell("echo 'echo broken >&2; exit 1' > bin/rt").expect(0)
+    copy.shell('PATH="$1/bin:$PATH" tools/try aioc step').expect(1, b"", ["broken"])
+
+
 def installed_files(folder):
     return {os.path.relpath(f"{at}/{file}", folder) for at, _, files in os.walk(folder) for file in files}
 
@@ -123,5 +136,5 @@ def tests(programs):
     for name, action in (("run the release", runs_release), ("refuse a wrong sum", refuses_wrong_sum),
                          ("tell that there is no release", tells_missing_release), ("run what was built", prefers_built),
                          ("tell what machine they need", tells_other_machine), ("tell that there is no kit", tells_missing_kit),
-                         ("install and uninstall", installs)):
+                         ("compile where they are asked to", compiles_where_asked), ("install and uninstall", installs)):
         yield Test(f"scripts: they {name}", lambda action=action: in_copy(programs, action), 20)
