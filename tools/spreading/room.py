@@ -36,8 +36,7 @@ class Room:
         with open(f"{HERE}/run-piece", encoding="utf-8") as it:
             script = it.read()
         program = " ".join(map(shlex.quote, words))
-        lines = [program + line[len("PROGRAM"):] if line.startswith("PROGRAM ") else line for line in script.splitlines(keepends=True)]
-        self.write("run", "".join(lines).encode("utf-8", "surrogateescape"))
+        self.write("run", script.replace("$(PROGRAM ", f"$({program} ").encode("utf-8", "surrogateescape"))
 
     def agree(self, options):
         """Whether the folder was begun with these options; a new one begins with them."""

@@ -8,13 +8,17 @@ import signal
 import subprocess
 import sys
 import tempfile
+import threading
 import time
 
+from testing.calls import Call
 from testing.hosts import two_hosts
 from testing.runner import Failed, Skipped, Test
 
 TOOL, MAKER = "tools/spread-sessions", "tools/make-sessions"
 COUNT, STEPS, LARGEST = 3000, "5", 4_194_304
+# How long a call of the tool may take, in seconds: in pieces of one session it starts thousands of processes.
+PATIENCE = 900
 HELLO = "session { aioc { hi: a(1) -> b(x) } }\n"
 GREETED = ["session 0", "put a -> b hi#0.0 = 1", "take a -> b hi#0.0 x", "ended 2"]
 
@@ -65,8 +69,17 @@ class Room:
 
     def call(self, *words, program=None, steps=STEPS):
         """The tool's call on the text of the room."""
-        words = ["--program", program or self.programs.aioc, "--steps", steps, *words, f"{self.folder}/text"]
-        return self.programs.call(words, program=os.path.abspath(TOOL))
+        words = [TOOL, "--program", program or self.programs.aioc, "--steps", steps, *words, f"{self.folder}/text"]
+        called = Call(self.programs, [os.fsencode(os.path.abspath(word) if word == TOOL else word) for word in words], b"")
+        piped = {"stdin": subprocess.DEVNULL, "stdout": subprocess.PIPE, "stderr": subprocess.PIPE}
+        with subprocess.Popen(called.words, **piped) as child:
+            # (the tool ends all that it started where it is told to end, and not where it is killed)
+            patience = threading.Timer(PATIENCE, child.terminate)
+            patience.start()
+            called.out, called.err = child.communicate()
+            patience.cancel()
+        called.code = child.returncode
+        return called
 
     def program(self, script):
         """A program that keeps its input in the file $kept, does what the script says, and then runs the true one."""
@@ -123,15 +136,16 @@ def killed_and_resumed(programs, engine, sent):
     """The tool itself is ended in the middle. What it wrote is a front of the text, and a later run goes on."""
     if engine == "parallel":
         needs_parallel()
-    with Room(programs, 70) as room:
-        program = room.program("[ -e free ] || ! grep -q 'a(35)' $kept || sleep 60")
-        words = ["--engine", engine, "--piece", "7", "--workers", "2", "--joblog", f"{room.folder}/log"]
+    piece, held = COUNT // 30, COUNT // 14 * 7
+    with Room(programs, COUNT) as room:
+        program = room.program(f"[ -e free ] || ! grep -q 'a({held})' $kept || sleep 600")
+        words = ["--engine", engine, "--piece", str(piece), "--workers", "2", "--joblog", f"{room.folder}/log"]
         command = [TOOL, "--program", program, "--steps", STEPS, *words, f"{room.folder}/text"]
         whole = "".join(f"{line}\n" for line in room.lines)
-        front = whole[:whole.index("session 35\n")]
+        front = whole[:whole.index(f"session {held // piece * piece}\n")]
         with open(f"{room.folder}/out", "wb") as out:
             begun = subprocess.Popen(command, stdout=out, stderr=subprocess.DEVNULL)
-        until = time.monotonic() + 60
+        until = time.monotonic() + PATIENCE
         while os.path.getsize(f"{room.folder}/out") < len(front) and time.monotonic() < until:
             time.sleep(0.1)
         begun.send_signal(sent)
@@ -227,8 +241,8 @@ def made_as_by_gen(programs):
 
 
 def tests(programs):
-    for engine, piece, workers in (("parallel", "7", "1"), ("parallel", "7", "4"), ("parallel", "1000", "4"), ("parallel", "1", "4"),
-                                   ("xargs", "1", "1"), ("xargs", "1", "4"), ("xargs", "7", "4"), ("xargs", "1000", "1")):
+    for engine, piece, workers in (("parallel", "1", "4"), ("parallel", "7", "4"), ("parallel", "1000", "1"), ("parallel", "1000", "4"),
+                                   ("xargs", "1", "1"), ("xargs", "7", "1"), ("xargs", "1000", "4")):
         name = f"spread: {COUNT} sessions in pieces of {piece}, {workers} at once, by {engine}"
         yield Test(name, lambda it=(engine, piece, workers): one_text(programs, *it), 80)
     for engine in ("parallel", "xargs"):
