@@ -8,14 +8,21 @@ use role_runner::OpenGate;
 use std::process::ExitCode;
 use std::{env, io};
 
-// The bytes of the words after the program's name. Its one error is want of memory.
+// The bytes of the words after the program's name. No words stand for those of which one isn't
+// UTF-8, since `env::args` then gives none of them: neither are a command, so either way the answer
+// is the usage line.
 fn read_words(rt: &HostRuntime) -> io::Result<Vec<Vec<u8>>> {
-    let alloc = rt.alloc();
-    let mut words = Vec::new(alloc);
-    for word in env::args(rt)?.skip(1) {
-        words.push(word.into_bytes())?;
+    let mut words = Vec::new(rt.alloc());
+    match env::args(rt) {
+        Ok(args) => {
+            for word in args.skip(1) {
+                words.push(word.into_bytes())?;
+            }
+            Ok(words)
+        }
+        Err(error) if error.kind() == io::ErrorKind::InvalidData => Ok(words),
+        Err(error) => Err(error),
     }
-    Ok(words)
 }
 
 fn main(rt: HostRuntime) -> ExitCode {
