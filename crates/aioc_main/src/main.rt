@@ -8,9 +8,9 @@ use role_runner::OpenGate;
 use std::process::ExitCode;
 use std::{env, io};
 
-// The bytes of the words after the program's name. No words stand for those of which one isn't
-// UTF-8, since `env::args` then gives none of them: neither are a command, so either way the answer
-// is the usage line.
+// The bytes of the words after the program's name. Where one of them isn't UTF-8, `env::args` gives
+// none, and the answer is no words at all: these are no command either, so `serve` says how to use
+// the program. The one error is that memory ran out.
 fn read_words(rt: &HostRuntime) -> io::Result<Vec<Vec<u8>>> {
     let mut words = Vec::new(rt.alloc());
     match env::args(rt) {
