@@ -6,7 +6,7 @@ from pages.table import read
 PAGE = "docs/REFUSALS.md"
 MESSAGES = "crates/aioc_top/specs/Messages.antt"
 REFUSALS = "crates/rule_checks/specs/Texts.antt"
-MENDING = "crates/bundle_mend/specs/Texts.antt"
+MENDING = "crates/mend/specs/Texts.antt"
 
 
 def lines():

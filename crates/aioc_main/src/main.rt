@@ -8,14 +8,21 @@ use role_runner::OpenGate;
 use std::process::ExitCode;
 use std::{env, io};
 
-// The bytes of the words after the program's name. Its one error is want of memory.
+// The bytes of the words after the program's name. Where one of them isn't UTF-8, `env::args` gives
+// none, and the answer is no words at all: these are no command either, so `serve` says how to use
+// the program. The one error is that memory ran out.
 fn read_words(rt: &HostRuntime) -> io::Result<Vec<Vec<u8>>> {
-    let alloc = rt.alloc();
-    let mut words = Vec::new(alloc);
-    for word in env::args(rt)?.skip(1) {
-        words.push(word.into_bytes())?;
+    let mut words = Vec::new(rt.alloc());
+    match env::args(rt) {
+        Ok(args) => {
+            for word in args.skip(1) {
+                words.push(word.into_bytes())?;
+            }
+            Ok(words)
+        }
+        Err(error) if error.kind() == io::ErrorKind::InvalidData => Ok(words),
+        Err(error) => Err(error),
     }
-    Ok(words)
 }
 
 fn main(rt: HostRuntime) -> ExitCode {

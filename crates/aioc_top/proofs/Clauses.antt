@@ -28,8 +28,8 @@ use Rattle.rule_checks.specs.declared.refusals.Refusal.TheVariants.{UnknownRole}
 use Rattle.rule_checks.specs.declared.refusals.Where.TheVariants as place
 use Rattle.rule_checks.specs.Refusals.{IsAccepted, first_refusal, refusal, unknown_role}
 use Rattle.mend.specs.Traces.{mended_bundle}
-use Rattle.bundle_mend.specs.Laws.{MendedAccepted}
-use Rattle.bundle_mend.specs.Refusals.{mend_refusal}
+use Rattle.mend.specs.Laws.{MendedAccepted}
+use Rattle.mend.specs.Refusals.{mend_refusal}
 use Rattle.command_words.specs.declared.commands.Options.{Options}
 use Rattle.command_words.specs.declared.commands.Command.{Command}
 use Rattle.command_words.specs.declared.commands.Command.TheVariants as command

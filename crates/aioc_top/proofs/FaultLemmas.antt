@@ -14,8 +14,8 @@ use Rattle.bundle_text.specs.Sessions.{SpellsNoSessions}
 use Rattle.rule_checks.specs.Answers.{IsRefusalOf}
 use Rattle.rule_checks.specs.Refusals.{IsAccepted, refusal}
 use Rattle.rule_checks.specs.declared.refusals.Refusal.{Refusal}
-use Rattle.bundle_mend.specs.Refusals.{mend_refusal, IsMendRefusalOf}
-use Rattle.bundle_mend.specs.declared.refusals.MendRefusal.{MendRefusal}
+use Rattle.mend.specs.Refusals.{mend_refusal, IsMendRefusalOf}
+use Rattle.mend.specs.declared.refusals.MendRefusal.{MendRefusal}
 use Rattle.command_words.specs.declared.commands.Options.{Options}
 use Rattle.command_words.specs.declared.commands.Command.{Command}
 use Rattle.command_words.specs.declared.commands.Command.TheVariants as command

@@ -6,8 +6,8 @@ use Rattle.aioc_io.specs.Source.{SourceState}
 use Rattle.dioc_terms.specs.Plain.{PlainBundle}
 use Rattle.rule_checks.specs.declared.refusals.Refusal.{Refusal}
 use Rattle.rule_checks.specs.declared.refusals.Refusal.TheVariants as refused
-use Rattle.bundle_mend.specs.declared.refusals.MendRefusal.{MendRefusal}
-use Rattle.bundle_mend.specs.declared.refusals.MendRefusal.TheVariants as unmended
+use Rattle.mend.specs.declared.refusals.MendRefusal.{MendRefusal}
+use Rattle.mend.specs.declared.refusals.MendRefusal.TheVariants as unmended
 use Rattle.command_words.specs.declared.commands.Options.{Options}
 use Rattle.command_words.specs.declared.commands.Command.{Command}
 use Rattle.aioc_top.specs.Calls.{CommandReads, ReadsNothing}

@@ -2,8 +2,8 @@
 use Rattle.std.specs.Prelude.{ℕ, List}
 use Rattle.rule_checks.specs.declared.refusals.Refusal.{Refusal}
 use Rattle.rule_checks.specs.Texts.{refusal_text}
-use Rattle.bundle_mend.specs.declared.refusals.MendRefusal.{MendRefusal}
-use Rattle.bundle_mend.specs.Texts.{mend_refusal_text}
+use Rattle.mend.specs.declared.refusals.MendRefusal.{MendRefusal}
+use Rattle.mend.specs.Texts.{mend_refusal_text}
 
 pub data Reason : Type 0 where
   MayNotRun : Refusal → Reason

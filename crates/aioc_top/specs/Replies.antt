@@ -27,7 +27,7 @@ use Rattle.rule_checks.specs.Refusals.{first_refusal, refusal, unknown_role}
 use Rattle.rule_checks.specs.declared.refusals.Refusal.{Refusal}
 use Rattle.rule_checks.specs.declared.refusals.Where.TheVariants as place
 use Rattle.mend.specs.Traces.{mended_bundle}
-use Rattle.bundle_mend.specs.Refusals.{mend_refusal}
+use Rattle.mend.specs.Refusals.{mend_refusal}
 use Rattle.command_words.specs.Commands.{usual_steps}
 use Rattle.command_words.specs.declared.commands.Options.{Options}
 use Rattle.command_words.specs.declared.commands.Verb.TheVariants.{Gen}

@@ -21,7 +21,7 @@ use Rattle.net_drive.specs.Driven.{driven}
 use Rattle.net_drive.specs.Strays.{IsDriveStray}
 use Rattle.rule_checks.specs.Refusals.{IsAccepted, refusal}
 use Rattle.mend.specs.Traces.{mended_bundle}
-use Rattle.bundle_mend.specs.Refusals.{mend_refusal}
+use Rattle.mend.specs.Refusals.{mend_refusal}
 use Rattle.command_words.specs.Commands.{usual_steps}
 use Rattle.command_words.specs.declared.commands.Options.{Options}
 use Rattle.command_words.specs.declared.commands.Verb.TheVariants.{Gen}

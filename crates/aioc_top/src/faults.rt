@@ -6,8 +6,8 @@ ghost use Rattle.aioc_top.specs.Messages.{refusal_line, syntax_line};
 ghost use Rattle.aioc_top.specs.Reasons.{MayNotRun, CannotBeMended};
 
 use crate::status::Status;
-use bundle_mend::MendRefusal;
 use dioc_terms::Memory;
+use mend::MendRefusal;
 use rule_checks::Refusal;
 use std::alloc::Global;
 use text_pieces::{write_bytes, write_number};

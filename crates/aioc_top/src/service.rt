@@ -3,7 +3,7 @@
 ghost use Rattle.std.specs.Prelude.{◌≡◌, Some, false};
 ghost use Rattle.aioc_io.specs.Faults.{Rose};
 ghost use Rattle.aioc_io.specs.Sink.{SaysLine};
-ghost use Rattle.bundle_mend.specs.Laws.{MendedAccepted};
+ghost use Rattle.mend.specs.Laws.{MendedAccepted};
 ghost use Rattle.bundle_text.specs.Laws.{OneBundle, SpelledIsFormed, WrittenIsSpelled};
 ghost use Rattle.net_core.specs.Headline.{EveryRun};
 ghost use Rattle.load_gen.specs.Laws.{MadeAreAccepted};
@@ -25,12 +25,12 @@ use crate::reading::{answer, answer_run, answer_sessions};
 use crate::replies::Written;
 use crate::status::Status;
 use aioc_io::{Failed, Sink, Source, write_all};
-use bundle_mend::mended_accepted;
 use bundle_text::{one_bundle, spelled_is_formed, written_is_spelled};
 use command_words::{Command, Options, read_words};
 use dioc_terms::Memory;
 use load_gen::made_are_accepted;
 use marked_laws::runs_read_no_version;
+use mend::mended_accepted;
 use net_core::{accepted_is_sound, every_run, runs_are_sound, schedules_read_no_version};
 use net_drive::{
     drive_strays_are_exact, driven_exactly, driven_runs, resumed_runs, run_strays_are_exact,

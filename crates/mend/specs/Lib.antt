@@ -2,6 +2,10 @@ pub mod Building
 pub mod Calls
 pub mod Dropped
 pub mod Laws
+pub mod Mendable
 pub mod Mended
 pub mod Names
+pub mod Refusals
+pub mod Rules
+pub mod Texts
 pub mod Traces

@@ -1,7 +1,7 @@
-//! What holds of mended choreographies. Each function is a law: it does nothing, and whoever calls
-//! it knows what its contract says.
+//! What holds of mended choreographies and of mended bundles. Each function is a law: it does
+//! nothing, and whoever calls it knows what its contract says.
 
-ghost use Rattle.mend.specs.Laws.{MendedConnected, StaysAsItIs, DropsToInput};
+ghost use Rattle.mend.specs.Laws.{MendedConnected, StaysAsItIs, DropsToInput, MendedAccepted, MendedPlaysWithout};
 ghost use Rattle.mend.specs.Traces.{PlaysWithout};
 
 /// A law: a mended choreography is connected and has the same roles, and no role sends to itself
@@ -37,4 +37,22 @@ pub fn plays_without()
     dioc_terms::stamped_bodies();
     connectedness::roles_at_ends();
     mended_connected();
+}
+
+/// A law: a mended bundle is accepted, where the bundle has no refusal. It does nothing.
+pub fn mended_accepted()
+    ensures { MendedAccepted }
+{
+    dioc_terms::mentions_are_roles();
+    dioc_terms::casts_are_roles();
+    connectedness::gaps_are_found();
+    mended_connected();
+}
+
+/// A law: where a bundle has no refusal, it plays what the mended bundle plays, with its changes at
+/// once, without the entries of added messages and with each index carried back. It does nothing.
+pub fn mended_plays_without()
+    ensures { MendedPlaysWithout }
+{
+    plays_without();
 }

@@ -3,13 +3,13 @@
 ghost use Rattle.std.specs.Prelude.{◌≡◌, None, IfErr, IfOk, OnOk};
 ghost use Rattle.dioc_terms.specs.Bundles.{IsFormed};
 ghost use Rattle.dioc_terms.specs.Plain.{plain};
-ghost use Rattle.bundle_mend.specs.Refusals.{mend_refusal, IsMendRefusalOf};
+ghost use Rattle.mend.specs.Refusals.{mend_refusal, IsMendRefusalOf};
 ghost use Rattle.aioc_top.specs.Replies.{reply_of, mend_text};
 ghost use Rattle.aioc_top.specs.declared.replies.End.TheVariants as end;
 
 use crate::replies::{Written, bundle_written};
-use bundle_mend::{MendRefusal, mend_bundle};
 use dioc_terms::Bundle;
+use mend::{MendRefusal, mend_bundle};
 use std::alloc::Global;
 
 /// The text of the mended bundle, or the first reason why it can't be mended.
