@@ -7,7 +7,8 @@ use std::process::ExitCode;
 use std::{env, io};
 use trace_picture::{DrawFault, draw, tell};
 
-// The bytes of the words after the program's name. Its one error is want of memory.
+// The bytes of the words after the program's name. An error is a word that isn't UTF-8, or that
+// memory ran out.
 fn read_words(rt: &HostRuntime) -> io::Result<Vec<Vec<u8>>> {
     let alloc = rt.alloc();
     let mut words = Vec::new(alloc);
@@ -25,6 +26,7 @@ fn main(rt: HostRuntime) -> ExitCode {
             let mut out = StdSink::new(rt.stdout());
             draw(alloc, &words, &mut source, &mut out)
         }
+        Err(error) if error.kind() == io::ErrorKind::InvalidData => Err(DrawFault::Usage),
         Err(_) => Err(DrawFault::Memory),
     };
     match drawn {
