@@ -1,4 +1,7 @@
 //! What is made ready of an act before it is known what comes with it.
+//!
+//! Some errors are passed on by a `match`: a `?` is proved through all forms of a process that the
+//! result may hold.
 
 ghost use Rattle.std.specs.Prelude.{◌≡◌, true, false, IfOk};
 ghost use Rattle.dioc_terms.specs.KeptStores.{store_of};
@@ -71,9 +74,20 @@ pub(crate) fn write_at(alloc: Global, value: &Value, part: &Proc) -> Result<Writ
 {
     match part {
         Proc::Recv { var, .. } => Ok(Write::Keeps(var.copy(alloc)?)),
-        Proc::Assign { var, .. } => Ok(Write::Sets(var.copy(alloc)?, value.copy(alloc)?)),
+        Proc::Assign { var, .. } => set_write(alloc, var, value),
         Proc::Read { var, .. } => Ok(Write::Reads(var.copy(alloc)?)),
         _ => Ok(Write::Nothing),
+    }
+}
+
+/// Sets the variable to the value.
+fn set_write(alloc: Global, var: &Name, value: &Value) -> Result<Write, Memory>
+    ensures { IfOk result (λ write. write_of write ≡ growths.Sets var.now value.now) }
+{
+    let var = var.copy(alloc)?;
+    match value.copy(alloc) {
+        Ok(value) => Ok(Write::Sets(var, value)),
+        Err(fault) => give_up(var, fault),
     }
 }
 
@@ -113,7 +127,10 @@ pub(crate) fn growth_at(
             body,
         } => followed_loop(alloc, me, *index, leader, body),
         Proc::ScopeFollow { index, leader, .. } => followed_scope(alloc, me, *index, leader),
-        Proc::IfFollow { .. } => Ok(Growth::ByFlag(hole(alloc)?)),
+        Proc::IfFollow { .. } => match hole(alloc) {
+            Ok(first) => Ok(Growth::ByFlag(first)),
+            Err(fault) => Err(fault),
+        },
         Proc::Tell { .. } | Proc::Gather { .. } => Ok(Growth::Certain(Change::Rest)),
         _ => Ok(Growth::Certain(Change::Becomes(Proc::Skip))),
     }
@@ -186,8 +203,10 @@ fn led_end(alloc: Global, me: &Role, index: Index, others: &[Role]) -> Result<Gr
     ensures { IfOk result (λ made. growth_of made ≡ growths.Certain
         (changes.Becomes (tell me.now others.now index tags.Go (λ q. loads.Flag false)))) }
 {
-    let told = tell_flag(alloc, me, others, index, &Tag::Go, false)?;
-    Ok(Growth::Certain(Change::Becomes(told)))
+    match tell_flag(alloc, me, others, index, &Tag::Go, false) {
+        Ok(told) => Ok(Growth::Certain(Change::Becomes(told))),
+        Err(fault) => Err(fault),
+    }
 }
 
 /// A turn of a loop that another role leads.
@@ -240,16 +259,20 @@ fn led_entrance(alloc: Global, told: Proc, last: Box<Proc>) -> Result<Growth, Me
     ensures { IfOk result (λ made.
         growth_of made ≡ growths.Leading (process told) (process last.value)) }
 {
-    let (first, inner) = match new_boxes(alloc, told, Proc::Skip) {
-        Ok(both) => both,
-        Err(fault) => return give_up(last, fault),
-    };
+    match new_boxes(alloc, told, Proc::Skip) {
+        Ok((first, inner)) => leading(alloc, Entrance { first, last, inner }),
+        Err(fault) => give_up(last, fault),
+    }
+}
+
+/// A box for the leader's own part of an update.
+fn leading(alloc: Global, at: Entrance) -> Result<Growth, Memory>
+    ensures { IfOk result (λ made. growth_of made
+        ≡ growths.Leading (process at.first.value) (process at.last.value)) }
+{
     match hole(alloc) {
-        Ok(own) => Ok(Growth::Leading {
-            at: Entrance { first, last, inner },
-            own,
-        }),
-        Err(fault) => give_up(((first, last), inner), fault),
+        Ok(own) => Ok(Growth::Leading { at, own }),
+        Err(fault) => give_up(at, fault),
     }
 }
 

@@ -147,8 +147,7 @@ pub fn keys_from(
 {
     let mut keys = Vec::with_capacity(alloc, others.len())?;
     for other in others {
-        let key = key_with(alloc, other, me, index, tag)?;
-        keys.push(key)?;
+        keys.push_reserved(key_with(alloc, other, me, index, tag)?);
     }
     Ok(keys)
 }
@@ -174,7 +173,7 @@ fn take_release(alloc: Global, me: &Role, leader: &Role, index: Index) -> Result
         (key leader.now me.now index tags.Out ∷ [])) }
 {
     let mut keys = Vec::with_capacity(alloc, 1)?;
-    keys.push(key_of(alloc, leader, me, index, Tag::Out)?)?;
+    keys.push_reserved(key_of(alloc, leader, me, index, Tag::Out)?);
     Ok(Proc::Gather {
         keys: Items::new(keys),
     })

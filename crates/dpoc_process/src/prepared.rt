@@ -279,13 +279,18 @@ pub fn tell_entry(
 {
     match messages {
         Messages::Nothing => Ok(None),
-        Messages::More(key, payload, _) => {
-            let note = note_of(alloc, payload)?;
-            Ok(Some(Entry::Put {
-                key: key.copy(alloc)?,
-                note,
-            }))
-        }
+        Messages::More(key, payload, _) => noted_entry(alloc, key, payload),
+    }
+}
+
+/// The entry that sends a message.
+fn noted_entry(alloc: Global, key: &Key, payload: &Payload) -> Result<Option<Entry>, Memory>
+    ensures { IfOk result (λ entry. entry ≡ Some (entries.Put key.now (noted (load payload.now)))) }
+{
+    let note = note_of(alloc, payload)?;
+    match key.copy(alloc) {
+        Ok(key) => Ok(Some(Entry::Put { key, note })),
+        Err(fault) => give_up(note, fault),
     }
 }
 
