@@ -15,15 +15,18 @@ import re
 from pages.table import read
 from pages.words import table_of_commands
 
-# What is made while the program is built, released or proved; and folders of other places.
-MADE = re.compile(r"(?:release|/tmp|~|https?:)(?:/|$)|(?:.*/)?out(?:/|$)")
+# What is made while the program is built, released or proved; and places outside of the repository.
+MADE = re.compile(r"/|(?:release|~|https?:)(?:/|$)|(?:.*/)?out(?:/|$)")
 NO_SOURCES = ("out", "out-tc", ".git", "__pycache__")
 # Identifiers of other tools and of the system, and names that a page makes up.
 FOREIGN = {"may_wait", "tests_may", "LD_PRELOAD", "RLIMIT_STACK", "CamelCase"}
 # Names of the language's texts that begin like identifiers: added messages, and those of bundles on the pages.
 OF_TEXTS = re.compile(r"sq_\w*|[a-z]\d*_[a-z0-9]*")
-# Options of programs that a page calls beside `aioc` and the scripts.
-OTHER_OPTIONS = {"--test", "--only", "--minutes", "--seconds", "--jobs", "--proved", "--mermaid", "--svg", "--help", "--version"}
+# Options of programs that a page calls beside `aioc` and the scripts: rt, ./test, the program of pictures, GNU parallel.
+OTHER_OPTIONS = {
+    "--test", "--only", "--minutes", "--seconds", "--jobs", "--proved", "--mermaid", "--svg", "--help", "--version",
+    "--transferfile", "--return", "--cleanup", "--basefile",
+}
 PATH = re.compile(r"[\w.*~-]*(?:/[\w.*~-]*)+|[\w*-]+\.(?:antt|rt|md|edit|txt|py|svg|json)")
 IDENTIFIER = re.compile(r"[A-Za-z_]\w*(?:::[A-Za-z_]\w*)*")
 CAMEL = re.compile(r"[A-Z][a-z0-9]+(?:[A-Z][a-z0-9]*)+")
