@@ -11,19 +11,22 @@ Of blocks only the lines for a shell are looked at: what others show of the prog
 import functools
 import os
 import re
-import subprocess
 
 from pages.table import read
 from pages.words import table_of_commands
 
-# What is made while the program is built, released or proved; and folders of other places.
-MADE = re.compile(r"(?:release|/tmp|~|https?:)(?:/|$)|(?:.*/)?out(?:/|$)")
+# What is made while the program is built, released or proved; and places outside of the repository.
+MADE = re.compile(r"/|(?:release|~|https?:)(?:/|$)|(?:.*/)?out(?:/|$)")
+NO_SOURCES = ("out", "out-tc", ".git", "__pycache__")
 # Identifiers of other tools and of the system, and names that a page makes up.
 FOREIGN = {"may_wait", "tests_may", "LD_PRELOAD", "RLIMIT_STACK", "CamelCase"}
 # Names of the language's texts that begin like identifiers: added messages, and those of bundles on the pages.
 OF_TEXTS = re.compile(r"sq_\w*|[a-z]\d*_[a-z0-9]*")
-# Options of programs that a page calls beside `aioc` and the scripts.
-OTHER_OPTIONS = {"--test", "--only", "--minutes", "--seconds", "--jobs", "--proved", "--mermaid", "--svg", "--help", "--version"}
+# Options of programs that a page calls beside `aioc` and the scripts: rt, ./test, the program of pictures, GNU parallel.
+OTHER_OPTIONS = {
+    "--test", "--only", "--minutes", "--seconds", "--jobs", "--proved", "--mermaid", "--svg", "--help", "--version",
+    "--transferfile", "--return", "--cleanup", "--basefile",
+}
 PATH = re.compile(r"[\w.*~-]*(?:/[\w.*~-]*)+|[\w*-]+\.(?:antt|rt|md|edit|txt|py|svg|json)")
 IDENTIFIER = re.compile(r"[A-Za-z_]\w*(?:::[A-Za-z_]\w*)*")
 CAMEL = re.compile(r"[A-Z][a-z0-9]+(?:[A-Z][a-z0-9]*)+")
@@ -59,14 +62,12 @@ def spans(line):
 @functools.lru_cache(None)
 def known_paths():
     """The ends of all paths of the repository, from each folder on."""
-    listed = subprocess.run(["git", "ls-files", "--cached", "--others", "--exclude-standard"], stdout=subprocess.PIPE, check=True,
-                            text=True).stdout.splitlines()
     ends = set()
-    for path in filter(os.path.exists, listed):
-        parts = path.split("/")
-        for last in range(1, len(parts) + 1):
-            for first in range(last):
-                ends.add("/".join(parts[first:last]))
+    for folder, folders, files in os.walk("."):
+        folders[:] = [it for it in folders if it not in NO_SOURCES]
+        for name in [*folders, *files]:
+            parts = f"{folder}/{name}".split("/")[1:]
+            ends.update("/".join(parts[first:]) for first in range(len(parts)))
     return ends
 
 
@@ -111,7 +112,7 @@ def words_of(top):
     """The words of the sources below a folder, and the parts of their names."""
     words = set()
     for folder, folders, files in os.walk(top):
-        folders[:] = [it for it in folders if it not in ("out", ".git", "__pycache__")]
+        folders[:] = [it for it in folders if it not in NO_SOURCES]
         words.update(re.findall(r"\w+", " ".join([*folders, *files])))
         for file in files:
             if file.endswith((".rt", ".antt", ".edit", ".py", ".txt")) or top in ("tools", ".ci"):
