@@ -144,7 +144,8 @@ def killed_and_resumed(programs, engine, sent):
         needs_parallel()
     piece, held = COUNT // 30, COUNT // 14 * 7
     with Room(programs, COUNT) as room:
-        program = room.program(f"[ -e free ] || ! grep -q 'a({held})' $kept || sleep 600")
+        # (it waits no longer than there is a folder)
+        program = room.program(f"while [ ! -e free ] && grep -q 'a({held})' $kept; do sleep 0.2; done 2> /dev/null")
         words = ["--engine", engine, "--piece", str(piece), "--workers", "2", "--joblog", f"{room.folder}/log"]
         command = [TOOL, "--program", program, "--steps", STEPS, *words, f"{room.folder}/text"]
         whole = "".join(f"{line}\n" for line in room.lines)
