@@ -1,7 +1,8 @@
 """Cuts a text of sessions into pieces, of which each is a text that `aioc sessions` reads.
 
-It knows what the language says of comments, of texts in quotes and of `{` and `}`, and judges nothing else: a session ends where its
-bracket closes, and a text that is none of sessions is cut somewhere, so that the program itself names what is wrong with it.
+It knows what the language says of comments, of texts in quotes and of `{` and `}`, and judges nothing else: a session ends
+where its bracket closes, and a text that is none of sessions is cut somewhere, so that the program itself names what is wrong
+with it.
 """
 import os
 import re
@@ -12,7 +13,7 @@ CHUNK = 1 << 20
 
 # Outside of sessions: what is no space.
 FIRST = re.compile(rb"[^ \t\r\n]")
-# Inside: a whole comment, a whole text in quotes, a bracket, or the begin of a comment or of a text that goes on behind the chunk.
+# Inside: a whole comment, a whole text in quotes, a bracket, or the begin of a comment or text that goes on behind the chunk.
 SIGN = re.compile(rb'//[^\n]*\n|"[ !#-\[\]-~]*(?:\\[ -~][ !#-\[\]-~]*)*"|[{}]|//|"')
 # In a text: its end, a pair, or a byte that may stand in no text, so that the text ends there for the cutter.
 TEXT = re.compile(rb'"|\\[ -~]|\\\Z|[^ !#-\[\]-~]')
@@ -20,7 +21,7 @@ OPENS, CLOSES, SLASH = b"{}/"
 
 
 class Session:
-    """A session of the text: its first byte, its length, its bytes unless they are too many, and whether a bracket of it never closes."""
+    """A session: its first byte, its length, its bytes unless they are too many, and whether a bracket of it never closes."""
 
     def __init__(self, begin, length, text, is_open):
         self.begin, self.length, self.text, self.is_open = begin, length, text, is_open
@@ -68,8 +69,8 @@ class Cutter:
         self.mode, self.depth, self.begin, self.parts, self.length = self.outside, 0, None, [], 0
         return session
 
-    # Each mode reads on from a place of the data. It gives the place up to which it came, and whether a session ended there; where it
-    # stays the mode, the data is read, but for a front of what the next chunk decides.
+    # Each mode reads on from a place of the data. It gives the place up to which it came, and whether a session ended there;
+    # where it stays the mode, the data is read, but for a front of what the next chunk decides.
 
     def outside(self, data, at, is_last):
         found = FIRST.search(data, at)

@@ -25,7 +25,8 @@ def need_parallel():
     how = "GNU parallel is missing: apt-get install parallel (Debian, Ubuntu), or one machine without it: --engine xargs"
     if not shutil.which("parallel"):
         raise Missing(how)
-    said = subprocess.run(["parallel", "--version"], stdin=subprocess.DEVNULL, stdout=subprocess.PIPE, stderr=subprocess.DEVNULL, check=False)
+    piped = {"stdin": subprocess.DEVNULL, "stdout": subprocess.PIPE, "stderr": subprocess.DEVNULL}
+    said = subprocess.run(["parallel", "--version"], check=False, **piped)
     if b"GNU parallel" not in said.stdout:
         raise Missing(how)
 

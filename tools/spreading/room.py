@@ -59,7 +59,7 @@ class Room:
         os.replace(f"{self.path}/{name}.new", f"{self.path}/{name}")
 
     def name_of(self, piece, text):
-        """The file of a piece: its number and how many sessions it has, with a sum over its text and the words behind the program."""
+        """The file of a piece: its number, how many sessions it has, and a sum over its text and the words behind the program."""
         summed = hashlib.blake2b(repr(self.words[1:]).encode() + b"\n" + text, digest_size=8)
         return f"{piece.number:08d}-{len(piece)}-{summed.hexdigest()}"
 

@@ -1,5 +1,5 @@
-"""From a text of sessions to its answers: one thread cuts it and hands the pieces to an engine, one hears which are answered, and the
-main one writes the answers in the order of the text.
+"""From a text of sessions to its answers: one thread cuts it and hands the pieces to an engine, one hears which are answered,
+and the main one writes the answers in the order of the text.
 """
 import os
 import queue

@@ -32,7 +32,8 @@ BatchMode yes
 
 def run(*words):
     try:
-        return subprocess.run(words, stdin=subprocess.DEVNULL, stdout=subprocess.DEVNULL, stderr=subprocess.DEVNULL, check=False).returncode == 0
+        quiet = {"stdin": subprocess.DEVNULL, "stdout": subprocess.DEVNULL, "stderr": subprocess.DEVNULL}
+        return subprocess.run(words, check=False, **quiet).returncode == 0
     except OSError:
         return False
 

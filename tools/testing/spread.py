@@ -1,5 +1,6 @@
-"""tools/spread-sessions: 3,000 sessions in pieces of several sizes, by several workers, with workers that die, and on two hosts, always
-come to one text. That text, and the statuses, are those of docs/LANGUAGE.md. tools/make-sessions makes the bundles of `gen`.
+"""tools/spread-sessions: 3,000 sessions in pieces of several sizes, by several workers, with workers that die, and on two
+hosts, always come to one text. That text, and the statuses, are those of docs/LANGUAGE.md. tools/make-sessions makes the
+bundles of `gen`.
 """
 import os
 import re
@@ -13,6 +14,7 @@ import time
 
 from testing.calls import Call
 from testing.hosts import two_hosts
+from spreading.engines import Missing, need_parallel
 from testing.runner import Failed, Skipped, Test
 
 TOOL, MAKER = "tools/spread-sessions", "tools/make-sessions"
@@ -22,23 +24,24 @@ PATIENCE = 900
 HELLO = "session { aioc { hi: a(1) -> b(x) } }\n"
 GREETED = ["session 0", "put a -> b hi#0.0 = 1", "take a -> b hi#0.0 x", "ended 2"]
 
-# Session k is of the kind k modulo 7: its text, and the lines of its answer with at most five steps; @ stands for k, and & for 2k.
+# Session k is of the kind k modulo 7: its text, and the lines of its answer with at most five steps. K, 2K and 4K stand for
+# numbers.
 KINDS = (
-    ("session { aioc { hi: a(@) -> b(x) } }", ["put a -> b hi#0.0 = @", "take a -> b hi#0.0 x", "ended 2"]),
+    ("session { aioc { hi: a(K) -> b(x) } }", ["put a -> b hi#0.0 = K", "take a -> b hi#0.0 x", "ended 2"]),
     ("session{aioc{o:a(1)->a(x)}}", ["refused: self message #0.0"]),
-    ("session { aioc { x@a = @; while true @a { x@a = x + x } } }",
-     ["set x@a #0.0 = @", "pick a #0.1 true", "set x@a #0.2 = &", "pick a #0.1 true", "set x@a #0.2 = 4k", "stopped 5"]),
+    ("session { aioc { x@a = K; while true @a { x@a = x + x } } }",
+     ["set x@a #0.0 = K", "pick a #0.1 true", "set x@a #0.2 = 2K", "pick a #0.1 true", "set x@a #0.2 = 4K", "stopped 5"]),
     ('// } session {"\nsession { // } }\n aioc { x@a = "} session { \\" // \\\\" } /// "{\n}',
      ['set x@a #0.0 = "} session { \\" // \\\\"', "ended 1"]),
     ("session\n{ aioc { p: a(1) -> c(x); q: b(2) -> c(y) } }", ["refused: unlinked #0.0 then #0.1: b"]),
-    ("session { version 2 aioc { session: session(@) -> a(session) } env { session = 1; } }",
-     ["put session -> a session#0.0 = @", "take session -> a session#0.0 session", "ended 2"]),
-    ('session { script { after 0 env k = "{" } aioc { x@a = @ } }', ['env k = "{"', "set x@a #0.0 = @", "ended 2"]),
+    ("session { version 2 aioc { session: session(K) -> a(session) } env { session = 1; } }",
+     ["put session -> a session#0.0 = K", "take session -> a session#0.0 session", "ended 2"]),
+    ('session { script { after 0 env k = "{" } aioc { x@a = K } }', ['env k = "{"', "set x@a #0.0 = K", "ended 2"]),
 )
 
 
 def put_in(text, k):
-    return text.replace("4k", str(4 * k)).replace("&", str(2 * k)).replace("x@a", "x%a").replace("@a", "%a").replace("@", str(k)).replace("%", "@")
+    return text.replace("4K", str(4 * k)).replace("2K", str(2 * k)).replace("K", str(k))
 
 
 def sessions(count):
@@ -85,15 +88,17 @@ class Room:
         """A program that keeps its input in the file $kept, does what the script says, and then runs the true one."""
         path = f"{self.folder}/dying"
         with open(path, "w", encoding="utf-8") as it:
-            it.write(f'#!/bin/sh\ncd "{self.folder}" || exit 1\nkept=kept.$$\ncat > $kept\n{script}\nexec "{self.programs.aioc}" "$@" < $kept\n')
+            it.write(f'#!/bin/sh\ncd "{self.folder}" || exit 1\nkept=kept.$$\ncat > $kept\n{script}\n')
+            it.write(f'exec "{self.programs.aioc}" "$@" < $kept\n')
         os.chmod(path, 0o755)
         return path
 
 
 def needs_parallel():
-    found = shutil.which("parallel") and subprocess.run(["parallel", "--version"], capture_output=True, stdin=subprocess.DEVNULL, check=False)
-    if not found or b"GNU parallel" not in found.stdout:
-        raise Skipped("GNU parallel isn't here")
+    try:
+        need_parallel()
+    except Missing as missing:
+        raise Skipped("GNU parallel isn't here") from missing
 
 
 def one_text(programs, engine, piece, workers):
@@ -108,7 +113,8 @@ def dies_twice(programs, engine):
     if engine == "parallel":
         needs_parallel()
     with Room(programs, 21) as room:
-        script = f'run=$(cksum < $kept | tr " " -)\n[ "$(ls -d $run.* 2> /dev/null | wc -l)" -ge 2 ] || {{ : > $run.$$; echo session 0; kill -9 $$; }}'
+        count = 'run=$(cksum < $kept | tr " " -)\ncount=$(ls -d $run.* 2> /dev/null | wc -l)'
+        script = f'{count}\n[ "$count" -ge 2 ] || {{ : > $run.$$; echo session 0; kill -9 $$; }}'
         room.call("--engine", engine, "--piece", "7", program=room.program(script)).expect(0, room.lines, None)
 
 
@@ -138,7 +144,8 @@ def killed_and_resumed(programs, engine, sent):
         needs_parallel()
     piece, held = COUNT // 30, COUNT // 14 * 7
     with Room(programs, COUNT) as room:
-        program = room.program(f"[ -e free ] || ! grep -q 'a({held})' $kept || sleep 600")
+        # (it waits no longer than there is a folder)
+        program = room.program(f"while [ ! -e free ] && grep -q 'a({held})' $kept; do sleep 0.2; done 2> /dev/null")
         words = ["--engine", engine, "--piece", str(piece), "--workers", "2", "--joblog", f"{room.folder}/log"]
         command = [TOOL, "--program", program, "--steps", STEPS, *words, f"{room.folder}/text"]
         whole = "".join(f"{line}\n" for line in room.lines)
@@ -165,7 +172,8 @@ FAULTS = {
     "an empty text": ("", [], 6, "there is no session: syntax: byte 0"),
     "a text of comments": ("// none\n ", [], 6, "there is no session: syntax: byte 9"),
     "a bracket that never closes": (OPEN, GREETED, 6, "session 1, from byte 38: a bracket of it never closes: syntax: byte 65"),
-    "a wrong choreography": (HELLO + "session { aioc { x@a = } }" + HELLO, GREETED, 6, "session 1, from byte 38: syntax: byte 61"),
+    "a wrong choreography": (HELLO + "session { aioc { x@a = } }" + HELLO, GREETED, 6,
+                             "session 1, from byte 38: syntax: byte 61"),
     "a byte that may stand nowhere": (HELLO + " $\n" + HELLO, GREETED, 6, "session 1, from byte 39: syntax: byte 39"),
     "a bracket too many": (HELLO + "}" + HELLO, GREETED, 6, "session 1, from byte 38: syntax: byte 38"),
     "a text in quotes that never ends": (HELLO + 'session { aioc { x@a = "} }', GREETED, 6,
@@ -189,20 +197,22 @@ def between_sessions(programs):
     filled = "session { aioc { x@a = 1 } " + " " * (LARGEST // 2) + "}"
     text = HELLO + "//" + "x" * LARGEST + "\n" + filled + filled
     lines = [line for k in (1, 2) for line in (f"session {k}", "set x@a #0.0 = 1", "ended 1")]
-    programs.call(["--engine", "xargs", "--program", programs.aioc], text, program=os.path.abspath(TOOL)).expect(0, GREETED + lines, b"")
+    words = ["--engine", "xargs", "--program", programs.aioc]
+    programs.call(words, text, program=os.path.abspath(TOOL)).expect(0, GREETED + lines, b"")
 
 
 def wrong_words(programs):
     tool = os.path.abspath(TOOL)
-    for words in (["--piece", "0"], ["--piece", "1001"], ["--steps", "2001"], ["--engine", "slurm"], ["--resume"], ["--work", "3"], ["a", "b"]):
-        programs.call(words, HELLO, program=tool).expect(2, b"", None)
+    for words in ("--piece 0", "--piece 1001", "--steps 2001", "--engine slurm", "--resume", "--work 3", "one other"):
+        programs.call(words.split(), HELLO, program=tool).expect(2, b"", None)
     programs.call(["/nowhere"], program=tool).expect(3, b"", ["spread-sessions: read fault: /nowhere: No such file or directory"])
     programs.shell('"$1" --engine xargs --program "$2" > /dev/full', tool, programs.aioc, text=HELLO).expect(4, b"", None)
 
 
 def without_parallel(programs):
     """One line says how to get it."""
-    ran = programs.shell('PATH=/nowhere "$1" "$2" --program "$3"', sys.executable, os.path.abspath(TOOL), programs.aioc, text=HELLO)
+    script = 'PATH=/nowhere "$1" "$2" --program "$3"'
+    ran = programs.shell(script, sys.executable, os.path.abspath(TOOL), programs.aioc, text=HELLO)
     ran.expect(1, b"", None)
     if ran.err.count(b"\n") != 1 or b"apt-get install parallel" not in ran.err:
         raise ran.failed(f"it said {ran.err!r}")
@@ -215,7 +225,8 @@ def left_pieces(programs):
         room.call("--engine", "none", "--piece", "4", "--joblog", log).expect(0, b"", b"")
         script = 'cd "$1" && while read -r name; do sh run 3 "$name"; done < names'
         programs.shell(script, f"{log}.pieces").expect(0, None, b"")
-        room.call("--engine", "xargs", "--piece", "4", "--joblog", log, "--resume", program="/bin/false").expect(0, room.lines, b"")
+        joined = room.call("--engine", "xargs", "--piece", "4", "--joblog", log, "--resume", program="/bin/false")
+        joined.expect(0, room.lines, b"")
 
 
 def on_two_hosts(programs):
@@ -229,7 +240,8 @@ def on_two_hosts(programs):
 def made_as_by_gen(programs):
     """A made session is the bundle of `gen`: as many roles and nodes, and as many entries in its run."""
     for number, size in ((0, 1), (1, 10), (7, 20), (8, 45)):
-        made = programs.call(["1", "--first", str(number), "--size", str(size)], program=os.path.abspath(MAKER)).expect(0, None, b"")
+        words = ["1", "--first", str(number), "--size", str(size)]
+        made = programs.call(words, program=os.path.abspath(MAKER)).expect(0, None, b"")
         bundle = made.out.partition(b"\n")[2].rstrip(b"\n")[:-1]
         told = programs.call(["gen", str(number), str(size)]).expect(0, None, b"").out.decode()
         checked = programs.call(["check"], bundle).expect(0, None, b"").out.decode()
@@ -241,8 +253,8 @@ def made_as_by_gen(programs):
 
 
 def tests(programs):
-    for engine, piece, workers in (("parallel", "1", "4"), ("parallel", "7", "4"), ("parallel", "1000", "1"), ("parallel", "1000", "4"),
-                                   ("xargs", "1", "1"), ("xargs", "7", "1"), ("xargs", "1000", "4")):
+    for engine, piece, workers in (("parallel", "1", "4"), ("parallel", "7", "4"), ("parallel", "1000", "1"),
+                                   ("parallel", "1000", "4"), ("xargs", "1", "1"), ("xargs", "7", "1"), ("xargs", "1000", "4")):
         name = f"spread: {COUNT} sessions in pieces of {piece}, {workers} at once, by {engine}"
         yield Test(name, lambda it=(engine, piece, workers): one_text(programs, *it), 80)
     for engine in ("parallel", "xargs"):
