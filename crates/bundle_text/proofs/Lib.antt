@@ -18,3 +18,11 @@ pub mod BundleAgain
 pub mod Spells
 pub mod SessionSteps
 pub mod SessionLists
+pub mod Through
+pub mod ExpressionsThrough
+pub mod ChoreographiesThrough
+pub mod RulesThrough
+pub mod LinesThrough
+pub mod SectionsThrough
+pub mod Prefixes
+pub mod Begins

@@ -1,6 +1,6 @@
-//! What holds of every text of a bundle.
+//! What holds of every text of a bundle, and of the first token that may not stand in a text.
 
-ghost use Rattle.bundle_text.specs.Laws.{OneBundle, SpelledIsFormed, WrittenIsRead, WrittenIsSpelled, ReadIsWritten, OneListOfSessions};
+ghost use Rattle.bundle_text.specs.Laws.{OneBundle, SpelledIsFormed, WrittenIsRead, WrittenIsSpelled, ReadIsWritten, OneListOfSessions, BundlesGoThrough, SessionsGoThrough, NoBundleBeginsSo, NoSessionsBeginSo};
 
 /// A law: a text spells at most one bundle. It does nothing.
 pub fn one_bundle()
@@ -33,4 +33,26 @@ pub fn read_is_written()
 /// A law: a text spells at most one list of sessions. It does nothing.
 pub fn one_list_of_sessions()
     ensures { OneListOfSessions }
+{}
+
+/// A law: in a text that reads as a bundle each token may stand where it does, and no more is
+/// wanted at its end. It does nothing.
+pub fn bundles_go_through()
+    ensures { BundlesGoThrough }
+{}
+
+/// A law: the same of a text that reads as sessions. It does nothing.
+pub fn sessions_go_through()
+    ensures { SessionsGoThrough }
+{}
+
+/// A law: where a token of a text may not stand, no bundle begins with the tokens up to it,
+/// whatever follows them: so that token, or one before it, has to change. It does nothing.
+pub fn no_bundle_begins_so()
+    ensures { NoBundleBeginsSo }
+{}
+
+/// A law: the same of sessions. It does nothing.
+pub fn no_sessions_begin_so()
+    ensures { NoSessionsBeginSo }
 {}

@@ -12,7 +12,8 @@ mod stops;
 mod writer;
 
 pub use laws::{
-    one_bundle, one_list_of_sessions, read_is_written, spelled_is_formed, written_is_read,
+    bundles_go_through, no_bundle_begins_so, no_sessions_begin_so, one_bundle,
+    one_list_of_sessions, read_is_written, sessions_go_through, spelled_is_formed, written_is_read,
     written_is_spelled,
 };
 pub use reader::read_bundle;

@@ -13,9 +13,9 @@ use Rattle.wanted_tokens.specs.Looks.{look}
 use Rattle.wanted_tokens.specs.Goals.{left_brace, right_brace, equal, on_word, do_word, rule_word}
 use Rattle.wanted_tokens.specs.Takings.{Takes, Passes, Stops}
 use Rattle.wanted_tokens.specs.Wanted.{taking}
-use Rattle.wanted_laws.proofs.Through.{Through, takes, passes}
-use Rattle.wanted_laws.proofs.Expressions.{seen_number, expression_goes}
-use Rattle.wanted_laws.proofs.Choreographies.{number_goes, value_goes, at_brace, choreography_goes}
+use Rattle.bundle_text.proofs.Through.{Through, takes, passes}
+use Rattle.bundle_text.proofs.ExpressionsThrough.{seen_number, expression_goes}
+use Rattle.bundle_text.proofs.ChoreographiesThrough.{number_goes, value_goes, at_brace, choreography_goes}
 use Rattle.dioc_terms.specs.declared.values.Value.{Value}
 use Rattle.dioc_terms.specs.Plain.{PlainRule}
 use Rattle.rule_syntax.specs.Grammar.{HasPriority, no_priority, priority, negative_priority, IsRule, IsBinding, PlainChange, IsChange, adds, drops, sets}

@@ -7,8 +7,8 @@ use Rattle.wanted_tokens.specs.Wanted.{unwanted}
 use Rattle.bundle_text.specs.Many.{Many}
 use Rattle.bundle_text.specs.Grammar.{IsBundle}
 use Rattle.bundle_text.specs.Sessions.{IsSession}
-use Rattle.wanted_laws.proofs.Prefixes.{same_stop}
-use Rattle.wanted_laws.proofs.Sections.{whole_goes, sessions_go}
+use Rattle.bundle_text.proofs.Prefixes.{same_stop}
+use Rattle.bundle_text.proofs.SectionsThrough.{whole_goes, sessions_go}
 
 pub no_bundle : (text others : List Lexeme) (place : ℕ) (b : PlainBundle) → unwanted goal.Bundle text ≡ Some place → place < length text → IsBundle (take (suc place) text ++ others) b [] → ⊥
 no_bundle text others place b is within bundle =

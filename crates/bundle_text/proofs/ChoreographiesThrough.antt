@@ -21,8 +21,8 @@ use Rattle.wanted_tokens.specs.Takings.{Takes, Passes, Stops}
 use Rattle.wanted_tokens.specs.Expressions.{value}
 use Rattle.wanted_tokens.specs.Choreographies.{property}
 use Rattle.wanted_tokens.specs.Wanted.{taking}
-use Rattle.wanted_laws.proofs.Through.{Through, takes, passes, same_effect}
-use Rattle.wanted_laws.proofs.Expressions.{seen_number, expression_goes}
+use Rattle.bundle_text.proofs.Through.{Through, takes, passes, same_effect}
+use Rattle.bundle_text.proofs.ExpressionsThrough.{seen_number, expression_goes}
 
 -- ---- values
 

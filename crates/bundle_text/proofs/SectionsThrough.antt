@@ -12,8 +12,8 @@ use Rattle.wanted_tokens.specs.Goals.{left_brace, right_brace, semicolon, colon,
 use Rattle.wanted_tokens.specs.Takings.{Takes, Passes}
 use Rattle.wanted_tokens.specs.Wanted.{taking}
 use Rattle.std.specs.Prelude.{nat_le}
-use Rattle.wanted_laws.proofs.Through.{Through, takes, passes, same_effect}
-use Rattle.wanted_laws.proofs.Choreographies.{number_goes, value_goes, at_brace, choreography_goes}
+use Rattle.bundle_text.proofs.Through.{Through, takes, passes, same_effect}
+use Rattle.bundle_text.proofs.ChoreographiesThrough.{number_goes, value_goes, at_brace, choreography_goes}
 use Rattle.std.specs.Str.Parse.{digits_value}
 use Rattle.dioc_terms.specs.declared.values.Value.{Value}
 use Rattle.dioc_terms.specs.declared.names.Role.{Role}
@@ -29,8 +29,8 @@ use Rattle.wanted_tokens.specs.Looks.{place_word_of}
 use Rattle.wanted_tokens.specs.Tokens.{two}
 use Rattle.wanted_tokens.specs.Sections.{sections, bundle}
 use Rattle.wanted_tokens.specs.Wanted.{version_behind, reading_behind, next_stop, stop}
-use Rattle.wanted_laws.proofs.Rules.{rules_go, change_goes}
-use Rattle.wanted_laws.proofs.Lines.{trace_goes}
+use Rattle.bundle_text.proofs.RulesThrough.{rules_go, change_goes}
+use Rattle.bundle_text.proofs.LinesThrough.{trace_goes}
 
 -- ---- items
 

@@ -11,8 +11,8 @@ use Rattle.wanted_tokens.specs.Looks.{look}
 use Rattle.wanted_tokens.specs.Goals.{right_brace, equal, at_sign, arrow_sign, dot, hash}
 use Rattle.wanted_tokens.specs.Takings.{Takes}
 use Rattle.wanted_tokens.specs.Wanted.{taking}
-use Rattle.wanted_laws.proofs.Through.{Through, takes, passes}
-use Rattle.wanted_laws.proofs.Choreographies.{number_goes, value_goes}
+use Rattle.bundle_text.proofs.Through.{Through, takes, passes}
+use Rattle.bundle_text.proofs.ChoreographiesThrough.{number_goes, value_goes}
 use Rattle.dioc_terms.specs.declared.names.Index.{Index}
 use Rattle.dioc_terms.specs.declared.processes.Tag.{Tag}
 use Rattle.dioc_terms.specs.declared.processes.Tag.TheVariants as tag

@@ -26,7 +26,7 @@ use Rattle.wanted_tokens.specs.Goals.{dot, right_paren}
 use Rattle.wanted_tokens.specs.Takings.{Takes, Stops}
 use Rattle.wanted_tokens.specs.Expressions.{take_operand, take_negated as negated_goal}
 use Rattle.wanted_tokens.specs.Wanted.{taking}
-use Rattle.wanted_laws.proofs.Through.{Through, takes, passes, same_effect}
+use Rattle.bundle_text.proofs.Through.{Through, takes, passes, same_effect}
 
 -- ---- operators
 
