@@ -1,5 +1,5 @@
 -- Of a net that has not ended and has room, each move has no fault, and there is one.
-use Rattle.std.proofs.Common.{◌≡◌, ◌<◌, ℕ, zero, suc, List, [], ◌∷◌, ◌++◌, length, Bool, true, false, ◌&&◌, not, Option, Some, None, slice_get, filter, map, refl, sym, ap, ◌∙◌, subst, arith}
+use Rattle.std.proofs.Common.{◌≡◌, ◌<◌, ℕ, zero, suc, List, [], ◌∷◌, ◌++◌, length, Bool, true, false, ◌&&◌, not, Option, Some, None, Contains, slice_get, filter, map, refl, sym, ap, ◌∙◌, subst, arith}
 use Rattle.std.specs.Prelude.{flat_map, if◌then◌else◌, nat_le}
 use Rattle.std.specs.Option.{option_map_or}
 use Rattle.std.proofs.lemmas.Bool.{and_parts, cond-true, cond-false, le-ltb, leb-true, lt-leb, or_left, or_right}
@@ -17,7 +17,7 @@ use Rattle.net_core.specs.declared.moves.Move.{Move}
 use Rattle.net_core.specs.declared.moves.Move.TheVariants as move
 use Rattle.net_core.specs.Net.{first_fault}
 use Rattle.net_core.specs.Schedule.{change_due, is_ready, moves, role_moves}
-use Rattle.net_core.proofs.MoveLemmas.{has_move, has_some, reached}
+use Rattle.net_core.proofs.MoveLemmas.{has_move, reached}
 use Rattle.role_network.specs.declared.faults.ChangeFault.TheVariants.{Full, NotYet}
 use Rattle.role_network.specs.Changes.{change_fault, script_fault}
 use Rattle.role_network.specs.Nets.{IsSoundRun, NetState, network_of}
@@ -38,9 +38,8 @@ each_at P [] place m h is = absurd (none_some is)
 each_at P (x ∷ xs) zero m h is = subst P (some_same is) h.0
 each_at P (x ∷ xs) (suc i) m h is = each_at P xs i m h.1 is
 
-some_length : (ms : List Move) → has_some ms ≡ true → 0 < length ms
-some_length [] h = cc
-some_length (m ∷ ms) h = omega arith
+some_length : (ms : List Move) (m : Move) → Contains ms m → 0 < length ms
+some_length ms m h = omega (arith, h.1)
 
 module _ (net : NetState) (goes : has_ended net ≡ false) (room : length net.history < net.limit) where
   open_end : nat_le net.limit (length net.history) ≡ false
@@ -107,6 +106,6 @@ module _ (net : NetState) (goes : has_ended net ≡ false) (room : length net.hi
 pub some_move : Known → Progress → (net : NetState) → IsSoundRun net → has_ended net ≡ false → 0 < length (moves (setting net.bundle) (network_of net))
 some_move known progress net run goes =
     let at = reached known net.bundle run.sound net.history (network_of net) run.runs in
-    some_length (moves (setting net.bundle) (network_of net))
-    (has_move known net.bundle run.sound (network_of net) at.0 at.1
-    (progress net.bundle net.history (network_of net) run.sound run.runs goes))
+    let next = progress net.bundle net.history (network_of net) run.sound run.runs goes in
+    some_length (moves (setting net.bundle) (network_of net)) (move.Act next.role next.act)
+    (has_move known net.bundle run.sound (network_of net) at.0 at.1 next)
