@@ -1,2 +1,3 @@
 pub mod Harmless
 pub mod Repeats
+pub mod Sources

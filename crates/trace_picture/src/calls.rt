@@ -183,24 +183,30 @@ fn say<E: Sink>(line: &[u8], err: &mut E)
     }
 }
 
-/// Writes the line that tells a fault, and answers the exit code. A fault of the sink changes
-/// nothing. Of `BadLine` nothing is written where memory runs out; the other lines take none.
-pub fn tell<E: Sink>(alloc: Global, fault: DrawFault, err: &mut E) -> u8
-    ensures code { result ≡ fault_code fault }
-    ensures line { Tells fault (E.state err.old) (E.state err.new) }
+/// Writes the line that tells a fault.
+fn write_told<E: Sink>(alloc: Global, fault: DrawFault, err: &mut E)
+    ensures { Tells fault (E.state err.old) (E.state err.new) }
 {
     match fault {
         DrawFault::Usage => say(b"usage: aioc_diagram [--mermaid | --svg]\n", err),
         DrawFault::Read => say(b"read fault\n", err),
         DrawFault::Write => say(b"write fault\n", err),
         DrawFault::TooLong => say(b"too long\n", err),
-        DrawFault::BadLine(number) => {
-            if let Ok(line) = bad_line(alloc, number) {
-                say(&line, err);
-            }
-        }
+        DrawFault::BadLine(number) => match bad_line(alloc, number) {
+            Ok(line) => say(&line, err),
+            Err(Memory) => {}
+        },
         DrawFault::TooManyRoles => say(b"refused: too many roles\n", err),
         DrawFault::Memory => say(b"out of memory\n", err),
     }
+}
+
+/// Writes the line that tells a fault, and answers the exit code. A fault of the sink changes
+/// nothing. Of `BadLine` nothing is written where memory runs out; the other lines take none.
+pub fn tell<E: Sink>(alloc: Global, fault: DrawFault, err: &mut E) -> u8
+    ensures code { result ≡ fault_code fault }
+    ensures line { Tells fault (E.state err.old) (E.state err.new) }
+{
+    write_told(alloc, fault, err);
     fault.code()
 }

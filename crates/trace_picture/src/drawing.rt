@@ -112,6 +112,8 @@ pub fn write_picture(
         × (length (lanes_of entries.now) ≤ most_roles)) }
     ensures long { IsErrOf result PictureFault.TooManyEntries
         → most_entries < length entries.now }
+    ensures few { IsErrOf result PictureFault.TooManyRoles
+        → length entries.now ≤ most_entries }
     ensures many { IsErrOf result PictureFault.TooManyRoles
         → most_roles < length (lanes_of entries.now) }
 {
