@@ -1,4 +1,4 @@
-"""The program that draws traces: its stored run, the pictures of the pages, and its statuses as docs/PICTURES.md has them."""
+"""The program that draws traces: its stored run, the pictures of the pages, and its statuses as docs/LOOKING.md has them."""
 import os
 
 from testing.calls import quoted
