@@ -12,12 +12,13 @@ SMALL = "aioc { hi: a(1) -> b(x) }"
 MANY_ENTRIES = "aioc { while true @a { o: a(1) -> b(x) } }"
 LONG_TRACE = SMALL + " trace { " + "take a -> b hi#0.0 x\n" * 40_000 + "}"
 MANY_SESSIONS = "session { aioc { x@a = 1; o: a(x) -> b(y) } } " * 1000
-DEEP = "aioc { " + "while false @a { " * 255 + "skip" + " }" * 255 + " }"
+# (no deep text: a stack that can't grow under the limit ends the program by a signal, which no program can answer)
+MANY_RULES = SMALL + " rules { " + "rule r { on { N.k == 1 } do { o: a(1) -> b(x); p: b(x) -> a(y) } } " * 2000 + "}"
 
 BUNDLES = (
     ("a long run", ["step", "--steps", "20000"], MANY_ENTRIES),
     ("a long trace", ["replay"], LONG_TRACE),
-    ("a deep text", ["upgrade"], DEEP),
+    ("many rules", ["replay"], MANY_RULES),
     ("a thousand sessions", ["sessions", "--workers", "1"], MANY_SESSIONS),
 )
 
