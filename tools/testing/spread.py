@@ -253,8 +253,9 @@ def made_as_by_gen(programs):
 
 
 def tests(programs):
-    for engine, piece, workers in (("parallel", "1", "4"), ("parallel", "7", "4"), ("parallel", "1000", "1"),
-                                   ("parallel", "1000", "4"), ("xargs", "1", "1"), ("xargs", "7", "1"), ("xargs", "1000", "4")):
+    # (GNU parallel takes twice what xargs takes to start a piece, so the pieces of one session go by xargs)
+    for engine, piece, workers in (("xargs", "1", "4"), ("parallel", "7", "4"), ("xargs", "7", "1"), ("parallel", "1000", "1"),
+                                   ("parallel", "1000", "4"), ("xargs", "1000", "4")):
         name = f"spread: {COUNT} sessions in pieces of {piece}, {workers} at once, by {engine}"
         yield Test(name, lambda it=(engine, piece, workers): one_text(programs, *it), 80)
     for engine in ("parallel", "xargs"):
