@@ -15,11 +15,11 @@ use Rattle.bundle_text.specs.Sessions.{SpellsSessions}
 use Rattle.bundle_text.specs.Laws.{OneBundle, SpelledIsFormed, WrittenIsSpelled}
 use Rattle.dioc_terms.specs.Bundles.{IsFormed}
 use Rattle.marked_laws.proofs.Shapes.{none_some, some_same}
-use Rattle.marked_laws.specs.Network.{Network, network_start, network_run, network_ended}
-use Rattle.net_core.specs.Headline.{EveryRun, Headline}
-use Rattle.net_core.specs.Schedule.{IsPrompt}
+use Rattle.network_steps.specs.Network.{Network, network_start, network_run, network_ended}
+use Rattle.net_laws.specs.Headline.{EveryRun, Headline}
+use Rattle.network_steps.specs.Schedule.{IsPrompt}
 use Rattle.marked_laws.specs.Versions.{RunsReadNoVersion, with_version}
-use Rattle.net_core.specs.Laws.{RunsAreSound, SchedulesReadNoVersion}
+use Rattle.net_laws.specs.Laws.{RunsAreSound, SchedulesReadNoVersion}
 use Rattle.net_drive.specs.ResumedLaws.{ResumedRuns, RunStraysAreExact}
 use Rattle.dioc_terms.specs.declared.names.Role.{Role}
 use Rattle.dioc_terms.specs.Equality.{member}

@@ -8,9 +8,9 @@ use Rattle.dioc_terms.specs.Messages.{is_aux, visible}
 use Rattle.dioc_terms.specs.Plain.{PlainBundle}
 use Rattle.command_words.specs.declared.commands.Options.{Options}
 use Rattle.marked_laws.specs.Laws.{IsSound}
-use Rattle.net_core.specs.Headline.{EveryRun}
-use Rattle.net_core.specs.Laws.{AcceptedIsSound}
-use Rattle.net_core.proofs.MoveLemmas.{some_got}
+use Rattle.net_laws.specs.Headline.{EveryRun}
+use Rattle.net_laws.specs.Laws.{AcceptedIsSound}
+use Rattle.net_laws.proofs.MoveLemmas.{some_got}
 use Rattle.net_drive.specs.Driven.{driven}
 use Rattle.net_drive.specs.Laws.{DrivenExactly, DrivenRuns, Drives}
 use Rattle.net_drive.specs.Strays.{DriveStraysAreExact}

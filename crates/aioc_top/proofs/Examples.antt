@@ -8,7 +8,7 @@ use Rattle.dioc_terms.specs.declared.bundles.Last.{Last}
 use Rattle.dioc_terms.specs.declared.bundles.Last.TheVariants as last
 use Rattle.dioc_terms.specs.declared.processes.Tag.TheVariants.{Op}
 use Rattle.dioc_terms.specs.Plain.{PlainBundle}
-use Rattle.net_core.proofs.Examples.{program, hello, hello_run, put, at, val}
+use Rattle.net_laws.proofs.Examples.{program, hello, hello_run, put, at, val}
 use Rattle.rule_checks.specs.declared.refusals.Refusal.TheVariants.{UnknownRole}
 use Rattle.rule_checks.specs.declared.refusals.Where.TheVariants as place
 use Rattle.command_words.specs.declared.commands.Options.{Options}

@@ -5,11 +5,11 @@ use Rattle.std.specs.Option.{option_map_or}
 use Rattle.dioc_terms.specs.declared.entries.Entry.{Entry}
 use Rattle.dioc_terms.specs.Plain.{PlainBundle}
 use Rattle.trace_text.specs.Runs.{run_text}
-use Rattle.marked_laws.specs.Network.{network_run, network_start, network_ended, Network}
-use Rattle.net_core.specs.Laws.{RunsAreSound, Arrives}
-use Rattle.net_core.specs.Schedule.{IsPrompt}
+use Rattle.network_steps.specs.Network.{network_run, network_start, network_ended, Network}
+use Rattle.net_laws.specs.Laws.{RunsAreSound, Arrives}
+use Rattle.network_steps.specs.Schedule.{IsPrompt}
 use Rattle.role_runner.specs.Endings.{IsRun}
-use Rattle.role_network.specs.Nets.{network_at}
+use Rattle.net_core.specs.Nets.{network_at}
 use Rattle.rule_checks.specs.Refusals.{IsAccepted}
 use Rattle.schedule.specs.declared.runs.Finish.{Finish}
 use Rattle.schedule.specs.declared.runs.Finish.TheVariants as finish

@@ -7,8 +7,8 @@ use Rattle.dioc_terms.specs.declared.entries.Entry.{Entry}
 use Rattle.dioc_terms.specs.declared.faults.Memory.{Memory}
 use Rattle.dioc_terms.specs.Plain.{PlainBundle}
 use Rattle.command_words.specs.declared.commands.Options.{Options}
-use Rattle.marked_laws.specs.Network.{Network, network_run}
-use Rattle.net_core.specs.Schedule.{sched_from}
+use Rattle.network_steps.specs.Network.{Network, network_run}
+use Rattle.network_steps.specs.Schedule.{sched_from}
 use Rattle.net_drive.specs.Resumed.{run_stray}
 use Rattle.net_drive.specs.ResumedLaws.{RunStraysAreExact}
 use Rattle.aioc_top.specs.declared.replies.Written.{Written}

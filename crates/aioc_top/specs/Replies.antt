@@ -11,14 +11,14 @@ use Rattle.dioc_terms.specs.Terms.{Term, nodes}
 use Rattle.projection.specs.Projection.{projected}
 use Rattle.global_steps.specs.Follow.{State, play, stray}
 use Rattle.global_steps.specs.Running as running
-use Rattle.marked_laws.specs.Network.{Network, network_run, network_ended}
+use Rattle.network_steps.specs.Network.{Network, network_run, network_ended}
 use Rattle.marked_laws.specs.Versions.{with_version}
 use Rattle.bundle_text.specs.Writing.{bundle_text}
 use Rattle.session_pool.specs.Answers.{PlainAnswer, answers_of}
 use Rattle.trace_text.specs.Lines.{line_end}
 use Rattle.trace_text.specs.Process.{process_text}
 use Rattle.trace_text.specs.Runs.{run_text}
-use Rattle.net_core.specs.Schedule.{sched, IsPrompt}
+use Rattle.network_steps.specs.Schedule.{sched, IsPrompt}
 use Rattle.net_drive.specs.Driven.{driven}
 use Rattle.net_drive.specs.Strays.{drive_stray}
 use Rattle.net_drive.specs.Resumed.{resumed_history, run_stray}

@@ -13,10 +13,10 @@ use Rattle.limits.specs.Limits.{most_bytes}
 use Rattle.bundle_text.specs.Grammar.{Spells}
 use Rattle.bundle_text.specs.Sessions.{SpellsSessions}
 use Rattle.global_steps.specs.Follow.{play}
-use Rattle.marked_laws.specs.Network.{Network, network_ended, network_run}
+use Rattle.network_steps.specs.Network.{Network, network_ended, network_run}
 use Rattle.marked_laws.specs.Versions.{with_version}
-use Rattle.net_core.specs.Schedule.{sched, IsPrompt}
-use Rattle.net_core.specs.Headline.{Headline}
+use Rattle.network_steps.specs.Schedule.{sched, IsPrompt}
+use Rattle.net_laws.specs.Headline.{Headline}
 use Rattle.net_drive.specs.Driven.{driven}
 use Rattle.net_drive.specs.Strays.{IsDriveStray}
 use Rattle.rule_checks.specs.Refusals.{IsAccepted, refusal}

@@ -5,10 +5,10 @@ ghost use Rattle.aioc_io.specs.Faults.{Rose};
 ghost use Rattle.aioc_io.specs.Sink.{SaysLine};
 ghost use Rattle.mend.specs.Laws.{MendedAccepted};
 ghost use Rattle.bundle_text.specs.Laws.{OneBundle, SpelledIsFormed, WrittenIsSpelled};
-ghost use Rattle.net_core.specs.Headline.{EveryRun};
+ghost use Rattle.net_laws.specs.Headline.{EveryRun};
 ghost use Rattle.load_gen.specs.Laws.{MadeAreAccepted};
 ghost use Rattle.marked_laws.specs.Versions.{RunsReadNoVersion};
-ghost use Rattle.net_core.specs.Laws.{AcceptedIsSound, RunsAreSound, SchedulesReadNoVersion};
+ghost use Rattle.net_laws.specs.Laws.{AcceptedIsSound, RunsAreSound, SchedulesReadNoVersion};
 ghost use Rattle.net_drive.specs.Laws.{DrivenExactly, DrivenRuns};
 ghost use Rattle.net_drive.specs.Strays.{DriveStraysAreExact};
 ghost use Rattle.net_drive.specs.ResumedLaws.{ResumedRuns, RunStraysAreExact};
@@ -31,10 +31,10 @@ use dioc_terms::Memory;
 use load_gen::made_are_accepted;
 use marked_laws::runs_read_no_version;
 use mend::mended_accepted;
-use net_core::{accepted_is_sound, every_run, runs_are_sound, schedules_read_no_version};
 use net_drive::{
     drive_strays_are_exact, driven_exactly, driven_runs, resumed_runs, run_strays_are_exact,
 };
+use net_laws::{accepted_is_sound, every_run, runs_are_sound, schedules_read_no_version};
 use role_runner::Gate;
 use std::alloc::Global;
 use std::sync::Wait;

@@ -3,6 +3,7 @@
 use Rattle.std.proofs.Common.{◌≡◌, ℕ, ◌+◌, ◌<◌, ◌≤◌, ◌⊎◌, inl, inr, List, [], ◌∷◌, ◌++◌, length, map, drop, refl, ap, sym, ◌∙◌, subst, arith, length-drop, length-append, drop-drop, All}
 use Rattle.std.specs.List.{AllByRecursion}
 use Rattle.std.proofs.lemmas.List.Elements.{All-from_recursion}
+use Rattle.limits.specs.Limits.{most_sessions}
 use Rattle.dioc_terms.specs.declared.bundles.Bundle.{Bundle}
 use Rattle.dioc_terms.specs.declared.bundles.Trace.{Trace}
 use Rattle.dioc_terms.specs.Bundles.{IsFormed}
@@ -106,7 +107,7 @@ session_none {text} {at} {place} (in_bundle {version = version} {skipped = skipp
     let stand = subst (λ n. Many (IsSection n) bundle.inside bundle.sections (closed_before to)) same.0 bundle.stand in
     no_sections ends bundle.sections b.choreo b.trace to (subst (λ l. Many (IsSection version) l bundle.sections (closed_before to)) (same.1 ∙ drop-drop skipped (at + 2) text) stand) bundle.made.choreo bundle.made.trace
 
-sessions_none : (text : List Lexeme) (place : ℕ) → EndsAmongSessions text place → (others : List PlainBundle) → Many IsSession text others [] → 0 < length others → length others ≤ 1000 → ⊥
+sessions_none : (text : List Lexeme) (place : ℕ) → EndsAmongSessions text place → (others : List PlainBundle) → Many IsSession text others [] → 0 < length others → length others ≤ most_sessions → ⊥
 sessions_none text place e others stand some few = by_rest more.rest more.are more.stand
   where
     more : Behind IsSession e.sessions others (drop e.next text) []
@@ -116,7 +117,7 @@ sessions_none text place e others stand some few = by_rest more.rest more.are mo
     at_end (inl inside) none same = omega (arith, length-drop e.next text, ap length none)
     at_end (inr none) nothing same = omega (arith, ap length none)
 
-    further_one : EndsInSession text e.next place ⊎ ((place ≡ e.next) × (1000 ≤ length e.sessions)) → (first : PlainBundle) (rest : List PlainBundle) (middle : List Lexeme) → IsSession (drop e.next text) first middle → length others ≡ length e.sessions + length (first ∷ rest) → ⊥
+    further_one : EndsInSession text e.next place ⊎ ((place ≡ e.next) × (most_sessions ≤ length e.sessions)) → (first : PlainBundle) (rest : List PlainBundle) (middle : List Lexeme) → IsSession (drop e.next text) first middle → length others ≡ length e.sessions + length (first ∷ rest) → ⊥
     further_one (inl ends) first rest middle r counts = session_none ends first middle r
     further_one (inr full) first rest middle r counts = let many = full.1 in omega arith
 

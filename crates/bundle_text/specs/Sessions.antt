@@ -1,7 +1,7 @@
 -- Sessions, each a bundle in brackets: which of them a text spells, and where the reading of one
 -- ends that spells none.
 use Rattle.std.specs.Prelude.{◌≡◌, ◌≢◌, ℕ, ◌+◌, ◌<◌, ◌≤◌, ◌⊎◌, List, [], length, drop, codes}
-use Rattle.limits.specs.Limits.{most_bytes}
+use Rattle.limits.specs.Limits.{most_bytes, most_sessions}
 use Rattle.dioc_terms.specs.Plain.{PlainBundle}
 use Rattle.aioc_tokens.specs.declared.kinds.Token.{Token}
 use Rattle.aioc_tokens.specs.declared.words.Punctuator.TheVariants as punctuator
@@ -13,9 +13,6 @@ use Rattle.bundle_text.specs.Many.{Many}
 use Rattle.bundle_text.specs.Grammar.{opened_by, closed_before, Section, IsSection, joined_sections, IsBundle}
 use Rattle.bundle_text.specs.Readers.{FindsVersion}
 use Rattle.bundle_text.specs.Stops.{EndsInSection, named_place}
-
-abbrev pub most_sessions : ℕ
-most_sessions = 1000
 
 -- `session {` and what follows
 abbrev pub session_before : List Lexeme → List Lexeme

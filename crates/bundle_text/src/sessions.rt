@@ -3,10 +3,10 @@
 ghost use Rattle.std.specs.Prelude.{◌≡◌, ◌≢◌, ◌<◌, ◌≤◌, ◌+◌, ℕ, All, [], drop, length, map, Err, IfOk, IfErr};
 ghost use Rattle.dioc_terms.specs.Bundles.{IsFormed};
 ghost use Rattle.dioc_terms.specs.Plain.{plain};
-ghost use Rattle.limits.specs.Limits.{greatest_place};
+ghost use Rattle.limits.specs.Limits.{greatest_place, most_sessions};
 ghost use Rattle.bundle_text.specs.Readers.{found_in};
 ghost use Rattle.bundle_text.specs.SessionReaders.{TakesBundle, TakesClosed, TakesSession};
-ghost use Rattle.bundle_text.specs.Sessions.{EndsAmongSessions, EndsBeforeClose, EndsInBrackets, EndsInSession, IsSession, SessionsEndAtByte, SpellsNoSessions, SpellsSessions, most_sessions};
+ghost use Rattle.bundle_text.specs.Sessions.{EndsAmongSessions, EndsBeforeClose, EndsInBrackets, EndsInSession, IsSession, SessionsEndAtByte, SpellsNoSessions, SpellsSessions};
 ghost use Rattle.bundle_text.specs.Many.{Many};
 ghost use Rattle.bundle_text.specs.Stops.{place_in};
 
@@ -17,12 +17,9 @@ use crate::sections::section_at;
 use crate::stops::{Stop, fault, lost};
 use aioc_tokens::{Lexed, Punctuator, Sort, TokenFault, sorts, tokens};
 use dioc_terms::{Bundle, SyntaxFault};
-use limits::MOST_BYTES;
+use limits::{MOST_BYTES, MOST_SESSIONS};
 use std::alloc::Global;
 use wanted_tokens::Goal;
-
-/// How many sessions a text may have.
-const MOST_SESSIONS: usize = 1000;
 
 /// `{`
 const OPENING: Sort = Sort::Symbol(Punctuator::LeftBrace);

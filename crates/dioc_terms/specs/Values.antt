@@ -2,6 +2,7 @@
 use Rattle.std.specs.Prelude.{ℕ, ◌+◌, List, [], ◌∷◌, ◌++◌, length, Bool, false, ◌&&◌, ◌||◌, not, nat_le, if◌then◌else◌, ℤ, pos, negsuc, ◌+ℤ◌, ◌-ℤ◌, ◌*ℤ◌, neg_ℤ, int_lt, int_le, int_div, int_rem}
 use Rattle.std.specs.Ordering.{int_eq, is_lt, nat_cmp}
 use Rattle.std.specs.Cmp.Lexicographic.{slice_cmp}
+use Rattle.limits.specs.Limits.{largest, most_text_bytes}
 use Rattle.dioc_terms.specs.declared.values.Value.{Value}
 use Rattle.dioc_terms.specs.declared.values.Value.TheVariants as value
 use Rattle.dioc_terms.specs.declared.values.Value.TheVariants.{Nil, Int, Text}
@@ -14,7 +15,7 @@ use Rattle.dioc_terms.specs.Stores.{Store, variable}
 -- the whole number where it fits in 64 bits, else Nil
 abbrev pub fitting : ℤ → Value
 fitting z =
-    if int_le (negsuc 9223372036854775807) z && int_le z (pos 9223372036854775807) then Int z else
+    if int_le (negsuc largest) z && int_le z (pos largest) then Int z else
     Nil
 
 -- the quotient truncated toward zero, Nil for a zero divisor or where it doesn't fit
@@ -26,7 +27,7 @@ abbrev pub remainder : ℤ → ℤ → Value
 remainder a b = if int_eq b (pos 0) then Nil else fitting (int_rem a b)
 
 abbrev pub joined_text : List ℕ → List ℕ → Value
-joined_text a b = if nat_le (length a + length b) 1024 then Text (a ++ b) else Nil
+joined_text a b = if nat_le (length a + length b) most_text_bytes then Text (a ++ b) else Nil
 
 abbrev pub text_lt : List ℕ → List ℕ → Bool
 text_lt a b = is_lt (slice_cmp nat_cmp a b)

@@ -5,6 +5,7 @@ ghost use Rattle.std.specs.List.{list_all};
 ghost use Rattle.dioc_terms.specs.Names.{is_letter, is_word, is_printable, is_name, is_text};
 
 use crate::faults::{Memory, NameFault, TextFault};
+use limits::{MOST_NAME_BYTES, MOST_TEXT_BYTES};
 use smallvec::SmallVec;
 use std::alloc::Global;
 use std::hash::{Hash, Hasher};
@@ -173,7 +174,7 @@ impl Text {
         ensures { IfOk result (λ text. text_or_nil text ≡ joined_text self.now other.now) }
     {
         let length = self.bytes.len() + other.bytes.len();
-        if length > 1024 {
+        if length > MOST_TEXT_BYTES {
             return Ok(None);
         }
         let mut bytes = Vec::with_capacity(alloc, length)?;
@@ -298,7 +299,7 @@ fn is_name(bytes: &[u8]) -> bool
 {
     match bytes.split_first() {
         None => false,
-        Some((first, rest)) => is_letter(*first) && are_words(rest) && rest.len() <= 63,
+        Some((first, rest)) => is_letter(*first) && are_words(rest) && rest.len() < MOST_NAME_BYTES,
     }
 }
 
@@ -317,7 +318,7 @@ fn are_printable(bytes: &[u8]) -> bool
 fn is_text(bytes: &[u8]) -> bool
     ensures { result ≡ is_text bytes.now }
 {
-    bytes.len() <= 1024 && are_printable(bytes)
+    bytes.len() <= MOST_TEXT_BYTES && are_printable(bytes)
 }
 
 #[derived]

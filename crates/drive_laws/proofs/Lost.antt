@@ -20,7 +20,7 @@ use Rattle.global_steps.specs.Running.{Running}
 use Rattle.global_steps.specs.Follow.{Effect, State, affected, book_choice, change_entry, shows, updates_after, updated, plays, follow, follow_role, follow_change, play, play_from}
 use Rattle.global_steps.specs.Settled.{Settled, SettledAt, nobody}
 use Rattle.marked_laws.specs.Laws.{IsSound}
-use Rattle.marked_laws.specs.Network.{Network, NextNetwork, act_step, change_step, decision, pending_at, network_after, network_start, network_step, network_run, run_from}
+use Rattle.network_steps.specs.Network.{Network, NextNetwork, act_step, change_step, decision, pending_at, network_after, network_start, network_step, network_run, run_from}
 use Rattle.marked_laws.proofs.Choices.{cast_unique, sound_answers}
 use Rattle.marked_laws.proofs.Equality.{entry_itself}
 use Rattle.marked_laws.proofs.Mark.{Mark, Still, run, mail, place, Order}

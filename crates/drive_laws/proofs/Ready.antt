@@ -29,7 +29,7 @@ use Rattle.global_steps.specs.Running as running
 use Rattle.global_steps.specs.Running.{Running, started, light, is_due}
 use Rattle.global_steps.specs.Follow.{BookChoice, KeepsBody, TakesRule, Effect, operation, scope_plays, plays}
 use Rattle.global_steps.specs.Settled.{Due, due_after, NoneDue, Released, Played, SettledAt}
-use Rattle.marked_laws.specs.Network.{decision}
+use Rattle.network_steps.specs.Network.{decision}
 use Rattle.marked_laws.proofs.Agreeing.{agrees_first, agrees_second, agrees_both, agrees_inside}
 use Rattle.marked_laws.proofs.CanStep.{given_pending}
 use Rattle.marked_laws.proofs.Constructs.{Phases, Kind, Branch, Turning, Stopping, Scoped, Releasing, turn_backs, untold, ungone}

@@ -11,7 +11,7 @@ use Rattle.dioc_terms.specs.Plain.{PlainBundle, Setting, setting}
 use Rattle.global_steps.specs.Follow.{State, follow, play}
 use Rattle.global_steps.specs.Settled.{Settled}
 use Rattle.marked_laws.specs.Laws.{IsSound}
-use Rattle.marked_laws.specs.Network.{Network, act_step, network_step, network_run}
+use Rattle.network_steps.specs.Network.{Network, act_step, network_step, network_run}
 
 -- an act that puts or takes an auxiliary message
 abbrev pub is_aux_act : Act → Bool

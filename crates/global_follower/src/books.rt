@@ -4,6 +4,7 @@ ghost use Rattle.std.specs.Prelude.{◌≡◌, ◌<◌, ◌++◌, ◌∷◌, [],
 ghost use Rattle.dioc_terms.specs.KeptStores.{store_of};
 ghost use Rattle.dioc_terms.specs.RuleLaws.{greater_of};
 ghost use Rattle.dioc_terms.specs.Rules.{add_rule, added, apply, choose, is_named, opening_book};
+ghost use Rattle.limits.specs.Limits.{top_level};
 ghost use Rattle.global_follower.specs.KeptBooks.{book_of, rules_of};
 
 use crate::rules::RuleList;
@@ -62,7 +63,7 @@ impl PlainBook {
     pub(crate) fn choose(&self, rules: RuleList<'_>, head: &ScopeHead, store: &Store) -> Option<u32>
         ensures chosen { result ≡ choose (rules_of rules.entry) (book_of self.now) head.now
             (store_of store.now) }
-        ensures below { IfSome result (λ number. head.now.level < 16) }
+        ensures below { IfSome result (λ number. head.now.level < top_level) }
     {
         choices_go_on();
         self.best_rule(rules, head, store)

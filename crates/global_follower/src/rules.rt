@@ -10,9 +10,7 @@ ghost use Rattle.global_follower.specs.Conditions.{joins_nothing};
 use dioc_terms::{
     Bundle, Choreo, Name, Role, Rule, ScopeHead, Store, Value, conditions_join_nothing, test,
 };
-
-/// A scope of this level or above is replaced no more.
-const LEVEL_LIMIT: u32 = 16;
+use limits::TOP_LEVEL;
 
 /// The rules of a bundle, by their numbers. Their conditions join no texts.
 #[derive(Clone, Copy)]
@@ -83,7 +81,7 @@ impl<'a> RuleList<'a> {
             Some(rule) => {
                 test(&rule.cond, store, head.props.as_slice(), env)
                     && are_among(&rule.body, head.roles.as_slice())
-                    && head.level < LEVEL_LIMIT
+                    && head.level < TOP_LEVEL
             }
             None => false,
         }

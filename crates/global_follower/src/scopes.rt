@@ -9,6 +9,7 @@ ghost use Rattle.global_follower.specs.KeptBooks.{rules_of};
 ghost use Rattle.global_follower.specs.KeptRunning.{marked, part_term};
 ghost use Rattle.global_follower.specs.Playing.{attempt_of, plays_in};
 ghost use Rattle.global_follower.specs.Scopes.{choice_by, choice_of, chosen_body, played_scope, is_scope_term};
+ghost use Rattle.limits.specs.Limits.{top_level};
 ghost use Rattle.global_steps.specs.Running.{started};
 
 use crate::plays::{Played, Scene, leaves};
@@ -82,7 +83,7 @@ fn chosen_body<'a>(
     body: Part<'a>,
     updates: u64,
 ) -> Option<Part<'a>>
-    requires { IfSome rule (λ number. body.marks.level < 16) }
+    requires { IfSome rule (λ number. body.marks.level < top_level) }
     ensures { option_map part_term result
         ≡ chosen_body shown.now (choice_of (rules_of rules.entry) rule) (part_term body.entry)
         updates body.entry.marks.level }
@@ -118,7 +119,7 @@ fn kept_body<'a>(shown: &Chosen, body: Part<'a>) -> Option<Part<'a>>
 /// The rule's body as the next update, one level above this one, where the leader takes the rule
 /// so.
 fn new_body<'a>(shown: &Chosen, rule: &'a Rule, updates: u64, level: u32) -> Option<Part<'a>>
-    requires { level < 16 }
+    requires { level < top_level }
     ensures { option_map part_term result
         ≡ (if chosen_eq shown.now (takes rule.now.name (suc updates))
         then Some (stamped (term rule.now.body) (suc updates) (suc level)) else None) }

@@ -1,6 +1,6 @@
 -- The limits of texts, bundles and runs, as the definitions name them.
 use Rattle.std.specs.Prelude.{ℕ}
-use Rattle.limits.specs.declared.limits.TheConstants.{MOST_BYTES, MOST_BRACKETS, MOST_DEPTH, MOST_EXPRESSION_DEPTH, MOST_NAME_BYTES, MOST_TEXT_BYTES, MOST_NODES, MOST_ROLES, MOST_RULES, MOST_CHANGES, MOST_BODY_NODES, MOST_BODY_DEPTH, MOST_PRIORITY, TOP_LEVEL}
+use Rattle.limits.specs.declared.limits.TheConstants.{MOST_BYTES, MOST_BRACKETS, MOST_DEPTH, MOST_EXPRESSION_DEPTH, MOST_NAME_BYTES, MOST_TEXT_BYTES, MOST_NODES, MOST_ROLES, MOST_RULES, MOST_CHANGES, MOST_SESSIONS, MOST_BODY_NODES, MOST_BODY_DEPTH, MOST_PRIORITY, TOP_LEVEL}
 
 -- bytes of a bundle's text
 abbrev pub most_bytes : ℕ
@@ -49,6 +49,10 @@ most_rules = MOST_RULES
 
 abbrev pub most_changes : ℕ
 most_changes = MOST_CHANGES
+
+-- sessions of a text
+abbrev pub most_sessions : ℕ
+most_sessions = MOST_SESSIONS
 
 -- nodes and depth of a rule's body
 abbrev pub most_body_nodes : ℕ

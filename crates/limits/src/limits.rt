@@ -30,6 +30,9 @@ pub const MOST_RULES: usize = 256;
 /// The changes of the script.
 pub const MOST_CHANGES: usize = 1_000;
 
+/// The sessions of a text.
+pub const MOST_SESSIONS: usize = 1_000;
+
 /// The nodes of a rule's body.
 pub const MOST_BODY_NODES: usize = 200;
 

@@ -15,7 +15,7 @@ use Rattle.dioc_terms.specs.Terms.{Term, is_in, mentions, stamped, distinct_role
 use Rattle.dioc_terms.specs.Values.{holds, bound}
 use Rattle.global_steps.specs.Follow.{BookChoice, KeepsBody, TakesRule, book_choice}
 use Rattle.marked_laws.specs.Laws.{IsSound, IsSoundRule}
-use Rattle.marked_laws.specs.Network.{Network}
+use Rattle.network_steps.specs.Network.{Network}
 use Rattle.marked_laws.proofs.MarkSteps.{SoundAnswers}
 use Rattle.marked_laws.proofs.Shapes.{none_some, some_same}
 use Rattle.marked_laws.proofs.Premise.{Known, all_member, proper_update}

@@ -23,7 +23,7 @@ use Rattle.dioc_terms.specs.Stores.{variable}
 use Rattle.dioc_terms.specs.Terms.{Term, Skip, Com, Set, Input, Seq, Par, If, While, Scope, cast_of, indexed}
 use Rattle.global_steps.specs.Running as running
 use Rattle.global_steps.specs.Follow.{State, play}
-use Rattle.marked_laws.specs.Network.{Network, network_run, network_ended}
+use Rattle.network_steps.specs.Network.{Network, network_run, network_ended}
 
 -- a bundle of a choreography whose indices are as given, with rules, of which the first so many are opening, and a script
 abbrev pub bundle_of : Term → List PlainRule → ℕ → List Timed → PlainBundle

@@ -2,7 +2,7 @@
 use Rattle.std.proofs.Common.{◌≡◌, List, [], ◌∷◌, ◌++◌, Option, Some, None, option_and_then, refl, sym, ◌∙◌}
 use Rattle.dioc_terms.specs.declared.entries.Entry.{Entry}
 use Rattle.dioc_terms.specs.Plain.{Setting}
-use Rattle.marked_laws.specs.Network.{Network, network_step, run_from}
+use Rattle.network_steps.specs.Network.{Network, network_step, run_from}
 use Rattle.marked_laws.specs.RunLaws.{Extensions}
 use Rattle.marked_laws.proofs.Shapes.{none_some}
 

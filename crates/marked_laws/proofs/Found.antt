@@ -19,7 +19,7 @@ use Rattle.dioc_terms.specs.Terms as term
 use Rattle.dioc_terms.specs.Terms.{distinct_roles}
 use Rattle.process_steps.specs.Steps.{Deed, Takes, Given, Got, Decision, ended, key, take_value, step}
 use Rattle.global_steps.specs.Follow.{BookChoice}
-use Rattle.marked_laws.specs.Network.{decision}
+use Rattle.network_steps.specs.Network.{decision}
 use Rattle.marked_laws.proofs.Agreeing.{agrees_first, agrees_next, agrees_second, agrees_both, agrees_inside}
 use Rattle.marked_laws.proofs.Equality.{role_same, key_itself}
 use Rattle.marked_laws.proofs.FoundHeld.{finds_held}

@@ -20,7 +20,7 @@ use Rattle.dioc_terms.specs.Values.{eval, is_true}
 use Rattle.projection.specs.Projection.{projected}
 use Rattle.process_steps.specs.Steps.{Deed, Puts, Sets, Inputs, Picks, Given, Alone, Got, FromBook, Decision, ended, after, key, tell, gather, take_value, take_flag, take_begin, begin_scope, choose_scope, if_leads, while_leads, scope_leads, step}
 use Rattle.global_steps.specs.Follow.{BookChoice, KeepsBody, TakesRule}
-use Rattle.marked_laws.specs.Network.{decision}
+use Rattle.network_steps.specs.Network.{decision}
 use Rattle.marked_laws.proofs.Constructs.{Kind, Branch, Turning, Stopping, Scoped, all_wait, followers, untold, ungone}
 use Rattle.marked_laws.proofs.Ends.{place_leader}
 use Rattle.marked_laws.proofs.Equality.{role_itself, role_same}

@@ -6,7 +6,7 @@ use Rattle.dioc_terms.specs.Equality.{key_eq}
 use Rattle.dioc_terms.specs.Processes.{Load}
 use Rattle.marked_laws.specs.Laws.{key_among, distinct_keys}
 use Rattle.marked_laws.specs.MailLaws.{HasDistinctKeys, MailIsAMap}
-use Rattle.marked_laws.specs.Network.{pending_at, without, no_message}
+use Rattle.network_steps.specs.Network.{pending_at, without, no_message}
 use Rattle.marked_laws.proofs.Equality.{key_same, key_itself}
 
 some_none : {A : Type 0} {x : A} → Some x ≡ None → ⊥

@@ -14,7 +14,7 @@ use Rattle.dioc_terms.specs.Processes.{Process}
 use Rattle.dioc_terms.specs.Rules.{apply}
 use Rattle.process_steps.specs.Steps.{Deed, entry_of, store_after, step}
 use Rattle.global_steps.specs.Follow.{book_choice, change_entry, updates_after, updated}
-use Rattle.marked_laws.specs.Network.{Network, NextNetwork, decision, given_at, pending_at, pending_after, visible_after, act_step, change_step, network_after, network_step}
+use Rattle.network_steps.specs.Network.{Network, NextNetwork, decision, given_at, pending_at, pending_after, visible_after, act_step, change_step, network_after, network_step}
 use Rattle.marked_laws.proofs.Shapes.{none_some, some_same, if_some}
 use Rattle.marked_laws.proofs.Equality.{entry_same}
 use Rattle.marked_laws.proofs.MarkSteps.{given_by}

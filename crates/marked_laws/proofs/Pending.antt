@@ -6,7 +6,7 @@ use Rattle.dioc_terms.specs.Equality.{key_eq}
 use Rattle.dioc_terms.specs.Processes.{Load}
 use Rattle.process_steps.specs.Steps.{Deed, Puts, Takes, Sets, Inputs, Picks, Chooses}
 use Rattle.marked_laws.specs.Laws.{key_among, distinct_keys}
-use Rattle.marked_laws.specs.Network.{pending_at, without, pending_after}
+use Rattle.network_steps.specs.Network.{pending_at, without, pending_after}
 use Rattle.marked_laws.proofs.Shapes.{some_nil}
 use Rattle.marked_laws.proofs.Equality.{key_same, key_itself}
 use Rattle.marked_laws.proofs.Mails.{mail_after, MailFits}

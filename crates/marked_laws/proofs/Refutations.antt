@@ -32,7 +32,7 @@ use Rattle.global_steps.specs.Running.{Running, started, is_due}
 use Rattle.global_steps.specs.Follow.{BookChoice, TakesRule, Effect, plays, play}
 use Rattle.global_steps.specs.Settled.{IsSettled}
 use Rattle.marked_laws.specs.Laws.{IsSoundTerm, IsSoundRule, Explains, HasStep, distinct_keys}
-use Rattle.marked_laws.specs.Network.{Network, network_run, network_ended, decision}
+use Rattle.network_steps.specs.Network.{Network, network_run, network_ended, decision}
 use Rattle.marked_laws.proofs.Equality.{role_same}
 use Rattle.marked_laws.proofs.Examples.{bundle_of, program, rule_of, run_to_end, a, b, c, x, y, o, q, at, unmarked, int, val, put, take_op, take_aux, relay, direct}
 

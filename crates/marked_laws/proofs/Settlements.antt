@@ -9,7 +9,7 @@ use Rattle.dioc_terms.specs.Terms.{distinct_roles}
 use Rattle.process_steps.specs.Steps.{Deed, Puts, Takes, Sets, Inputs, Picks, Chooses, entry_of}
 use Rattle.global_steps.specs.Follow.{State, book_choice, follow}
 use Rattle.global_steps.specs.Settled.{SettledAt, Settled, SettledFrom, nobody}
-use Rattle.marked_laws.specs.Network.{Network, network_step, run_from}
+use Rattle.network_steps.specs.Network.{Network, network_step, run_from}
 use Rattle.marked_laws.proofs.Mark.{Mark, Order}
 use Rattle.marked_laws.proofs.MarkSteps.{SoundAnswers, doer_of}
 use Rattle.marked_laws.proofs.Shapes.{none_some}

@@ -21,7 +21,7 @@ use Rattle.dioc_terms.specs.Terms.{distinct_roles}
 use Rattle.process_steps.specs.Steps.{Deed, Puts, Takes, Sets, Inputs, Picks, Chooses, Decision, entry_of, store_after, step}
 use Rattle.global_steps.specs.Running.{Running}
 use Rattle.global_steps.specs.Follow.{BookChoice, Effect, State, affected, book_choice, change_entry, shows, updates_after, updated, plays, follow, follow_change, play_from}
-use Rattle.marked_laws.specs.Network.{Network, decision, pending_at, visible_after, network_step, run_from}
+use Rattle.network_steps.specs.Network.{Network, decision, pending_at, visible_after, network_step, run_from}
 use Rattle.marked_laws.proofs.Equality.{entry_itself}
 use Rattle.marked_laws.proofs.Found.{found}
 use Rattle.marked_laws.proofs.Keeps.{new_step}

@@ -18,7 +18,7 @@ use Rattle.dioc_terms.specs.Terms.{Term, is_in, distinct_roles}
 use Rattle.process_steps.specs.Steps.{Deed, Decision, ended, is_offered, step}
 use Rattle.global_steps.specs.Follow.{book_choice, play}
 use Rattle.marked_laws.specs.Laws.{IsSound, Simulation, Settlement, UniqueKeys, Progress, NothingLeft, distinct_keys, taken_keys}
-use Rattle.marked_laws.specs.Network.{Network, decision, given_at, pending_at, no_message, network_start, network_run, network_ended}
+use Rattle.network_steps.specs.Network.{Network, decision, given_at, pending_at, no_message, network_start, network_run, network_ended}
 use Rattle.marked_laws.specs.Offers.{distinct_acts, DistinctOffers}
 use Rattle.marked_laws.proofs.Choices.{cast_unique, sound_answers}
 use Rattle.marked_laws.proofs.Constructs.{leader, whole, follows}

@@ -17,7 +17,7 @@ use Rattle.process_steps.specs.Steps.{ended, offers, is_offered}
 use Rattle.global_steps.specs.Running as running
 use Rattle.global_steps.specs.Follow.{State, play}
 use Rattle.global_steps.specs.Settled.{IsSettled}
-use Rattle.marked_laws.specs.Network.{Network, network_run, network_ended, act_step}
+use Rattle.network_steps.specs.Network.{Network, network_run, network_ended, act_step}
 
 -- a choreography, or a rule's body, that may run: connected, and no role sends to itself
 pub record IsSoundTerm (I : Term) : Type 0 where

@@ -1,6 +1,5 @@
 pub mod Laws
 pub mod MailLaws
-pub mod Network
 pub mod Offers
 pub mod RunLaws
 pub mod Versions

@@ -6,7 +6,7 @@ use Rattle.dioc_terms.specs.Equality.{key_eq}
 use Rattle.dioc_terms.specs.Processes.{Load}
 use Rattle.process_steps.specs.Steps.{Puts, Takes}
 use Rattle.marked_laws.specs.Laws.{distinct_keys}
-use Rattle.marked_laws.specs.Network.{pending_at, pending_after, no_message}
+use Rattle.network_steps.specs.Network.{pending_at, pending_after, no_message}
 
 abbrev pub HasDistinctKeys : List (Key × Load) → Type 0
 HasDistinctKeys pending = distinct_keys (map (λ message. message.0) pending) ≡ true

@@ -6,7 +6,7 @@ use Rattle.dioc_terms.specs.declared.entries.Entry.{Entry}
 use Rattle.dioc_terms.specs.Plain.{PlainBundle}
 use Rattle.process_steps.specs.Steps.{offers, is_offered}
 use Rattle.marked_laws.specs.Laws.{IsSound}
-use Rattle.marked_laws.specs.Network.{Network, network_run}
+use Rattle.network_steps.specs.Network.{Network, network_run}
 
 abbrev pub distinct_acts : List Act → Bool
 distinct_acts [] = true

@@ -2,7 +2,7 @@
 use Rattle.std.specs.Prelude.{◌≡◌, List, [], ◌∷◌, ◌++◌, Some, option_and_then}
 use Rattle.dioc_terms.specs.declared.entries.Entry.{Entry}
 use Rattle.dioc_terms.specs.Plain.{Setting}
-use Rattle.marked_laws.specs.Network.{Network, network_step, run_from}
+use Rattle.network_steps.specs.Network.{Network, network_step, run_from}
 
 -- Extension: a run of two histories is a run of the second after one of the first.
 pub record Extensions : Type 0 where

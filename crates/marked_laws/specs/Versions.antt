@@ -5,7 +5,7 @@ use Rattle.dioc_terms.specs.declared.entries.Entry.{Entry}
 use Rattle.dioc_terms.specs.Plain.{PlainBundle}
 use Rattle.global_steps.specs.Follow.{play, stray}
 use Rattle.global_steps.specs.Settled.{IsSettled}
-use Rattle.marked_laws.specs.Network.{network_run}
+use Rattle.network_steps.specs.Network.{network_run}
 
 abbrev pub with_version : ℕ → PlainBundle → PlainBundle
 with_version n b = record b { version = n }

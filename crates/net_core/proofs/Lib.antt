@@ -1,10 +1,14 @@
-pub mod Accepted
-mod ExampleConstructs
-pub mod ExampleRuns
-pub mod Examples
-pub mod HeadlineLemmas
-pub mod Loads
-pub mod MoveLemmas
-pub mod PromptLemmas
-pub mod ScheduleLemmas
-pub mod ScriptLemmas
+pub mod ActLemmas
+pub mod ChangeLemmas
+pub mod DeedLemmas
+pub mod ListLemmas
+pub mod MailLemmas
+pub mod NetLemmas
+pub mod PlaceLemmas
+pub mod RoleLemmas
+pub mod RunLemmas
+pub mod SameMail
+pub mod ScopeLemmas
+pub mod LocalLemmas
+pub mod StartLemmas
+pub mod TellLemmas

@@ -1,4 +1,13 @@
-pub mod Headline
-pub mod Laws
-pub mod Net
-pub mod Schedule
+pub mod Acts
+pub mod Changes
+pub mod Codes
+pub mod Deeds
+pub mod Faults
+pub mod KeptParts
+pub mod MovesIn
+pub mod Nets
+pub mod Scopes
+pub mod Scripts
+pub mod Standing
+pub mod StepLaws
+pub mod Steps

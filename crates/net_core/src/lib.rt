@@ -1,11 +1,21 @@
-//! What a network may do next, in the order of the schedule, and what holds of its runs.
+//! The network of a bundle of every form, run by role states that keep their processes themselves.
 #![tactic(auto)]
 
+mod bodies;
+mod changing;
+mod faults;
 mod laws;
-mod moves;
+mod listing;
+mod network;
+mod parts;
+mod scopes;
+mod starting;
 
-pub use laws::{
-    accepted_is_sound, every_run, moves_are_steps, runs_are_sound, schedules_are_prompt,
-    schedules_read_no_version,
-};
-pub use moves::{Move, StepFault};
+pub use bodies::Coming;
+pub use changing::make_change;
+pub use faults::ChangeFault;
+pub use laws::steps_run;
+pub use listing::is_first_due;
+pub use network::Net;
+pub use network_steps::{Move, StepFault};
+pub use starting::{keep_script, opening_state};

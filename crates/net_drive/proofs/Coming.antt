@@ -23,7 +23,7 @@ use Rattle.drive_laws.specs.Laws.{is_aux_act, IsQuiet}
 use Rattle.drive_laws.proofs.Lost.{placed_run, follow_plays, step_by, after_that, change_ready}
 use Rattle.drive_laws.proofs.PlayedParts.{played_visible, played_one}
 use Rattle.marked_laws.specs.Laws.{IsSound}
-use Rattle.marked_laws.specs.Network.{Network, NextNetwork, given_at, pending_at, act_step, network_start, network_run, network_step, network_ended}
+use Rattle.network_steps.specs.Network.{Network, NextNetwork, given_at, pending_at, act_step, network_start, network_run, network_step, network_ended}
 use Rattle.marked_laws.proofs.Acts.{step_offered}
 use Rattle.marked_laws.proofs.Choices.{cast_unique, sound_answers}
 use Rattle.marked_laws.proofs.Equality.{role_same, act_same, entry_itself}
@@ -36,11 +36,11 @@ use Rattle.marked_laws.proofs.Plays.{entry_index, entry_doer}
 use Rattle.marked_laws.proofs.Premise.{Known}
 use Rattle.marked_laws.proofs.Shapes.{none_some, some_same}
 use Rattle.marked_laws.proofs.Simulate.{Marks, answers_in, state_of, moves}
-use Rattle.net_core.specs.declared.moves.Move.{Move}
-use Rattle.net_core.specs.declared.moves.Move.TheVariants as move
-use Rattle.net_core.specs.Schedule.{change_due, is_ready, role_moves, move_step}
-use Rattle.net_core.specs.Schedule as schedule
-use Rattle.net_core.proofs.MoveLemmas.{MailOfTags, EachDone, some_got, moves_done, mail_of_tags, deed_of}
+use Rattle.network_steps.specs.declared.moves.Move.{Move}
+use Rattle.network_steps.specs.declared.moves.Move.TheVariants as move
+use Rattle.network_steps.specs.Schedule.{change_due, is_ready, role_moves, move_step}
+use Rattle.net_laws.specs.Schedule as schedule
+use Rattle.net_laws.proofs.MoveLemmas.{MailOfTags, EachDone, some_got, moves_done, mail_of_tags, deed_of}
 use Rattle.net_drive.specs.Driven.{is_aux_move, first_auxiliary, act_may_come, may_come}
 
 -- an entry is auxiliary where its act is, and an entry of a role shows its index by its act

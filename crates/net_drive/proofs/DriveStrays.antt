@@ -12,15 +12,15 @@ use Rattle.global_steps.specs.Follow.{State, follow, play_from, play_start}
 use Rattle.global_steps.specs.Settled.{SettledFrom}
 use Rattle.global_steps.proofs.Lemmas.{plays-go_on}
 use Rattle.marked_laws.specs.Laws.{IsSound}
-use Rattle.marked_laws.specs.Network.{network_run, network_step}
+use Rattle.network_steps.specs.Network.{network_run, network_step}
 use Rattle.marked_laws.proofs.Shapes.{none_some, some_same}
-use Rattle.net_core.proofs.MoveLemmas.{some_got}
+use Rattle.net_laws.proofs.MoveLemmas.{some_got}
 use Rattle.net_drive.specs.Driven.{driven, first_auxiliary, may_come}
 use Rattle.net_drive.specs.Driving.{IsStuckAt}
 use Rattle.net_drive.specs.Laws.{DrivenExactly, SameTraces, StraysAreExact}
 use Rattle.net_drive.specs.Strays.{DriveStraysAreExact, IsDrivable, IsDriveStray, drive_stray, drive_stray_from}
 use Rattle.net_drive.proofs.Driving.{and_then_got}
-use Rattle.role_network.specs.Nets.{NetState}
+use Rattle.net_core.specs.Nets.{NetState}
 
 -- ---- parts of traces
 

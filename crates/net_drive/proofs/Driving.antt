@@ -18,10 +18,10 @@ use Rattle.drive_laws.specs.Laws.{IsQuiet, Readiness, AuxiliaryEnds}
 use Rattle.drive_laws.proofs.Lost.{follow_plays}
 use Rattle.drive_laws.proofs.PlayedParts.{played_visible}
 use Rattle.marked_laws.specs.Laws.{IsSound}
-use Rattle.marked_laws.specs.Network.{Network, NextNetwork, network_run, network_step, run_from}
+use Rattle.network_steps.specs.Network.{Network, NextNetwork, network_run, network_step, run_from}
 use Rattle.marked_laws.proofs.Premise.{Known}
 use Rattle.marked_laws.proofs.Shapes.{none_some, some_same}
-use Rattle.net_core.proofs.MoveLemmas.{some_got}
+use Rattle.net_laws.proofs.MoveLemmas.{some_got}
 use Rattle.net_drive.specs.Driven.{first_auxiliary, may_come, put_before, driven_from}
 use Rattle.net_drive.proofs.Coming.{one_more, aux_found, none_quiet, step_may, comes}
 

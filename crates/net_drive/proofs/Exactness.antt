@@ -11,10 +11,10 @@ use Rattle.global_steps.specs.Settled.{Settled, SettledFrom, IsSettled}
 use Rattle.global_steps.proofs.Lemmas.{plays-go_on}
 use Rattle.drive_laws.specs.Laws.{Readiness, AuxiliaryEnds}
 use Rattle.marked_laws.specs.Laws.{IsSound, Simulation, Settlement}
-use Rattle.marked_laws.specs.Network.{Network, network_start, network_run, network_step}
+use Rattle.network_steps.specs.Network.{Network, network_start, network_run, network_step}
 use Rattle.marked_laws.proofs.Premise.{Known}
 use Rattle.marked_laws.proofs.Shapes.{none_some, some_same}
-use Rattle.net_core.proofs.MoveLemmas.{some_got}
+use Rattle.net_laws.proofs.MoveLemmas.{some_got}
 use Rattle.net_drive.specs.Driven.{turns_for, driven}
 use Rattle.net_drive.specs.Laws.{Drives, DrivenRuns, SameTraces, DrivenExactly, StraysAreExact}
 use Rattle.net_drive.proofs.Coming.{none_quiet, comes}

@@ -9,7 +9,7 @@ use Rattle.dioc_terms.specs.declared.entries.Entry.TheVariants as entry
 use Rattle.dioc_terms.specs.Expressions.{Const, Var}
 use Rattle.dioc_terms.specs.Terms.{Term, Skip, Com, Set, Seq, If, Scope}
 use Rattle.global_steps.specs.Follow.{play}
-use Rattle.net_core.proofs.Examples.{program, role, at, unmarked, put, take_op, take_aux, int, val, hello, hello_run}
+use Rattle.net_laws.proofs.Examples.{program, role, at, unmarked, put, take_op, take_aux, int, val, hello, hello_run}
 use Rattle.net_drive.specs.Driven.{driven}
 
 abbrev a : List ℕ

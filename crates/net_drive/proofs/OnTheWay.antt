@@ -11,7 +11,7 @@ use Rattle.dioc_terms.specs.declared.entries.Entry.{Entry}
 use Rattle.dioc_terms.specs.Messages.{is_aux, visible}
 use Rattle.dioc_terms.specs.Plain.{PlainBundle, Setting, setting}
 use Rattle.drive_laws.specs.Laws.{AuxiliaryEnds}
-use Rattle.marked_laws.specs.Network.{Network, NextNetwork, network_run, network_start, network_step}
+use Rattle.network_steps.specs.Network.{Network, NextNetwork, network_run, network_start, network_step}
 use Rattle.marked_laws.proofs.Shapes.{none_some}
 use Rattle.net_drive.specs.Driven.{driven, driven_from, first_auxiliary, may_come, put_before}
 use Rattle.net_drive.specs.Driving.{DrivesOn, HasCome, HasRoom, IsStuckAt, put_all}
@@ -22,8 +22,8 @@ use Rattle.rule_checks.specs.declared.refusals.Which.{Which}
 use Rattle.rule_checks.specs.declared.refusals.Which.TheVariants.{Nodes, Roles}
 use Rattle.rule_checks.specs.Refusals.{IsAccepted, first_refusal, too_many}
 use Rattle.dioc_terms.specs.Terms.{nodes}
-use Rattle.role_network.specs.Nets.{IsSoundRun, NetState, network_at, network_of}
-use Rattle.role_network.specs.Steps.{GoesOn}
+use Rattle.net_core.specs.Nets.{IsSoundRun, NetState, network_at, network_of}
+use Rattle.net_core.specs.Steps.{GoesOn}
 use Rattle.schedule.proofs.UpdateLemmas.{few_updates}
 
 -- ---- entries before those that are driven

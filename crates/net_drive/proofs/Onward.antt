@@ -3,11 +3,11 @@ use Rattle.std.proofs.Common.{◌≡◌, ◌≤◌, ◌<◌, length, take, Bool,
 use Rattle.std.specs.Prelude.{nat_le}
 use Rattle.std.proofs.lemmas.Bool.{cond-false, cond-true, leb-false, leb-true}
 use Rattle.std.proofs.lemmas.List.{length-take-le, take_all}
-use Rattle.marked_laws.specs.Network.{network_run}
-use Rattle.net_core.specs.Headline.{EveryRun}
-use Rattle.net_core.specs.Laws.{RunsAreSound}
-use Rattle.net_core.specs.Schedule.{sched_from}
-use Rattle.net_core.proofs.MoveLemmas.{some_got}
+use Rattle.network_steps.specs.Network.{network_run}
+use Rattle.net_laws.specs.Headline.{EveryRun}
+use Rattle.net_laws.specs.Laws.{RunsAreSound}
+use Rattle.network_steps.specs.Schedule.{sched_from}
+use Rattle.net_laws.proofs.MoveLemmas.{some_got}
 use Rattle.net_drive.specs.ResumedLaws.{IsRunTo, ResumedRuns}
 use Rattle.net_drive.specs.Resumed.{resumed_history}
 

@@ -6,11 +6,11 @@ use Rattle.dioc_terms.specs.declared.entries.Entry.{Entry}
 use Rattle.dioc_terms.specs.declared.entries.Entry.TheVariants as entry
 use Rattle.dioc_terms.specs.Equality.{entry_eq}
 use Rattle.dioc_terms.specs.Plain.{PlainBundle, Setting, setting}
-use Rattle.marked_laws.specs.Network.{Network, NextNetwork, network_after, network_step}
+use Rattle.network_steps.specs.Network.{Network, NextNetwork, network_after, network_step}
 use Rattle.marked_laws.proofs.Equality.{entry_same}
-use Rattle.net_core.specs.Schedule.{move_step}
-use Rattle.role_network.specs.Nets.{IsSoundRun, NetState, network_of}
-use Rattle.role_network.specs.Steps.{GoesOn}
+use Rattle.network_steps.specs.Schedule.{move_step}
+use Rattle.net_core.specs.Nets.{IsSoundRun, NetState, network_of}
+use Rattle.net_core.specs.Steps.{GoesOn}
 use Rattle.net_drive.specs.declared.resuming.Redone.TheVariants as redone
 use Rattle.net_drive.specs.Making.{Makes, shown_move}
 use Rattle.net_drive.specs.Redoing.{IsRedone, Redoes}

@@ -18,19 +18,19 @@ use Rattle.process_steps.specs.Steps.{Deed, Given, Alone, Got, after, ended, is_
 use Rattle.projection.specs.Laws.{OutsidersHaveEnded}
 use Rattle.global_steps.specs.Follow.{updated}
 use Rattle.marked_laws.specs.Laws.{IsSound}
-use Rattle.marked_laws.specs.Network.{Network, NextNetwork, act_step, given_at, network_ended, network_start, network_step, no_message, pending_at, run_from}
+use Rattle.network_steps.specs.Network.{Network, NextNetwork, act_step, given_at, network_ended, network_start, network_step, no_message, pending_at, run_from}
 use Rattle.marked_laws.proofs.Equality.{role_same}
 use Rattle.marked_laws.proofs.Networks.{ChangeStep, RoleStep, deed_outcome, network_cases}
 use Rattle.marked_laws.proofs.Premise.{all_member}
 use Rattle.marked_laws.proofs.Shapes.{none_some, some_same}
-use Rattle.net_core.specs.declared.moves.StepFault.{StepFault}
-use Rattle.net_core.specs.declared.moves.StepFault.TheVariants as why
+use Rattle.network_steps.specs.declared.moves.StepFault.{StepFault}
+use Rattle.network_steps.specs.declared.moves.StepFault.TheVariants as why
 use Rattle.dioc_terms.specs.declared.faults.Memory.{Memory}
 use Rattle.net_drive.specs.Making.{Makes}
-use Rattle.net_core.specs.Net.{first_fault, is_offered_by}
-use Rattle.net_core.specs.Schedule.{is_ready}
-use Rattle.role_network.specs.Nets.{IsSoundRun, NetState, network_of}
-use Rattle.role_network.specs.Steps.{fault_of}
+use Rattle.net_laws.specs.Net.{first_fault, is_offered_by}
+use Rattle.network_steps.specs.Schedule.{is_ready}
+use Rattle.net_core.specs.Nets.{IsSoundRun, NetState, network_of}
+use Rattle.net_core.specs.Steps.{fault_of}
 
 -- ---- a take whose message isn't there
 

@@ -6,10 +6,10 @@ use Rattle.std.proofs.lemmas.List.{append-nil}
 use Rattle.std.proofs.Math.Seq.{take-append-add}
 use Rattle.dioc_terms.specs.declared.entries.Entry.{Entry}
 use Rattle.dioc_terms.specs.Plain.{PlainBundle, Setting, setting}
-use Rattle.marked_laws.specs.Network.{Network, network_run, network_start, network_step, run_from}
+use Rattle.network_steps.specs.Network.{Network, network_run, network_start, network_step, run_from}
 use Rattle.marked_laws.proofs.Extension.{extensions}
 use Rattle.marked_laws.proofs.Shapes.{none_some, some_same}
-use Rattle.net_core.proofs.MoveLemmas.{some_got}
+use Rattle.net_laws.proofs.MoveLemmas.{some_got}
 use Rattle.net_drive.specs.ResumedLaws.{RunStraysAreExact}
 use Rattle.net_drive.specs.Resumed.{IsFirstStray, run_stray, run_stray_from}
 

@@ -13,12 +13,12 @@ use Rattle.dioc_terms.specs.Equality.{entry_eq}
 use Rattle.dioc_terms.specs.Messages.{act_of, doer}
 use Rattle.dioc_terms.specs.Plain.{setting}
 use Rattle.drive_laws.specs.Laws.{is_aux_act}
-use Rattle.marked_laws.specs.Network.{Network, NextNetwork, act_step, network_after, network_step}
+use Rattle.network_steps.specs.Network.{Network, NextNetwork, act_step, network_after, network_step}
 use Rattle.marked_laws.proofs.Premise.{Known}
 use Rattle.marked_laws.proofs.Shapes.{none_some}
-use Rattle.net_core.specs.declared.moves.Move.{Move}
-use Rattle.net_core.specs.declared.moves.Move.TheVariants as move
-use Rattle.net_core.specs.Schedule.{is_ready, move_step}
+use Rattle.network_steps.specs.declared.moves.Move.{Move}
+use Rattle.network_steps.specs.declared.moves.Move.TheVariants as move
+use Rattle.network_steps.specs.Schedule.{is_ready, move_step}
 use Rattle.net_drive.specs.declared.entries.Tried.TheVariants as tried
 use Rattle.net_drive.specs.Driven.{act_may_come, first_auxiliary, is_aux_move, may_come}
 use Rattle.net_drive.specs.Driving.{DrivesOn, IsStuckAt, IsTried, IsTurn, judged}
@@ -28,8 +28,8 @@ use Rattle.net_drive.proofs.Redone.{noted_is, redoes_noted, step_shown}
 use Rattle.net_drive.proofs.OnTheWay.{aux_on}
 use Rattle.process_steps.specs.Laws.{OffersAreSteps}
 use Rattle.process_steps.specs.Steps.{is_offered, offers}
-use Rattle.role_network.specs.Nets.{IsSoundRun, NetState, network_of}
-use Rattle.role_network.specs.Steps.{GoesOn}
+use Rattle.net_core.specs.Nets.{IsSoundRun, NetState, network_of}
+use Rattle.net_core.specs.Steps.{GoesOn}
 use Rattle.schedule.specs.declared.agenda.ReadyRole.{ReadyRole}
 use Rattle.schedule.proofs.AgendaLemmas.{is_due, moves_are}
 use Rattle.schedule.specs.Agendas.{agenda_of, moves_of, ready_seen}

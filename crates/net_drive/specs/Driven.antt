@@ -9,10 +9,10 @@ use Rattle.dioc_terms.specs.declared.entries.Entry.{Entry}
 use Rattle.dioc_terms.specs.Messages.{doer, act_of}
 use Rattle.dioc_terms.specs.Plain.{PlainBundle, Setting, setting}
 use Rattle.drive_laws.specs.Laws.{is_aux_act}
-use Rattle.marked_laws.specs.Network.{Network, NextNetwork, network_start, network_step}
-use Rattle.net_core.specs.declared.moves.Move.{Move}
-use Rattle.net_core.specs.declared.moves.Move.TheVariants as move
-use Rattle.net_core.specs.Schedule.{is_ready, moves, move_step}
+use Rattle.network_steps.specs.Network.{Network, NextNetwork, network_start, network_step}
+use Rattle.network_steps.specs.declared.moves.Move.{Move}
+use Rattle.network_steps.specs.declared.moves.Move.TheVariants as move
+use Rattle.network_steps.specs.Schedule.{is_ready, moves, move_step}
 use Rattle.process_steps.specs.Steps.{offers, is_offered}
 
 abbrev pub is_aux_move : Move → Bool

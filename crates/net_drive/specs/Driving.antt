@@ -3,15 +3,15 @@ use Rattle.std.specs.Prelude.{◌≡◌, ◌⊎◌, ◌≤◌, ◌<◌, ◌+◌,
 use Rattle.dioc_terms.specs.declared.entries.Entry.{Entry}
 use Rattle.dioc_terms.specs.Messages.{visible}
 use Rattle.dioc_terms.specs.Plain.{setting}
-use Rattle.marked_laws.specs.Network.{Network, network_run, network_step}
-use Rattle.net_core.specs.declared.moves.Move.{Move}
-use Rattle.net_core.specs.declared.moves.Move.TheVariants as move
+use Rattle.network_steps.specs.Network.{Network, network_run, network_step}
+use Rattle.network_steps.specs.declared.moves.Move.{Move}
+use Rattle.network_steps.specs.declared.moves.Move.TheVariants as move
 use Rattle.net_drive.specs.declared.entries.Tried.{Tried}
 use Rattle.net_drive.specs.declared.entries.Tried.TheVariants as tried
 use Rattle.net_drive.specs.Driven.{driven, driven_from, first_auxiliary, may_come, put_before}
 use Rattle.net_drive.specs.Making.{shown_move}
 use Rattle.net_drive.specs.Strays.{IsDriveStray}
-use Rattle.role_network.specs.Nets.{NetState, network_of}
+use Rattle.net_core.specs.Nets.{NetState, network_of}
 use Rattle.schedule.specs.Turns.{IsMoveOf}
 
 -- there is room for all that it takes to drive a trace of at most so many entries

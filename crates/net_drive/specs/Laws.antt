@@ -8,7 +8,7 @@ use Rattle.drive_laws.specs.Laws.{IsQuiet}
 use Rattle.global_steps.specs.Follow.{play}
 use Rattle.global_steps.specs.Settled.{IsSettled}
 use Rattle.marked_laws.specs.Laws.{IsSound}
-use Rattle.marked_laws.specs.Network.{Network, network_run, network_step}
+use Rattle.network_steps.specs.Network.{Network, network_run, network_step}
 use Rattle.net_drive.specs.Driven.{driven, first_auxiliary, may_come}
 
 -- the history is a run that shows exactly the trace, and that has left no auxiliary move

@@ -4,11 +4,11 @@ use Rattle.dioc_terms.specs.declared.entries.Act.{Act}
 use Rattle.dioc_terms.specs.declared.entries.Entry.{Entry}
 use Rattle.dioc_terms.specs.declared.names.Role.{Role}
 use Rattle.dioc_terms.specs.Messages.{act_of, doer}
-use Rattle.marked_laws.specs.Network.{NextNetwork}
-use Rattle.net_core.specs.declared.moves.Move.{Move}
-use Rattle.net_core.specs.declared.moves.Move.TheVariants as move
-use Rattle.role_network.specs.Nets.{NetState}
-use Rattle.role_network.specs.Steps.{GoesOn}
+use Rattle.network_steps.specs.Network.{NextNetwork}
+use Rattle.network_steps.specs.declared.moves.Move.{Move}
+use Rattle.network_steps.specs.declared.moves.Move.TheVariants as move
+use Rattle.net_core.specs.Nets.{NetState}
+use Rattle.net_core.specs.Steps.{GoesOn}
 
 -- the act of that role, or else the script's next change
 abbrev pub move_by : Option Role → Option Act → Move

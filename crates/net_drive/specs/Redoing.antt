@@ -2,11 +2,11 @@
 use Rattle.std.specs.Prelude.{◌≡◌, ◌≤◌, ◌<◌, List, [], ◌∷◌, ◌++◌, length, take, Bool, true, false, Some, None}
 use Rattle.dioc_terms.specs.declared.entries.Entry.{Entry}
 use Rattle.dioc_terms.specs.Plain.{setting}
-use Rattle.marked_laws.specs.Network.{network_step}
+use Rattle.network_steps.specs.Network.{network_step}
 use Rattle.net_drive.specs.declared.resuming.Redone.{Redone}
 use Rattle.net_drive.specs.declared.resuming.Redone.TheVariants as redone
 use Rattle.net_drive.specs.Resumed.{IsFirstStray, run_stray}
-use Rattle.role_network.specs.Nets.{NetState, network_of}
+use Rattle.net_core.specs.Nets.{NetState, network_of}
 
 -- whether the net did the entry again: it is the last one of its history, or the network can't do
 -- it

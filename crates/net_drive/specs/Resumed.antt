@@ -4,9 +4,9 @@ use Rattle.std.specs.Prelude.{◌≡◌, ℕ, suc, List, [], ◌∷◌, ◌++◌
 use Rattle.std.specs.Option.{option_map_or}
 use Rattle.dioc_terms.specs.declared.entries.Entry.{Entry}
 use Rattle.dioc_terms.specs.Plain.{PlainBundle, Setting, setting}
-use Rattle.marked_laws.specs.Network.{Network, network_run, network_start, network_step}
-use Rattle.net_core.specs.Schedule.{sched_from}
-use Rattle.role_network.specs.Nets.{IsSoundRun, NetState}
+use Rattle.network_steps.specs.Network.{Network, network_run, network_start, network_step}
+use Rattle.network_steps.specs.Schedule.{sched_from}
+use Rattle.net_core.specs.Nets.{IsSoundRun, NetState}
 
 -- The number, from 1, of the first entry that the network can't do after those before it. The
 -- number is of the next entry, from a network.

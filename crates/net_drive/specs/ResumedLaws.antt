@@ -2,8 +2,8 @@
 use Rattle.std.specs.Prelude.{◌≡◌, ◌≤◌, ◌⊎◌, ◌↔◌, ℕ, List, length, take, true, Option, Some, None, IsSome}
 use Rattle.dioc_terms.specs.declared.entries.Entry.{Entry}
 use Rattle.dioc_terms.specs.Plain.{PlainBundle}
-use Rattle.marked_laws.specs.Network.{Network, network_ended, network_run}
-use Rattle.net_core.specs.Headline.{Headline}
+use Rattle.network_steps.specs.Network.{Network, network_ended, network_run}
+use Rattle.net_laws.specs.Headline.{Headline}
 use Rattle.net_drive.specs.Resumed.{IsFirstStray, resumed_history, run_stray}
 use Rattle.rule_checks.specs.Refusals.{IsAccepted}
 

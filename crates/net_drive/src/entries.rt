@@ -7,19 +7,19 @@ ghost use Rattle.std.specs.Option.{option_copied};
 ghost use Rattle.dioc_terms.specs.Messages.{is_aux};
 ghost use Rattle.dioc_terms.specs.Plain.{setting};
 ghost use Rattle.drive_laws.specs.Laws.{is_aux_act};
-ghost use Rattle.net_core.specs.Schedule.{move_step};
+ghost use Rattle.network_steps.specs.Schedule.{move_step};
 ghost use Rattle.net_drive.specs.Driven.{first_auxiliary, is_aux_move};
 ghost use Rattle.net_drive.specs.Driving.{HasRoom, IsTried, IsTurn, judged};
 ghost use Rattle.net_drive.specs.Making.{Makes, shown_move};
-ghost use Rattle.role_network.specs.Nets.{IsSoundRun, network_of};
+ghost use Rattle.net_core.specs.Nets.{IsSoundRun, network_of};
 ghost use Rattle.schedule.specs.Agendas.{agenda_of, moves_of, ready_seen};
 
 use crate::laws::known;
 use crate::steps::{is_noted, make, move_by};
 use dioc_terms::{Act, Entry, Memory};
 use dpoc_process::Runs;
-use net_core::Move;
-use role_network::Net;
+use net_core::Net;
+use network_steps::Move;
 use schedule::{ReadyRole, copy_of_act, keep_up_with};
 use std::alloc::Global;
 

@@ -24,8 +24,8 @@ pub(crate) fn known()
 pub fn resumed_runs()
     ensures { ResumedRuns }
 {
-    net_core::runs_are_sound();
-    net_core::every_run();
+    net_laws::runs_are_sound();
+    net_laws::every_run();
 }
 
 /// A law: no entry is counted as a stray exactly where the entries are a run of the bundle's

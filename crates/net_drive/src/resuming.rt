@@ -6,14 +6,15 @@ ghost use Rattle.net_drive.specs.Faults.{FullAt, StrayCounted, StraysAt};
 ghost use Rattle.net_drive.specs.Making.{shown_move};
 ghost use Rattle.net_drive.specs.Redoing.{IsRedone, Redoes};
 ghost use Rattle.net_drive.specs.Resumed.{IsNetAfter};
-ghost use Rattle.role_network.specs.Nets.{IsSoundRun, network_of};
+ghost use Rattle.net_core.specs.Nets.{IsSoundRun, network_of};
 ghost use Rattle.rule_checks.specs.Refusals.{IsAccepted};
 
 use crate::steps::{is_noted, make, move_of};
 use dioc_terms::{Bundle, Entry, Memory};
 use dpoc_process::{Begins, Runs};
-use net_core::{Move, accepted_is_sound};
-use role_network::Net;
+use net_core::Net;
+use net_laws::accepted_is_sound;
+use network_steps::Move;
 use std::alloc::Global;
 
 /// Why a run isn't resumed to its last entry.

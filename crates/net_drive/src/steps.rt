@@ -4,16 +4,16 @@ ghost use Rattle.std.specs.Prelude.{◌≡◌, ◌≢◌, ◌<◌, false, IfOk, 
 ghost use Rattle.std.specs.Option.{option_map_or};
 ghost use Rattle.dioc_terms.specs.Equality.{entry_eq};
 ghost use Rattle.dioc_terms.specs.Plain.{setting};
-ghost use Rattle.marked_laws.specs.Network.{act_step, change_step};
-ghost use Rattle.net_core.specs.Schedule.{move_step};
+ghost use Rattle.network_steps.specs.Network.{act_step, change_step};
+ghost use Rattle.network_steps.specs.Schedule.{move_step};
 ghost use Rattle.net_drive.specs.Making.{Makes, shown_move};
-ghost use Rattle.role_network.specs.Nets.{IsSoundRun, network_of};
+ghost use Rattle.net_core.specs.Nets.{IsSoundRun, network_of};
 
 use crate::resumed_laws::known;
 use dioc_terms::{Act, Entry, Memory, Role, give_up};
 use dpoc_process::Runs;
-use net_core::{Move, StepFault};
-use role_network::{ChangeFault, Net};
+use net_core::{ChangeFault, Net};
+use network_steps::{Move, StepFault};
 use std::alloc::Global;
 use trace_book::History;
 

@@ -36,10 +36,10 @@ use Rattle.role_monitor.specs.Judging.{FailsEntry, KeepsOwn, KeepsScope, Refuses
 use Rattle.role_monitor.specs.Monitoring.{MonitorState, after_own, begun_update, comes_to, own_updates, with_update}
 use Rattle.role_monitor.specs.declared.updates.Update.{Update}
 use Rattle.role_mailbox.specs.declared.mail.Mail.{Mail}
-use Rattle.role_network.proofs.ScopeLemmas.{Answer, answer_of, begin_deed, choice_is}
-use Rattle.role_network.specs.Deeds.{asks_scope}
-use Rattle.role_network.specs.Scopes.{choice_of_body, chosen_by}
-use Rattle.role_network.specs.Standing.{body_of}
+use Rattle.net_core.proofs.ScopeLemmas.{Answer, answer_of, begin_deed, choice_is}
+use Rattle.net_core.specs.Deeds.{asks_scope}
+use Rattle.net_core.specs.Scopes.{choice_of_body, chosen_by}
+use Rattle.net_core.specs.Standing.{body_of}
 
 module _ (b : Setting) (s : LocalState) (book : Book) (us : List Update) (e : Entry) (a : Act) (scope : asks_scope a ≡ true) where
   abbrev state : List (Key × Load) → ℕ → MonitorState

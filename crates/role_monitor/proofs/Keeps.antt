@@ -25,11 +25,11 @@ use Rattle.global_steps.specs.Follow.{BookChoice, KeepsBody, TakesRule, book_cho
 use Rattle.marked_laws.proofs.Equality.{key_same}
 use Rattle.marked_laws.proofs.Shapes.{none_some, some_same, if_some}
 use Rattle.marked_laws.specs.MailLaws.{HasDistinctKeys, MailIsAMap}
-use Rattle.marked_laws.specs.Network.{decision, pending_at, without}
+use Rattle.network_steps.specs.Network.{decision, pending_at, without}
 use Rattle.process_steps.specs.Laws.{is_done}
 use Rattle.process_steps.specs.Steps.{Deed, Puts, Takes, Sets, Inputs, Picks, Chooses, Got, entry_of}
 use Rattle.projection.specs.Projection.{projected}
-use Rattle.role_network.specs.Scopes.{Tells}
+use Rattle.net_core.specs.Scopes.{Tells}
 use Rattle.scope_leader.specs.Leaders.{CarriesTelling, DecidesTelling, GivesTelling, LeadersTell, SendsTelling, TellsAll}
 use Rattle.role_monitor.proofs.Ends.{CarriesEnds, DecidesEnds, GathersEnds, GivesEnds, SendsEnds, ends_kept, misfit_stays, projection_ends}
 use Rattle.role_monitor.proofs.Listings.{map_some, then_some}

@@ -8,7 +8,7 @@ use Rattle.dioc_terms.specs.Plain.{Setting}
 use Rattle.dioc_terms.specs.Processes.{Load}
 use Rattle.marked_laws.specs.Laws.{key_among, distinct_keys}
 use Rattle.marked_laws.specs.MailLaws.{HasDistinctKeys}
-use Rattle.marked_laws.specs.Network.{pending_at, without}
+use Rattle.network_steps.specs.Network.{pending_at, without}
 use Rattle.marked_laws.proofs.Equality.{key_same, key_itself}
 use Rattle.marked_laws.proofs.Shapes.{none_some, some_same}
 use Rattle.role_monitor.specs.declared.updates.Update.{Update}

@@ -27,7 +27,7 @@ use Rattle.role_monitor.specs.declared.updates.Update.{Update}
 use Rattle.role_monitor.specs.Judging.{Believes, HoldsMail, HoldsScript, KeepsOwn, MisfitsStay, RefusesOwn, RulesInCast, SameMessages, monitor_state}
 use Rattle.role_monitor.specs.Monitoring.{MonitorState, change_noted, is_own, judged_by, mon, mon_run, mon_start, others_entry, own_entries, own_entry}
 use Rattle.role_monitor.specs.Monitors.{HasRead, Shows}
-use Rattle.role_network.specs.Scopes.{Tells}
+use Rattle.net_core.specs.Scopes.{Tells}
 use Rattle.rule_book.specs.KeptBooks.{book_of}
 use Rattle.scope_leader.specs.Leaders.{LeadersTell}
 

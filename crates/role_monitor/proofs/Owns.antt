@@ -21,7 +21,7 @@ use Rattle.dpoc_process.specs.LocalStates.{LocalState, offered, step_at}
 use Rattle.marked_laws.proofs.Equality.{key_same}
 use Rattle.marked_laws.proofs.Shapes.{some_same}
 use Rattle.marked_laws.specs.MailLaws.{MailIsAMap}
-use Rattle.marked_laws.specs.Network.{pending_at}
+use Rattle.network_steps.specs.Network.{pending_at}
 use Rattle.process_steps.specs.Laws.{OffersAreSteps, StepsShowTheirActs, given_fits, is_done}
 use Rattle.process_steps.specs.Steps.{Deed, Puts, Takes, Sets, Inputs, Picks, Chooses, Given, Alone, Got, entry_of, is_offered}
 use Rattle.role_mailbox.specs.declared.mail.Mail.{Mail}
@@ -30,8 +30,8 @@ use Rattle.role_monitor.proofs.Ends.{missing_stays}
 use Rattle.role_monitor.specs.Judging.{FailsEntry, HoldsMail, KeepsOwn, MakesEntry, MisfitsStay, PutBy, RefusesOwn, SameMessages, TakenBy, is_entry, is_fitting, mail_given, monitor_state, put_by, taken_by}
 use Rattle.role_monitor.specs.Monitoring.{MonitorState, arrived, comes_to, mail_with, mail_with_some, own_mail, own_updates, after_own, own_outcome, own_entry}
 use Rattle.role_monitor.specs.declared.updates.Update.{Update}
-use Rattle.role_network.proofs.DeedLemmas.{entry_known}
-use Rattle.role_network.specs.Deeds.{asks_scope}
+use Rattle.net_core.proofs.DeedLemmas.{entry_known}
+use Rattle.net_core.specs.Deeds.{asks_scope}
 
 -- a message that was taken and put back
 pub put_back : (old mid new : Mail) (k : Key) (l : Load) → payload_at k old ≡ Some l → ChangesOnly old mid k None → ChangesOnly mid new k (Some l) → SameMessages old new

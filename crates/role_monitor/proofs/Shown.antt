@@ -22,7 +22,7 @@ use Rattle.dioc_terms.specs.Stores.{Store}
 use Rattle.dpoc_process.specs.Acting.{acting}
 use Rattle.global_steps.specs.Follow.{book_choice, change_entry, shows}
 use Rattle.marked_laws.specs.MailLaws.{HasDistinctKeys}
-use Rattle.marked_laws.specs.Network.{Network, decision, given_at, pending_at, pending_after}
+use Rattle.network_steps.specs.Network.{Network, decision, given_at, pending_at, pending_after}
 use Rattle.marked_laws.proofs.Equality.{entry_itself, role_itself}
 use Rattle.marked_laws.proofs.MarkSteps.{given_by}
 use Rattle.marked_laws.proofs.Networks.{RoleStep, ChangeStep, after_deed, given_same}

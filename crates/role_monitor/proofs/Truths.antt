@@ -19,7 +19,7 @@ use Rattle.dioc_terms.specs.Stores.{Store}
 use Rattle.dioc_terms.specs.Terms.{indexed, stamped}
 use Rattle.dpoc_process.specs.Acting.{acting, acting_lead, lead_of}
 use Rattle.global_steps.specs.Follow.{BookChoice, KeepsBody, TakesRule, book_choice, updates_after}
-use Rattle.marked_laws.specs.Network.{Network, decision, given_at, pending_at, pending_after, network_start}
+use Rattle.network_steps.specs.Network.{Network, decision, given_at, pending_at, pending_after, network_start}
 use Rattle.marked_laws.proofs.FoundParts.{taken_by}
 use Rattle.marked_laws.proofs.Networks.{after_deed, after_change, given_same}
 use Rattle.marked_laws.proofs.Shapes.{some_same}

@@ -18,13 +18,13 @@ use Rattle.dioc_terms.specs.Processes.{Process}
 use Rattle.global_steps.specs.Follow.{change_entry, shows}
 use Rattle.marked_laws.specs.Laws.{IsSound, UniqueKeys}
 use Rattle.marked_laws.specs.MailLaws.{HasDistinctKeys}
-use Rattle.marked_laws.specs.Network.{Network, NextNetwork, act_step, change_step, network_after, network_step, network_start, network_run, run_from, visible_after}
+use Rattle.network_steps.specs.Network.{Network, NextNetwork, act_step, change_step, network_after, network_step, network_start, network_run, run_from, visible_after}
 use Rattle.marked_laws.specs.RunLaws.{Extensions}
 use Rattle.marked_laws.proofs.Equality.{entry_same, entry_itself, role_itself}
 use Rattle.marked_laws.proofs.Networks.{after_deed, after_change, deed_outcome, act_outcome, entry_outcome, script_outcome, change_outcome, network_cases}
 use Rattle.marked_laws.proofs.Shapes.{none_some}
 use Rattle.process_steps.specs.Steps.{Deed, entry_of, step}
-use Rattle.net_core.specs.Laws.{AcceptedIsSound}
+use Rattle.net_laws.specs.Laws.{AcceptedIsSound}
 use Rattle.role_monitor.specs.Laws.{RunsNeverDeviate, KeptTracesAreRuns, is_of_cast, change_stands, changes_stand}
 use Rattle.role_monitor.specs.Monitoring.{MonitorState, comes_to, after_own, own_outcome, own_entry, others_entry, judged_by, mon, mon_from, deviates_from}
 use Rattle.role_monitor.specs.declared.updates.Update.{Update}

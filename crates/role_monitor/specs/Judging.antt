@@ -16,7 +16,7 @@ use Rattle.dioc_terms.specs.Terms.{is_in}
 use Rattle.dpoc_process.specs.LocalStates.{LocalState, local_done, step_at}
 use Rattle.global_steps.specs.Follow.{book_choice}
 use Rattle.marked_laws.specs.MailLaws.{HasDistinctKeys}
-use Rattle.marked_laws.specs.Network.{decision, pending_at, without}
+use Rattle.network_steps.specs.Network.{decision, pending_at, without}
 use Rattle.process_steps.specs.Laws.{is_done, load_fits}
 use Rattle.process_steps.specs.Steps.{Deed, Decision, Given, Alone, Got, entry_of}
 use Rattle.role_mailbox.specs.declared.mail.Mail.{Mail}

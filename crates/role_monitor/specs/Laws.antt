@@ -10,7 +10,7 @@ use Rattle.dioc_terms.specs.Equality.{member}
 use Rattle.dioc_terms.specs.Messages.{doer}
 use Rattle.dioc_terms.specs.Plain.{PlainBundle, Setting, setting}
 use Rattle.global_steps.specs.Follow.{shows}
-use Rattle.marked_laws.specs.Network.{Network, network_run, visible_after}
+use Rattle.network_steps.specs.Network.{Network, network_run, visible_after}
 use Rattle.role_monitor.specs.Monitoring.{mon_run, deviates}
 use Rattle.rule_checks.specs.Refusals.{IsAccepted}
 

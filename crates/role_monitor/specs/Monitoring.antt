@@ -23,7 +23,7 @@ use Rattle.dioc_terms.specs.Terms.{stamped}
 use Rattle.dpoc_process.specs.Acting.{Lead, acting_lead}
 use Rattle.dpoc_process.specs.LocalStates.{LocalState, local_done, step_at}
 use Rattle.global_steps.specs.Follow.{book_choice, opening_store, shows}
-use Rattle.marked_laws.specs.Network.{decision, pending_at, without}
+use Rattle.network_steps.specs.Network.{decision, pending_at, without}
 use Rattle.process_steps.specs.Steps.{Deed, Puts, Takes, Chooses, Given, Alone, Got, FromBook, entry_of}
 use Rattle.projection.specs.Projection.{projected}
 use Rattle.role_monitor.specs.declared.updates.Update.{Update}

@@ -7,8 +7,8 @@ ghost use Rattle.marked_laws.specs.Laws.{IsSound};
 ghost use Rattle.dpoc_process.specs.RoleSteps.{IsPrepared};
 ghost use Rattle.role_mailbox.specs.Pending.{room};
 ghost use Rattle.role_monitor.specs.Judging.{KeepsOwn, MisfitsStay, RefusesOwn, SameMessages};
-ghost use Rattle.role_network.specs.Deeds.{asks_scope};
-ghost use Rattle.role_network.specs.Scopes.{Tells};
+ghost use Rattle.net_core.specs.Deeds.{asks_scope};
+ghost use Rattle.net_core.specs.Scopes.{Tells};
 ghost use Rattle.rule_book.specs.KeptBooks.{book_of, IsBookOf};
 
 use crate::own::judge_plain;

@@ -8,7 +8,7 @@ ghost use Rattle.role_monitor.specs.Laws.{KeptTracesAreRuns, RunsNeverDeviate};
 pub fn runs_never_deviate()
     ensures { RunsNeverDeviate }
 {
-    net_core::accepted_is_sound();
+    net_laws::accepted_is_sound();
     marked_laws::unique_keys();
     marked_laws::runs_extend();
 }
@@ -20,7 +20,7 @@ pub fn runs_never_deviate()
 pub fn kept_traces_are_runs()
     ensures { KeptTracesAreRuns }
 {
-    net_core::accepted_is_sound();
+    net_laws::accepted_is_sound();
     marked_laws::unique_keys();
     marked_laws::runs_extend();
 }

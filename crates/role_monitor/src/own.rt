@@ -11,7 +11,7 @@ ghost use Rattle.dpoc_process.specs.RoleSteps.{IsPrepared};
 ghost use Rattle.process_steps.specs.Laws.{given_fits, load_fits};
 ghost use Rattle.role_mailbox.specs.Pending.{payload_at, room, ChangesOnly};
 ghost use Rattle.role_monitor.specs.Judging.{FailsEntry, MakesEntry, MisfitsStay, PutBy, SameMessages, TakenBy, is_entry, is_fitting, mail_given};
-ghost use Rattle.role_network.specs.Deeds.{asks_scope};
+ghost use Rattle.net_core.specs.Deeds.{asks_scope};
 
 use dioc_terms::{Act, Entry, Key, Payload, Role, Tag};
 use dpoc_process::{Got, Prepared, Runs};

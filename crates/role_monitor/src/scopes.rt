@@ -12,11 +12,12 @@ ghost use Rattle.dioc_terms.specs.Terms.{is_in, term};
 ghost use Rattle.dpoc_process.specs.Acting.{Lead, acting_lead};
 ghost use Rattle.dpoc_process.specs.Handed.{IsEnabled, Kept};
 ghost use Rattle.dpoc_process.specs.RoleSteps.{IsPrepared, IsStep};
+ghost use Rattle.limits.specs.Limits.{top_level};
 ghost use Rattle.marked_laws.specs.Laws.{IsSound};
 ghost use Rattle.process_steps.specs.Steps.{Decision, FromBook, Keeps, Replaces};
 ghost use Rattle.role_monitor.specs.Judging.{FailsEntry, KeepsScope, decides};
-ghost use Rattle.role_network.specs.Deeds.{asks_scope};
-ghost use Rattle.role_network.specs.Scopes.{Tells};
+ghost use Rattle.net_core.specs.Deeds.{asks_scope};
+ghost use Rattle.net_core.specs.Scopes.{Tells};
 ghost use Rattle.rule_book.specs.KeptBooks.{book_of, IsBookOf};
 ghost use Rattle.scope_leader.specs.Plans.{part_of};
 
@@ -145,7 +146,7 @@ fn replace<R: Runs>(
     requires led { (lead : Lead) × (acting_lead (R.local state.old) act.now ≡ Some lead)
         × (lead.head ≡ head.now) }
     requires tells { Tells bundle.now.cast (R.local state.old) act.now }
-    requires level { head.now.level < 16 }
+    requires level { head.now.level < top_level }
     requires body { (q : OneRole) → is_in q (term rule.now.body) ≡ true
         → member q bundle.now.cast ≡ true }
     ensures shows { IfOk result (λ kept. kept ≡ entry_eq entry.now

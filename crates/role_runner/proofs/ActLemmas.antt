@@ -19,7 +19,7 @@ use Rattle.dpoc_process.specs.RoleSteps.{IsPrepared, IsStep}
 use Rattle.marked_laws.proofs.Premise.{Known}
 use Rattle.marked_laws.proofs.Shapes.{none_some, some_same}
 use Rattle.marked_laws.specs.Laws.{IsSound}
-use Rattle.marked_laws.specs.Network.{given_at}
+use Rattle.network_steps.specs.Network.{given_at}
 use Rattle.process_steps.specs.Laws.{is_done, OffersAreSteps, StepsShowTheirActs}
 use Rattle.process_steps.specs.Steps.{Deed, Puts, Takes, Given, Alone, Got, entry_of, is_offered, offers, step}
 use Rattle.role_runner.proofs.StepLemmas.{alone_given, alone_shown, can_do, own_deeds, put_shown, take_entry}

@@ -10,8 +10,8 @@ use Rattle.dioc_terms.specs.Terms.{distinct_roles}
 use Rattle.marked_laws.proofs.Choices.{all_at}
 use Rattle.marked_laws.proofs.Shapes.{none_some, some_same}
 use Rattle.marked_laws.specs.Laws.{IsSound}
-use Rattle.marked_laws.specs.Network.{network_run}
-use Rattle.net_core.specs.Schedule.{IsPrompt}
+use Rattle.network_steps.specs.Network.{network_run}
+use Rattle.network_steps.specs.Schedule.{IsPrompt}
 use Rattle.role_runner.proofs.EndLemmas.{at_within, if_some_at, went_at, went_lengths}
 use Rattle.role_runner.proofs.JobLemmas.{HomeSeat, mapped_at}
 use Rattle.role_runner.proofs.RunLemmas.{Closed, opening_at, opening_length}

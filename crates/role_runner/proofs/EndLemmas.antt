@@ -11,7 +11,7 @@ use Rattle.dioc_terms.specs.Plain.{PlainBundle}
 use Rattle.flat_role.specs.declared.states.FlatRole.{FlatRole}
 use Rattle.flat_role.specs.FlatStates.{local_of}
 use Rattle.marked_laws.proofs.Shapes.{none_some, some_same}
-use Rattle.marked_laws.specs.Network.{Network}
+use Rattle.network_steps.specs.Network.{Network}
 use Rattle.process_steps.specs.Steps.{ended}
 use Rattle.role_runner.specs.declared.threads.Ending.{Ending}
 use Rattle.role_runner.specs.declared.threads.Ending.TheVariants as ending

@@ -12,10 +12,10 @@ use Rattle.marked_laws.proofs.Equality.{role_itself, role_same}
 use Rattle.marked_laws.proofs.Premise.{all_member}
 use Rattle.marked_laws.proofs.Shapes.{none_some, some_same}
 use Rattle.marked_laws.specs.Laws.{IsSound, NothingLeft}
-use Rattle.marked_laws.specs.Network.{Network, network_ended, network_run, no_message}
+use Rattle.network_steps.specs.Network.{Network, network_ended, network_run, no_message}
 use Rattle.process_steps.specs.Steps.{ended}
-use Rattle.role_network.proofs.NetLemmas.{network_is}
-use Rattle.role_network.specs.Nets.{network_at}
+use Rattle.net_core.proofs.NetLemmas.{network_is}
+use Rattle.net_core.specs.Nets.{network_at}
 use Rattle.role_runner.proofs.EndLemmas.{at_within, went_at, went_lengths}
 use Rattle.role_runner.specs.Endings.{AllEnded, AllWent, SomeCut}
 use Rattle.stage.specs.Laws.{OthersLeaveAlone}

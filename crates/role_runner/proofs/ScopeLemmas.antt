@@ -35,13 +35,13 @@ use Rattle.marked_laws.proofs.Extension.{extensions}
 use Rattle.marked_laws.proofs.Networks.{RoleStep, ChangeStep, network_cases}
 use Rattle.marked_laws.proofs.Shapes.{none_some, some_same}
 use Rattle.marked_laws.specs.Laws.{IsSound}
-use Rattle.marked_laws.specs.Network.{Network, decision, network_run, network_start, network_step}
+use Rattle.network_steps.specs.Network.{Network, decision, network_run, network_start, network_step}
 use Rattle.process_steps.specs.Steps.{Deed, Puts, Takes, Sets, Inputs, Picks, Chooses, Decision, FromBook, entry_of, is_offered, offers, store_after}
-use Rattle.role_network.proofs.NetLemmas.{network_is}
-use Rattle.role_network.proofs.ScopeLemmas.{Answer, answer_of, body_in_cast, choice_is, choice_none, kept_brings, lead_there, replaced_brings}
-use Rattle.role_network.proofs.TellLemmas.{tells_run}
-use Rattle.role_network.specs.Scopes.{Tells, choice_of_body}
-use Rattle.role_network.specs.Standing.{Body, body_of, local_in}
+use Rattle.net_core.proofs.NetLemmas.{network_is}
+use Rattle.net_core.proofs.ScopeLemmas.{Answer, answer_of, body_in_cast, choice_is, choice_none, kept_brings, lead_there, replaced_brings}
+use Rattle.net_core.proofs.TellLemmas.{tells_run}
+use Rattle.net_core.specs.Scopes.{Tells, choice_of_body}
+use Rattle.net_core.specs.Standing.{Body, body_of, local_in}
 use Rattle.role_runner.specs.Acts.{book_given}
 use Rattle.role_runner.specs.declared.acting.Tried.TheVariants as tried
 use Rattle.role_runner.specs.Ties.{IsTied, Leaves}

@@ -24,8 +24,8 @@ use Rattle.marked_laws.proofs.Plays.{entry_doer}
 use Rattle.marked_laws.proofs.Premise.{Known}
 use Rattle.marked_laws.proofs.Shapes.{some_same}
 use Rattle.marked_laws.specs.Laws.{IsSound}
-use Rattle.marked_laws.specs.Network.{Network, NextNetwork, given_at}
-use Rattle.net_core.proofs.MoveLemmas.{reached, deed_of}
+use Rattle.network_steps.specs.Network.{Network, NextNetwork, given_at}
+use Rattle.net_laws.proofs.MoveLemmas.{reached, deed_of}
 use Rattle.process_steps.specs.Laws.{given_fits, is_done, load_fits, OffersAreSteps, StepsShowTheirActs}
 use Rattle.process_steps.specs.Steps.{Deed, Puts, Takes, Sets, Inputs, Picks, Chooses, Given, Alone, Got, FromBook, Keeps, entry_of, ended, is_offered, step}
 use Rattle.role_runner.specs.Acts.{is_alone}

@@ -16,10 +16,10 @@ use Rattle.dpoc_process.specs.LocalStates.{LocalState}
 use Rattle.dpoc_process.specs.RoleSteps.{IsStep}
 use Rattle.marked_laws.proofs.Premise.{all_member}
 use Rattle.marked_laws.proofs.Shapes.{some_same}
-use Rattle.marked_laws.specs.Network.{Network, network_ended, network_run, network_start, no_message, pending_at}
-use Rattle.net_core.specs.Schedule.{change_is_due}
+use Rattle.network_steps.specs.Network.{Network, network_ended, network_run, network_start, no_message, pending_at}
+use Rattle.network_steps.specs.Schedule.{change_is_due}
 use Rattle.process_steps.specs.Steps.{Deed, Given, ended, entry_of, step, store_after}
-use Rattle.role_network.specs.Nets.{network_at}
+use Rattle.net_core.specs.Nets.{network_at}
 use Rattle.role_runner.proofs.StepLemmas.{deed_same, left_same}
 use Rattle.role_runner.specs.declared.acting.Tried.{Tried}
 use Rattle.role_runner.specs.declared.acting.Tried.TheVariants as tried
@@ -28,7 +28,7 @@ use Rattle.stage.specs.declared.faults.CommitFault.{CommitFault}
 use Rattle.stage.specs.declared.faults.CommitFault.TheVariants as fault
 use Rattle.stage.specs.declared.faults.Why.{Why}
 use Rattle.stage.specs.Faults.{fault_if, full_fault, role_fault, stop_fault, take_fault}
-use Rattle.role_network.specs.Standing.{local_in}
+use Rattle.net_core.specs.Standing.{local_in}
 use Rattle.stage.specs.Holds.{HasFinished}
 use Rattle.stage.specs.Homes.{HasEnded, HomeState, IsCut}
 use Rattle.stage.specs.Owners.{cast_place}

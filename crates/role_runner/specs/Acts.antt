@@ -6,7 +6,7 @@ use Rattle.dioc_terms.specs.Plain.{PlainBundle}
 use Rattle.dioc_terms.specs.Rules.{Book}
 use Rattle.dioc_terms.specs.Stores.{Store}
 use Rattle.global_steps.specs.Follow.{book_choice}
-use Rattle.marked_laws.specs.Network.{decision}
+use Rattle.network_steps.specs.Network.{decision}
 use Rattle.process_steps.specs.Steps.{Given, FromBook}
 
 -- it sets a variable, reads an input or picks a branch

@@ -5,7 +5,7 @@ use Rattle.dioc_terms.specs.declared.names.Role.{Role}
 use Rattle.dioc_terms.specs.Plain.{PlainBundle}
 use Rattle.dioc_terms.specs.Processes.{Process}
 use Rattle.dioc_terms.specs.Stores.{Store}
-use Rattle.marked_laws.specs.Network.{Network, network_run}
+use Rattle.network_steps.specs.Network.{Network, network_run}
 use Rattle.process_steps.specs.Steps.{ended}
 use Rattle.role_runner.specs.Ties.{WentOn}
 use Rattle.stage.specs.Homes.{HasEnded}

@@ -16,7 +16,7 @@ use crate::scopes::begin;
 use dioc_terms::{Act, Bundle, Role};
 use dpoc_process::{PrepareFault, Runs};
 use flat_role::FlatRole;
-use role_network::opening_state;
+use net_core::opening_state;
 use stage::{CommitFault, Home, Stage, Why};
 use std::alloc::Global;
 use std::sync::Wait;

@@ -3,9 +3,9 @@
 ghost use Rattle.std.specs.Prelude.{◌≡◌, ◌≤◌, false, IfOk, length};
 ghost use Rattle.dioc_terms.specs.Plain.{plain};
 ghost use Rattle.marked_laws.specs.Laws.{IsSound};
-ghost use Rattle.marked_laws.specs.Network.{network_ended};
-ghost use Rattle.net_core.specs.Schedule.{IsPrompt};
-ghost use Rattle.role_network.specs.Nets.{network_at};
+ghost use Rattle.network_steps.specs.Network.{network_ended};
+ghost use Rattle.network_steps.specs.Schedule.{IsPrompt};
+ghost use Rattle.net_core.specs.Nets.{network_at};
 ghost use Rattle.role_runner.specs.Endings.{IsRun};
 
 use crate::gates::Gate;

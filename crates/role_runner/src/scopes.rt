@@ -11,7 +11,7 @@ ghost use Rattle.dpoc_process.specs.Handed.{IsEnabled, Kept};
 ghost use Rattle.flat_role.specs.FlatStates.{local_of, IsReady};
 ghost use Rattle.dpoc_process.specs.RoleSteps.{IsPrepared, IsStep};
 ghost use Rattle.marked_laws.specs.Laws.{IsSound};
-ghost use Rattle.role_network.specs.Scopes.{Tells};
+ghost use Rattle.net_core.specs.Scopes.{Tells};
 ghost use Rattle.role_runner.specs.Acts.{book_given};
 ghost use Rattle.role_runner.specs.Ties.{IsTied, Leaves};
 ghost use Rattle.stage.specs.Begins.{update_of};

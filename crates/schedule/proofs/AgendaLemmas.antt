@@ -11,15 +11,15 @@ use Rattle.dioc_terms.specs.declared.entries.Act.{Act}
 use Rattle.dioc_terms.specs.declared.names.Role.{Role}
 use Rattle.dioc_terms.specs.Equality.{member, role_eq}
 use Rattle.dioc_terms.specs.Plain.{PlainBundle, setting}
-use Rattle.marked_laws.specs.Network.{Network}
+use Rattle.network_steps.specs.Network.{Network}
 use Rattle.marked_laws.proofs.Equality.{role_itself}
 use Rattle.marked_laws.proofs.Premise.{Known}
 use Rattle.marked_laws.proofs.Shapes.{some_same}
-use Rattle.net_core.specs.declared.moves.Move.{Move}
-use Rattle.net_core.specs.declared.moves.Move.TheVariants as move
-use Rattle.net_core.specs.Schedule.{change_due, move_place, moves}
-use Rattle.role_network.specs.MovesIn.{ready_of}
-use Rattle.role_network.specs.Nets.{IsSoundRun, NetState, network_of}
+use Rattle.network_steps.specs.declared.moves.Move.{Move}
+use Rattle.network_steps.specs.declared.moves.Move.TheVariants as move
+use Rattle.network_steps.specs.Schedule.{change_due, move_place, moves}
+use Rattle.net_core.specs.MovesIn.{ready_of}
+use Rattle.net_core.specs.Nets.{IsSoundRun, NetState, network_of}
 use Rattle.schedule.specs.declared.agenda.ReadyRole.{ReadyRole}
 use Rattle.schedule.proofs.TouchLemmas.{untouched, untouched_by_change}
 use Rattle.schedule.specs.Agendas.{IsStale, agenda_of, moves_of, ready_in, refreshed, ready_seen, touches}

@@ -13,15 +13,15 @@ use Rattle.marked_laws.specs.Laws.{Progress}
 use Rattle.marked_laws.proofs.Equality.{act_itself, role_itself}
 use Rattle.marked_laws.proofs.Premise.{Known}
 use Rattle.marked_laws.proofs.Shapes.{none_some, some_same}
-use Rattle.net_core.specs.declared.moves.Move.{Move}
-use Rattle.net_core.specs.declared.moves.Move.TheVariants as move
-use Rattle.net_core.specs.Net.{first_fault}
-use Rattle.net_core.specs.Schedule.{change_due, is_ready, moves, role_moves}
-use Rattle.net_core.proofs.MoveLemmas.{has_move, reached}
-use Rattle.role_network.specs.declared.faults.ChangeFault.TheVariants.{Full, NotYet}
-use Rattle.role_network.specs.Changes.{change_fault, script_fault}
-use Rattle.role_network.specs.Nets.{IsSoundRun, NetState, network_of}
-use Rattle.role_network.specs.Steps.{fault_of}
+use Rattle.network_steps.specs.declared.moves.Move.{Move}
+use Rattle.network_steps.specs.declared.moves.Move.TheVariants as move
+use Rattle.net_laws.specs.Net.{first_fault}
+use Rattle.network_steps.specs.Schedule.{change_due, is_ready, moves, role_moves}
+use Rattle.net_laws.proofs.MoveLemmas.{has_move, reached}
+use Rattle.net_core.specs.declared.faults.ChangeFault.TheVariants.{Full, NotYet}
+use Rattle.net_core.specs.Changes.{change_fault, script_fault}
+use Rattle.net_core.specs.Nets.{IsSoundRun, NetState, network_of}
+use Rattle.net_core.specs.Steps.{fault_of}
 use Rattle.schedule.specs.Turns.{CanMake, has_ended}
 
 -- a fact of each move

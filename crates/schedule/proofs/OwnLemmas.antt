@@ -18,13 +18,13 @@ use Rattle.dioc_terms.specs.Terms.{Term, head_of, is_in, others}
 use Rattle.projection.specs.Projection.{projected}
 use Rattle.process_steps.specs.Steps.{ended, gather, is_offered, key, offers, send_one, tell}
 use Rattle.marked_laws.specs.Laws.{IsSound}
-use Rattle.marked_laws.specs.Network.{Network, network_run}
+use Rattle.network_steps.specs.Network.{Network, network_run}
 use Rattle.marked_laws.proofs.Constructs.{Branch, Gone, Inside, Kind, Phase, Phases, Releasing, Scoped, Sent, Stopping, Told, Turning, Waits, before, follows, inside, leader, leads, outside, ungone, untold}
 use Rattle.marked_laws.proofs.Equality.{act_same, role_same}
 use Rattle.marked_laws.proofs.Mark.{Both, First, Flying, Held, Mark, Over, Second, Spent, Still, place}
 use Rattle.marked_laws.proofs.Norm.{offers_alike}
 use Rattle.marked_laws.proofs.Premise.{Known}
-use Rattle.net_core.proofs.MoveLemmas.{reached}
+use Rattle.net_laws.proofs.MoveLemmas.{reached}
 
 take_same : {j k : Key} → act.Take j ≡ act.Take k → j ≡ k
 take_same e = cc

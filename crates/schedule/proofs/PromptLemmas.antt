@@ -8,12 +8,12 @@ use Rattle.dioc_terms.specs.declared.entries.Entry.TheVariants as entry
 use Rattle.dioc_terms.specs.declared.names.Role.{Role}
 use Rattle.dioc_terms.specs.Messages.{doer, is_aux, visible}
 use Rattle.dioc_terms.specs.Plain.{PlainBundle, Setting, setting}
-use Rattle.marked_laws.specs.Network.{Network, NextNetwork, change_step, network_ended, network_run, network_start, network_step, run_from, visible_after}
+use Rattle.network_steps.specs.Network.{Network, NextNetwork, change_step, network_ended, network_run, network_start, network_step, run_from, visible_after}
 use Rattle.marked_laws.proofs.Networks.{ChangeStep, RoleStep, network_cases}
 use Rattle.marked_laws.proofs.Shapes.{none_some, same_head, some_nil, some_same}
-use Rattle.net_core.specs.declared.moves.Move.TheVariants as move
-use Rattle.net_core.specs.Schedule.{IsPrompt, change_due, changes_in, change_is_due, move_step, moves, role_moves, scheduled}
-use Rattle.net_core.proofs.ScriptLemmas.{change_is_nobodys}
+use Rattle.network_steps.specs.declared.moves.Move.TheVariants as move
+use Rattle.network_steps.specs.Schedule.{IsPrompt, change_due, changes_in, change_is_due, move_step, moves, role_moves, scheduled}
+use Rattle.net_laws.proofs.ScriptLemmas.{change_is_nobodys}
 
 seen_one : (e : Entry) (seen : ℕ) → visible_after e seen ≡ seen + length (visible (e ∷ []))
 seen_one e seen = by_test (is_aux e)

@@ -6,9 +6,9 @@ use Rattle.std.proofs.lemmas.Bool.{both_ways, cond-false, cond-true, leb-false, 
 use Rattle.std.proofs.lemmas.List.{append-nil}
 use Rattle.dioc_terms.specs.declared.entries.Entry.{Entry}
 use Rattle.dioc_terms.specs.Plain.{PlainBundle, Setting, setting}
-use Rattle.marked_laws.specs.Network.{Network, NextNetwork, network_ended}
-use Rattle.net_core.specs.Schedule.{IsPrompt, continued, next_seed, sched_from, scheduled}
-use Rattle.role_network.specs.Nets.{IsSoundRun, NetState, network_of}
+use Rattle.network_steps.specs.Network.{Network, NextNetwork, network_ended}
+use Rattle.network_steps.specs.Schedule.{IsPrompt, continued, next_seed, sched_from, scheduled}
+use Rattle.net_core.specs.Nets.{IsSoundRun, NetState, network_of}
 use Rattle.schedule.proofs.PromptLemmas.{prompt_turn}
 use Rattle.schedule.specs.declared.runs.Finish.{Finish}
 use Rattle.schedule.specs.declared.runs.Finish.TheVariants as finish

@@ -15,16 +15,16 @@ use Rattle.dioc_terms.specs.Plain.{PlainBundle, Setting, setting}
 use Rattle.dioc_terms.specs.Processes.{Load, Process}
 use Rattle.global_steps.specs.Follow.{change_entry}
 use Rattle.marked_laws.specs.Laws.{IsSound}
-use Rattle.marked_laws.specs.Network.{Network, NextNetwork, act_step, change_step, given_at, network_run, pending_after, pending_at, without}
+use Rattle.network_steps.specs.Network.{Network, NextNetwork, act_step, change_step, given_at, network_run, pending_after, pending_at, without}
 use Rattle.marked_laws.proofs.Equality.{act_itself, key_same, role_itself}
 use Rattle.marked_laws.proofs.Networks.{after_change, after_deed, deed_outcome, entry_outcome, script_outcome}
 use Rattle.marked_laws.proofs.Plays.{entry_doer}
 use Rattle.marked_laws.proofs.Premise.{Known}
 use Rattle.marked_laws.proofs.Shapes.{if_some, none_some, some_same}
-use Rattle.net_core.specs.Schedule.{is_ready}
-use Rattle.net_core.proofs.MoveLemmas.{deed_of, reached}
+use Rattle.network_steps.specs.Schedule.{is_ready}
+use Rattle.net_laws.proofs.MoveLemmas.{deed_of, reached}
 use Rattle.process_steps.specs.Steps.{Chooses, Deed, Inputs, Picks, Puts, Sets, Takes, entry_of, is_offered, offers, step}
-use Rattle.role_network.specs.MovesIn.{ready_of}
+use Rattle.net_core.specs.MovesIn.{ready_of}
 use Rattle.schedule.proofs.OwnLemmas.{own_takes}
 use Rattle.schedule.specs.Agendas.{puts_to, touches}
 

@@ -4,12 +4,12 @@ use Rattle.std.specs.Prelude.{option_and_then}
 use Rattle.dioc_terms.specs.declared.entries.Act.{Act}
 use Rattle.dioc_terms.specs.declared.names.Role.{Role}
 use Rattle.dioc_terms.specs.Plain.{setting}
-use Rattle.net_core.specs.declared.moves.Move.{Move}
-use Rattle.net_core.specs.declared.moves.Move.TheVariants as move
-use Rattle.net_core.specs.Schedule.{move_step}
-use Rattle.role_network.specs.Changes.{IsChangeOf}
-use Rattle.role_network.specs.Nets.{NetState, network_of}
-use Rattle.role_network.specs.Steps.{IsStepOf}
+use Rattle.network_steps.specs.declared.moves.Move.{Move}
+use Rattle.network_steps.specs.declared.moves.Move.TheVariants as move
+use Rattle.network_steps.specs.Schedule.{move_step}
+use Rattle.net_core.specs.Changes.{IsChangeOf}
+use Rattle.net_core.specs.Nets.{NetState, network_of}
+use Rattle.net_core.specs.Steps.{IsStepOf}
 use Rattle.schedule.specs.Turns.{Advances, IsMoveOf, IsScheduled}
 
 pub move_of_change : (old new : NetState) → IsChangeOf old new → IsMoveOf old move.Change new

@@ -7,10 +7,10 @@ use Rattle.dioc_terms.specs.declared.entries.Entry.TheVariants as entry
 use Rattle.dioc_terms.specs.Plain.{Setting, setting}
 use Rattle.global_steps.specs.Follow.{updates_after}
 use Rattle.process_steps.specs.Steps.{entry_of}
-use Rattle.marked_laws.specs.Network.{Network, network_start, network_step, run_from}
+use Rattle.network_steps.specs.Network.{Network, network_start, network_step, run_from}
 use Rattle.marked_laws.proofs.Networks.{ChangeStep, RoleStep, network_cases}
 use Rattle.marked_laws.proofs.Shapes.{none_some, some_same}
-use Rattle.role_network.specs.Nets.{IsSoundRun, NetState, network_of}
+use Rattle.net_core.specs.Nets.{IsSoundRun, NetState, network_of}
 
 one_update : (e : Entry) (updates : ℕ) → updates_after e updates ≤ updates + 1
 one_update (entry.Scope i r (chosen.Rule name n)) updates = omega arith

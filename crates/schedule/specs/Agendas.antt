@@ -4,11 +4,11 @@ use Rattle.dioc_terms.specs.declared.entries.Act.{Act}
 use Rattle.dioc_terms.specs.declared.entries.Act.TheVariants as act
 use Rattle.dioc_terms.specs.declared.names.Role.{Role}
 use Rattle.dioc_terms.specs.Equality.{role_eq}
-use Rattle.marked_laws.specs.Network.{Network}
-use Rattle.net_core.specs.declared.moves.Move.{Move}
-use Rattle.net_core.specs.declared.moves.Move.TheVariants as move
-use Rattle.role_network.specs.MovesIn.{ready_of}
-use Rattle.role_network.specs.Nets.{NetState, network_of}
+use Rattle.network_steps.specs.Network.{Network}
+use Rattle.network_steps.specs.declared.moves.Move.{Move}
+use Rattle.network_steps.specs.declared.moves.Move.TheVariants as move
+use Rattle.net_core.specs.MovesIn.{ready_of}
+use Rattle.net_core.specs.Nets.{NetState, network_of}
 use Rattle.schedule.specs.declared.agenda.ReadyRole.{ReadyRole}
 
 -- a role with acts, as a proof sees it

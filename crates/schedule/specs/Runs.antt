@@ -2,8 +2,8 @@
 use Rattle.std.specs.Prelude.{◌≡◌, ◌-◌, ℕ, List, ◌++◌, length, nat_le, Option, Some, None, if◌then◌else◌}
 use Rattle.dioc_terms.specs.declared.entries.Entry.{Entry}
 use Rattle.dioc_terms.specs.Plain.{PlainBundle, setting}
-use Rattle.net_core.specs.Schedule.{IsPrompt, continued, sched_from}
-use Rattle.role_network.specs.Nets.{IsSoundRun, NetState, network_of}
+use Rattle.network_steps.specs.Schedule.{IsPrompt, continued, sched_from}
+use Rattle.net_core.specs.Nets.{IsSoundRun, NetState, network_of}
 use Rattle.schedule.specs.declared.runs.Finish.{Finish}
 use Rattle.schedule.specs.declared.runs.Finish.TheVariants.{Ended, Limit}
 use Rattle.schedule.specs.Turns.{has_ended}

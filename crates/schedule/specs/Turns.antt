@@ -1,13 +1,13 @@
 -- What a turn of a schedule is: a move that has no fault, and the net after it.
 use Rattle.std.specs.Prelude.{◌≡◌, ℕ, Bool, Option, Some, None, length, slice_get}
 use Rattle.dioc_terms.specs.Plain.{setting}
-use Rattle.marked_laws.specs.Network.{NextNetwork, network_ended}
-use Rattle.net_core.specs.declared.moves.Move.{Move}
-use Rattle.net_core.specs.declared.moves.Move.TheVariants as move
-use Rattle.net_core.specs.Schedule.{move_place, move_step, moves, scheduled}
-use Rattle.role_network.specs.Changes.{change_fault}
-use Rattle.role_network.specs.Nets.{NetState, network_of}
-use Rattle.role_network.specs.Steps.{GoesOn, fault_of}
+use Rattle.network_steps.specs.Network.{NextNetwork, network_ended}
+use Rattle.network_steps.specs.declared.moves.Move.{Move}
+use Rattle.network_steps.specs.declared.moves.Move.TheVariants as move
+use Rattle.network_steps.specs.Schedule.{move_place, move_step, moves, scheduled}
+use Rattle.net_core.specs.Changes.{change_fault}
+use Rattle.net_core.specs.Nets.{NetState, network_of}
+use Rattle.net_core.specs.Steps.{GoesOn, fault_of}
 
 -- whether the network of a net has ended
 abbrev pub has_ended : NetState → Bool

@@ -4,13 +4,13 @@
 ghost use Rattle.std.specs.Prelude.{◌≡◌, ◌<◌, ◌^◌, ◌-◌, true, Some, IfOk, OnOk, flat_map, length, map, slice_get};
 ghost use Rattle.std.specs.List.{list_all};
 ghost use Rattle.dioc_terms.specs.Equality.{member};
-ghost use Rattle.role_network.specs.Nets.{network_of};
+ghost use Rattle.net_core.specs.Nets.{network_of};
 ghost use Rattle.schedule.specs.Agendas.{IsStale, again, agenda_of, moves_of, puts_to, refreshed, ready_seen, touches};
 
 use dioc_terms::{Act, Memory, Role};
 use dpoc_process::Runs;
-use net_core::Move;
-use role_network::Net;
+use net_core::Net;
+use network_steps::Move;
 use std::alloc::Global;
 
 /// A role with the acts that it can do now.

@@ -1,7 +1,7 @@
 //! The numbers of a schedule with a seed, and the place of the move that a schedule takes.
 
 ghost use Rattle.std.specs.Prelude.{◌≡◌, ◌<◌};
-ghost use Rattle.net_core.specs.Schedule.{move_place, next_number, next_seed};
+ghost use Rattle.network_steps.specs.Schedule.{move_place, next_number, next_seed};
 
 const MULTIPLIER: u64 = 6364136223846793005;
 

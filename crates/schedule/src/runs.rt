@@ -1,8 +1,8 @@
 //! A run by a schedule, to its end or to its limit.
 
 ghost use Rattle.std.specs.Prelude.{◌≡◌, ◌≤◌, ◌<◌, ◌↔◌, [], true, false, None, Some, IfOk, OnErr, OnOk, length, map};
-ghost use Rattle.net_core.specs.Schedule.{IsPrompt, sched_from};
-ghost use Rattle.role_network.specs.Nets.{IsSoundRun};
+ghost use Rattle.network_steps.specs.Schedule.{IsPrompt, sched_from};
+ghost use Rattle.net_core.specs.Nets.{IsSoundRun};
 ghost use Rattle.schedule.specs.Agendas.{IsStale, ready_seen};
 ghost use Rattle.schedule.specs.Runs.{HasGone, IsOnTheWay, finish_at};
 ghost use Rattle.schedule.specs.Turns.{Advances, has_ended};
@@ -12,8 +12,8 @@ use crate::numbers::next_seed;
 use crate::turns::take_next;
 use dioc_terms::Memory;
 use dpoc_process::Runs;
-use net_core::Move;
-use role_network::Net;
+use net_core::Net;
+use network_steps::Move;
 use std::mem;
 
 /// How a run finished: its network has ended, or its history is full.

@@ -2,10 +2,10 @@
 
 ghost use Rattle.std.specs.Prelude.{◌≡◌, ◌<◌, ◌≤◌, ◌+◌, ◌∷◌, false, None, Some, IfOk, OnErr, OnOk, flat_map, length, map, slice_get};
 ghost use Rattle.dioc_terms.specs.Plain.{setting};
-ghost use Rattle.net_core.specs.Schedule.{moves};
-ghost use Rattle.role_network.specs.Changes.{change_fault};
-ghost use Rattle.role_network.specs.Nets.{IsSoundRun, network_of};
-ghost use Rattle.role_network.specs.Steps.{fault_of};
+ghost use Rattle.network_steps.specs.Schedule.{moves};
+ghost use Rattle.net_core.specs.Changes.{change_fault};
+ghost use Rattle.net_core.specs.Nets.{IsSoundRun, network_of};
+ghost use Rattle.net_core.specs.Steps.{fault_of};
 ghost use Rattle.schedule.specs.Agendas.{IsStale, agenda_of, moves_of, ready_seen};
 ghost use Rattle.schedule.specs.Turns.{Advances, CanMake, IsMoveOf, IsScheduled, has_ended};
 
@@ -14,8 +14,8 @@ use crate::laws::known;
 use crate::numbers::move_place;
 use dioc_terms::{Act, Memory, Role};
 use dpoc_process::Runs;
-use net_core::{Move, StepFault};
-use role_network::{ChangeFault, Net};
+use net_core::{ChangeFault, Net};
+use network_steps::{Move, StepFault};
 use std::alloc::Global;
 
 /// Takes the schedule's next move, and tells which it was. After a refusal the net is unchanged.

@@ -6,6 +6,7 @@ ghost use Rattle.dioc_terms.specs.declared.processes.Tag.TheVariants.{Begin};
 ghost use Rattle.dioc_terms.specs.Equality.{member};
 ghost use Rattle.dioc_terms.specs.Processes.{process, letters, load, Part, More};
 ghost use Rattle.dioc_terms.specs.Terms.{term, is_in};
+ghost use Rattle.limits.specs.Limits.{top_level};
 ghost use Rattle.process_steps.specs.Steps.{key, letters_to};
 ghost use Rattle.projection.specs.Projection.{projected};
 ghost use Rattle.scope_leader.specs.Plans.{part_of, is_told, told_roles, begin_messages};
@@ -30,7 +31,7 @@ pub fn plan_update(
     epoch: u32,
     body: &Choreo,
 ) -> Result<Parts, Memory>
-    requires level { head.now.level < 16 }
+    requires level { head.now.level < top_level }
     requires body { (q : OneRole) → is_in q (term body.now) ≡ true → member q cast.now ≡ true }
     ensures own { IfOk result (λ parts.
         process parts.own ≡ part_of cast.now head.now epoch (term body.now) head.now.leader) }

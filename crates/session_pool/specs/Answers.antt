@@ -2,9 +2,9 @@
 use Rattle.std.specs.Prelude.{ℕ, List, map, Bool, Option, Some, None, Result, Ok, Err}
 use Rattle.dioc_terms.specs.declared.entries.Entry.{Entry}
 use Rattle.dioc_terms.specs.Plain.{PlainBundle}
-use Rattle.marked_laws.specs.Network.{network_ended}
-use Rattle.net_core.specs.Schedule.{sched}
-use Rattle.role_network.specs.Nets.{network_at}
+use Rattle.network_steps.specs.Network.{network_ended}
+use Rattle.network_steps.specs.Schedule.{sched}
+use Rattle.net_core.specs.Nets.{network_at}
 use Rattle.rule_checks.specs.declared.refusals.Refusal.{Refusal}
 use Rattle.rule_checks.specs.Refusals.{refusal}
 use Rattle.session_pool.specs.declared.answers.Answer.{Answer}

@@ -8,8 +8,8 @@ ghost use Rattle.session_pool.specs.Answers.{answer_of, answer_seen, ended_after
 
 use dioc_terms::{Bundle, Memory, give_up};
 use flat_role::FlatRole;
-use net_core::accepted_is_sound;
-use role_network::Net;
+use net_core::Net;
+use net_laws::accepted_is_sound;
 use rule_checks::{Refusal, accept};
 use schedule::run_seeded;
 use std::alloc::Global;

@@ -23,14 +23,14 @@ use Rattle.dpoc_process.specs.Acting.{Lead, acting, lead_of}
 use Rattle.dpoc_process.specs.LocalStates.{LocalState}
 use Rattle.global_steps.specs.Follow.{BookChoice, KeepsBody, TakesRule, book_choice, updates_after}
 use Rattle.marked_laws.proofs.Shapes.{none_some, some_same}
-use Rattle.marked_laws.specs.Network.{Network, decision}
+use Rattle.network_steps.specs.Network.{Network, decision}
 use Rattle.process_steps.specs.Laws.{is_done, OffersAreSteps}
 use Rattle.process_steps.specs.Steps.{Deed, Chooses, Decision, FromBook, entry_of, step}
 use Rattle.role_mailbox.specs.declared.mail.Mail.{Mail}
-use Rattle.role_network.proofs.NetLemmas.{network_is}
-use Rattle.role_network.proofs.ScopeLemmas.{begin_deed}
-use Rattle.role_network.specs.Scopes.{chosen_by}
-use Rattle.role_network.specs.Standing.{ScriptedChange}
+use Rattle.net_core.proofs.NetLemmas.{network_is}
+use Rattle.net_core.proofs.ScopeLemmas.{begin_deed}
+use Rattle.net_core.specs.Scopes.{chosen_by}
+use Rattle.net_core.specs.Standing.{ScriptedChange}
 use Rattle.rule_book.specs.declared.book.Book.{Book as KeptBook}
 use Rattle.rule_book.specs.KeptBooks.{book_of}
 use Rattle.stage.proofs.HomeLemmas.{Laws, home_did, role_free, shown}

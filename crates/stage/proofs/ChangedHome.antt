@@ -5,15 +5,15 @@ use Rattle.dioc_terms.specs.declared.names.Role.{Role}
 use Rattle.dioc_terms.specs.Messages.{doer, visible}
 use Rattle.dioc_terms.specs.Plain.{PlainBundle, setting}
 use Rattle.marked_laws.proofs.Shapes.{some_same}
-use Rattle.marked_laws.specs.Network.{Network, network_run}
-use Rattle.net_core.proofs.ScriptLemmas.{change_is_nobodys}
-use Rattle.net_core.specs.Schedule.{changes_in, IsPrompt}
+use Rattle.network_steps.specs.Network.{Network, network_run}
+use Rattle.net_laws.proofs.ScriptLemmas.{change_is_nobodys}
+use Rattle.network_steps.specs.Schedule.{changes_in, IsPrompt}
 use Rattle.dpoc_process.specs.LocalStates.{LocalState}
 use Rattle.role_mailbox.specs.declared.mail.Mail.{Mail}
-use Rattle.role_network.proofs.ChangeLemmas.{changes, runs, stands_changed}
-use Rattle.role_network.specs.Scripts.{ChangeMade}
-use Rattle.role_network.specs.Standing.{ScriptedChange, HoldsRun, body_of, local_in}
-use Rattle.role_network.specs.StepLaws.{StepsRun}
+use Rattle.net_core.proofs.ChangeLemmas.{changes, runs, stands_changed}
+use Rattle.net_core.specs.Scripts.{ChangeMade}
+use Rattle.net_core.specs.Standing.{ScriptedChange, HoldsRun, body_of, local_in}
+use Rattle.net_core.specs.StepLaws.{StepsRun}
 use Rattle.rule_book.specs.declared.book.Book.{Book as KeptBook}
 use Rattle.stage.proofs.HomeLemmas.{ended_stays, stopped_not}
 use Rattle.stage.proofs.PromptRuns.{one_change_more, prompt_more}

@@ -14,12 +14,12 @@ use Rattle.dioc_terms.proofs.processes.Key.TheSendSync as key_sends
 use Rattle.dioc_terms.proofs.processes.ScopeHead.TheSendSync as head_sends
 use Rattle.dioc_terms.proofs.processes.Tag.TheSendSync as tag_sends
 use Rattle.dioc_terms.proofs.values.Value.TheSendSync as value_sends
-use Rattle.role_network.proofs.bodies.Coming.TheSendSync as change_sends
+use Rattle.net_core.proofs.bodies.Coming.TheSendSync as change_sends
 use Rattle.trace_book.proofs.history.History.TheSendSync as entries_send
 use Rattle.turn_lock.proofs.turns.Seat.TheSendSync as seat_sends
 use Rattle.turn_lock.proofs.turns.Turns.TheSendSync as turns_sync
 use Rattle.role_mailbox.specs.contracts.mail.Mail as mail
-use Rattle.role_network.specs.contracts.bodies.Coming as coming
+use Rattle.net_core.specs.contracts.bodies.Coming as coming
 use Rattle.rule_book.specs.contracts.book.Book as book
 use Rattle.trace_book.specs.contracts.history.History as history
 use Rattle.stage.specs.contracts.home.Home as home

@@ -12,7 +12,7 @@ use Rattle.dioc_terms.specs.Plain.{PlainBundle}
 use Rattle.marked_laws.proofs.Equality.{role_same}
 use Rattle.marked_laws.proofs.Shapes.{none_some, some_same}
 use Rattle.role_mailbox.specs.declared.mail.Mail.{Mail}
-use Rattle.role_network.specs.Standing.{ScriptedChange}
+use Rattle.net_core.specs.Standing.{ScriptedChange}
 use Rattle.rule_book.specs.declared.book.Book.{Book as KeptBook}
 use Rattle.stage.specs.declared.faults.Why.{Why}
 use Rattle.stage.specs.Homes.{HasEnded, HomeState, IsHome, MarksHold}

@@ -13,12 +13,12 @@ use Rattle.dioc_terms.specs.Messages.{doer, visible}
 use Rattle.dioc_terms.specs.Plain.{PlainBundle, PlainRule}
 use Rattle.global_steps.specs.Follow.{change_entry}
 use Rattle.marked_laws.proofs.Shapes.{none_some, some_same}
-use Rattle.net_core.specs.Schedule.{changes_in}
+use Rattle.network_steps.specs.Schedule.{changes_in}
 use Rattle.role_mailbox.specs.declared.mail.Mail.{Mail}
-use Rattle.role_network.proofs.ChangeLemmas as scripted
-use Rattle.role_network.specs.Scripts.{ChangeMade}
-use Rattle.role_network.specs.Standing.{ScriptedChange, body_of, due_of, local_in}
-use Rattle.role_network.specs.StepLaws.{StepsRun}
+use Rattle.net_core.proofs.ChangeLemmas as scripted
+use Rattle.net_core.specs.Scripts.{ChangeMade}
+use Rattle.net_core.specs.Standing.{ScriptedChange, body_of, due_of, local_in}
+use Rattle.net_core.specs.StepLaws.{StepsRun}
 use Rattle.rule_book.specs.declared.book.Book.{Book as KeptBook}
 use Rattle.stage.proofs.ChangedHome.{with_locals}
 use Rattle.stage.proofs.HomeLemmas.{no_fault_if, no_stop, not_full, or_none}

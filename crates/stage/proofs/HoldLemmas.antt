@@ -9,12 +9,12 @@ use Rattle.dioc_terms.specs.declared.processes.Key.{Key}
 use Rattle.dioc_terms.specs.Messages.{doer, act_of}
 use Rattle.dioc_terms.specs.Plain.{setting}
 use Rattle.dioc_terms.specs.Processes.{Load}
-use Rattle.marked_laws.specs.Network.{Network, given_at, pending_at}
+use Rattle.network_steps.specs.Network.{Network, given_at, pending_at}
 use Rattle.process_steps.specs.Laws.{StepsShowTheirActs}
 use Rattle.process_steps.specs.Steps.{Deed, Given, Alone, Got, Takes, entry_of}
-use Rattle.role_network.proofs.NetLemmas.{network_is}
-use Rattle.role_network.specs.Deeds.{message_given}
-use Rattle.role_network.specs.Nets.{network_at}
+use Rattle.net_core.proofs.NetLemmas.{network_is}
+use Rattle.net_core.specs.Deeds.{message_given}
+use Rattle.net_core.specs.Nets.{network_at}
 use Rattle.turn_lock.specs.declared.views.Claim.{Claim}
 use Rattle.turn_lock.specs.declared.views.View.{View}
 use Rattle.turn_lock.specs.Items.{Shares, items_of}

@@ -20,19 +20,19 @@ use Rattle.marked_laws.proofs.Networks.{after_deed, deed_outcome}
 use Rattle.marked_laws.proofs.Shapes.{some_same}
 use Rattle.marked_laws.specs.Laws.{IsSound, UniqueKeys}
 use Rattle.marked_laws.specs.MailLaws.{MailIsAMap}
-use Rattle.marked_laws.specs.Network.{Network, given_at, network_run, pending_at}
-use Rattle.net_core.specs.Schedule.{change_is_due, change_due}
+use Rattle.network_steps.specs.Network.{Network, given_at, network_run, pending_at}
+use Rattle.network_steps.specs.Schedule.{change_is_due, change_due}
 use Rattle.process_steps.specs.Laws.{is_done, OffersAreSteps, StepsShowTheirActs}
 use Rattle.process_steps.specs.Steps.{Deed, Puts, Takes, Sets, Inputs, Picks, Chooses, Given, Alone, Got, entry_of, ended, is_offered, offers, step}
 use Rattle.role_mailbox.specs.declared.mail.Mail.{Mail}
 use Rattle.role_mailbox.specs.Pending.{messages, payload_at}
-use Rattle.role_network.proofs.MailLemmas.{mail_now, put_was_free}
-use Rattle.role_network.proofs.NetLemmas.{network_is, visible_now}
-use Rattle.role_network.specs.Deeds.{MailAfter, message_given}
-use Rattle.role_network.specs.MovesIn.{is_first_due}
-use Rattle.role_network.specs.Nets.{network_at}
-use Rattle.role_network.specs.Standing.{ScriptedChange}
-use Rattle.role_network.specs.StepLaws.{StepsRun}
+use Rattle.net_core.proofs.MailLemmas.{mail_now, put_was_free}
+use Rattle.net_core.proofs.NetLemmas.{network_is, visible_now}
+use Rattle.net_core.specs.Deeds.{MailAfter, message_given}
+use Rattle.net_core.specs.MovesIn.{is_first_due}
+use Rattle.net_core.specs.Nets.{network_at}
+use Rattle.net_core.specs.Standing.{ScriptedChange}
+use Rattle.net_core.specs.StepLaws.{StepsRun}
 use Rattle.rule_book.specs.declared.book.Book.{Book as KeptBook}
 use Rattle.stage.proofs.PromptRuns.{prompt_more, no_change_more, first_due}
 use Rattle.stage.proofs.Runs.{stands_still}

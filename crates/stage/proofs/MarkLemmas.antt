@@ -9,11 +9,11 @@ use Rattle.dioc_terms.specs.declared.processes.ScopeHead.{ScopeHead}
 use Rattle.dioc_terms.specs.Stores.{Store}
 use Rattle.global_steps.specs.Follow.{book_choice}
 use Rattle.marked_laws.proofs.Shapes.{some_same}
-use Rattle.marked_laws.specs.Network.{Network, decision}
+use Rattle.network_steps.specs.Network.{Network, decision}
 use Rattle.process_steps.specs.Laws.{OffersAreSteps}
 use Rattle.process_steps.specs.Steps.{Deed, Chooses, Decision, FromBook, entry_of}
-use Rattle.role_network.proofs.NetLemmas.{network_is}
-use Rattle.role_network.specs.Scopes.{chosen_by}
+use Rattle.net_core.proofs.NetLemmas.{network_is}
+use Rattle.net_core.specs.Scopes.{chosen_by}
 use Rattle.turn_lock.specs.declared.views.View.{View}
 use Rattle.turn_lock.specs.Items.{items_of}
 use Rattle.turn_lock.specs.Views.{number, mine, entered, left_with}

@@ -12,11 +12,11 @@ use Rattle.dioc_terms.specs.declared.names.Role.{Role}
 use Rattle.dioc_terms.specs.Plain.{PlainBundle, plain_rule}
 use Rattle.dioc_terms.specs.Rules.{opening_book}
 use Rattle.marked_laws.specs.Laws.{IsSound}
-use Rattle.marked_laws.specs.Network.{network_start}
+use Rattle.network_steps.specs.Network.{network_start}
 use Rattle.role_mailbox.specs.declared.mail.Mail.{Mail}
 use Rattle.role_mailbox.specs.Pending.{messages}
-use Rattle.role_network.proofs.StartLemmas.{stands_started}
-use Rattle.role_network.specs.Standing.{ScriptedChange, Parts, HoldsRun, body_of, due_of, local_in}
+use Rattle.net_core.proofs.StartLemmas.{stands_started}
+use Rattle.net_core.specs.Standing.{ScriptedChange, Parts, HoldsRun, body_of, due_of, local_in}
 use Rattle.rule_book.specs.declared.book.Book.{Book as KeptBook}
 use Rattle.rule_book.specs.KeptBooks.{book_of, coming, IsBookOf}
 use Rattle.stage.proofs.PromptRuns.{prompt_none}

@@ -8,10 +8,10 @@ use Rattle.dioc_terms.specs.Messages.{act_of}
 use Rattle.dioc_terms.specs.Plain.{Setting}
 use Rattle.global_steps.specs.Follow.{updates_after}
 use Rattle.marked_laws.proofs.Shapes.{none_some, some_same}
-use Rattle.marked_laws.specs.Network.{Network, given_at}
+use Rattle.network_steps.specs.Network.{Network, given_at}
 use Rattle.process_steps.specs.Steps.{Deed, Alone, entry_of}
 use Rattle.role_mailbox.specs.declared.mail.Mail.{Mail}
-use Rattle.role_network.specs.Deeds.{MailAfter}
+use Rattle.net_core.specs.Deeds.{MailAfter}
 use Rattle.stage.specs.Roles.{own_deed}
 
 pub record IsOwn (e : Entry) (d : Deed) : Type 0 where

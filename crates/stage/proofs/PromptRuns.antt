@@ -8,9 +8,9 @@ use Rattle.dioc_terms.specs.declared.entries.Entry.{Entry}
 use Rattle.dioc_terms.specs.Messages.{doer}
 use Rattle.dioc_terms.specs.Plain.{PlainBundle, PlainRule}
 use Rattle.marked_laws.proofs.Shapes.{same_head, some_nil}
-use Rattle.net_core.specs.Schedule.{change_due, changes_in, change_is_due, IsPrompt}
-use Rattle.role_network.specs.MovesIn.{is_first_due}
-use Rattle.role_network.specs.Standing.{due_of}
+use Rattle.network_steps.specs.Schedule.{change_due, changes_in, change_is_due, IsPrompt}
+use Rattle.net_core.specs.MovesIn.{is_first_due}
+use Rattle.net_core.specs.Standing.{due_of}
 
 -- where an entry stands in a list with one more
 split_last : {A : Type 0} (H before : List A) (e x : A) (rest : List A) → H ++ e ∷ [] ≡ before ++ x ∷ rest

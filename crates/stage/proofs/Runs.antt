@@ -14,7 +14,7 @@ use Rattle.dioc_terms.specs.Plain.{PlainBundle, Setting, setting}
 use Rattle.dioc_terms.specs.Processes.{Process}
 use Rattle.dioc_terms.specs.Stores.{Store}
 use Rattle.process_steps.specs.Steps.{entry_of, store_after, step}
-use Rattle.marked_laws.specs.Network.{Network, NextNetwork, given_at, act_step, change_step, network_after, network_step, run_from, network_run}
+use Rattle.network_steps.specs.Network.{Network, NextNetwork, given_at, act_step, change_step, network_after, network_step, run_from, network_run}
 use Rattle.marked_laws.proofs.Equality.{role_same, role_itself, entry_itself}
 use Rattle.marked_laws.proofs.Extension.{extensions}
 use Rattle.marked_laws.proofs.Networks.{RoleStep, ChangeStep, network_cases, after_deed, deed_outcome, act_outcome}

@@ -12,8 +12,8 @@ use Rattle.dioc_terms.specs.Rules.{Book, choose}
 use Rattle.dioc_terms.specs.Stores.{Store}
 use Rattle.dpoc_process.specs.Acting.{Lead, acting_lead}
 use Rattle.global_steps.specs.Follow.{BookChoice, KeepsBody, TakesRule, book_choice}
-use Rattle.marked_laws.specs.Network.{Network}
-use Rattle.role_network.specs.Nets.{network_at}
+use Rattle.network_steps.specs.Network.{Network}
+use Rattle.net_core.specs.Nets.{network_at}
 use Rattle.stage.specs.Homes.{HomeState}
 use Rattle.stage.specs.Roles.{RoleStandsAt}
 

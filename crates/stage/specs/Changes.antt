@@ -3,8 +3,8 @@ use Rattle.std.specs.Prelude.{◌≡◌, ℕ, List, [], ◌∷◌, Option, Some,
 use Rattle.dioc_terms.specs.declared.bundles.Timed.{Timed}
 use Rattle.dioc_terms.specs.declared.entries.Entry.{Entry}
 use Rattle.global_steps.specs.Follow.{change_entry}
-use Rattle.net_core.specs.Schedule.{changes_in}
-use Rattle.role_network.specs.Standing.{ScriptedChange}
+use Rattle.network_steps.specs.Schedule.{changes_in}
+use Rattle.net_core.specs.Standing.{ScriptedChange}
 use Rattle.stage.specs.Homes.{HomeState, with_entry}
 
 -- how many visible entries the first of the changes still to come asks for, none where none is to

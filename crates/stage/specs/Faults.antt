@@ -5,9 +5,9 @@ use Rattle.std.specs.Option.{option_or}
 use Rattle.dioc_terms.specs.declared.bundles.Timed.{Timed}
 use Rattle.dioc_terms.specs.declared.processes.Key.{Key}
 use Rattle.dioc_terms.specs.Messages.{visible}
-use Rattle.marked_laws.specs.Network.{pending_at}
-use Rattle.net_core.specs.Schedule.{changes_in, change_is_due}
-use Rattle.role_network.specs.Nets.{network_at}
+use Rattle.network_steps.specs.Network.{pending_at}
+use Rattle.network_steps.specs.Schedule.{changes_in, change_is_due}
+use Rattle.net_core.specs.Nets.{network_at}
 use Rattle.stage.specs.declared.faults.CommitFault.{CommitFault}
 use Rattle.stage.specs.declared.faults.CommitFault.TheVariants as fault
 use Rattle.stage.specs.declared.faults.Why.{Why}

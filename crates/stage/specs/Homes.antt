@@ -9,12 +9,12 @@ use Rattle.dioc_terms.specs.Plain.{PlainBundle, PlainRule}
 use Rattle.dioc_terms.specs.Processes.{Process}
 use Rattle.dioc_terms.specs.Stores.{Store}
 use Rattle.marked_laws.specs.Laws.{IsSound}
-use Rattle.marked_laws.specs.Network.{Network, network_run, network_ended, pending_at}
-use Rattle.net_core.specs.Schedule.{changes_in, IsPrompt}
+use Rattle.network_steps.specs.Network.{Network, network_run, network_ended, pending_at}
+use Rattle.network_steps.specs.Schedule.{changes_in, IsPrompt}
 use Rattle.process_steps.specs.Steps.{ended}
 use Rattle.role_mailbox.specs.declared.mail.Mail.{Mail}
 use Rattle.role_mailbox.specs.Pending.{payload_at}
-use Rattle.role_network.specs.Standing.{ScriptedChange, due_of}
+use Rattle.net_core.specs.Standing.{ScriptedChange, due_of}
 use Rattle.rule_book.specs.declared.book.Book.{Book as KeptBook}
 use Rattle.rule_book.specs.KeptBooks.{book_of, coming, IsBookOf}
 use Rattle.stage.specs.declared.faults.Why.{Why}

@@ -9,7 +9,7 @@ use Rattle.dioc_terms.specs.Plain.{PlainBundle, setting}
 use Rattle.dioc_terms.specs.Processes.{Process}
 use Rattle.dioc_terms.specs.Stores.{Store}
 use Rattle.process_steps.specs.Steps.{Deed, entry_of, store_after, step}
-use Rattle.marked_laws.specs.Network.{Network, given_at, network_run}
+use Rattle.network_steps.specs.Network.{Network, given_at, network_run}
 use Rattle.turn_lock.specs.Items.{items_of, BeginsWith}
 use Rattle.stage.specs.Owners.{cast_place, owner_in}
 use Rattle.stage.specs.Roles.{RoleStandsAt}

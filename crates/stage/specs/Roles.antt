@@ -12,7 +12,7 @@ use Rattle.dioc_terms.specs.Plain.{PlainBundle}
 use Rattle.dioc_terms.specs.Processes.{Process}
 use Rattle.dioc_terms.specs.Stores.{Store}
 use Rattle.process_steps.specs.Steps.{Deed, Sets, Inputs, Picks, Given, Alone, entry_of, is_offered, offers, step}
-use Rattle.marked_laws.specs.Network.{Network, network_run}
+use Rattle.network_steps.specs.Network.{Network, network_run}
 
 -- in the network after the history the role has this process and this store
 pub record RoleStandsAt (b : PlainBundle) (H : List Entry) (q : Role) (P : Process)

@@ -9,7 +9,7 @@ use Rattle.dioc_terms.specs.Messages.{doer}
 use Rattle.dioc_terms.specs.Plain.{PlainBundle, setting}
 use Rattle.dioc_terms.specs.Processes.{Process}
 use Rattle.dioc_terms.specs.Stores.{Store}
-use Rattle.marked_laws.specs.Network.{given_at}
+use Rattle.network_steps.specs.Network.{given_at}
 use Rattle.process_steps.specs.Steps.{Deed, Given, Alone, entry_of, step, store_after}
 use Rattle.turn_lock.specs.declared.views.Claim.{Claim}
 use Rattle.turn_lock.specs.declared.views.View.{View}

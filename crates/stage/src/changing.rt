@@ -4,14 +4,14 @@ ghost use Rattle.std.specs.Prelude.{◌≡◌, ◌≢◌, IfErr, OnErr, OnOk, No
 ghost use Rattle.std.specs.List.{list_all};
 ghost use Rattle.std.specs.Option.{option_or};
 ghost use Rattle.dioc_terms.specs.Messages.{visible};
-ghost use Rattle.net_core.specs.Schedule.{changes_in};
-ghost use Rattle.role_network.specs.KeptParts.{due_seen};
+ghost use Rattle.network_steps.specs.Schedule.{changes_in};
+ghost use Rattle.net_core.specs.KeptParts.{due_seen};
 ghost use Rattle.stage.specs.Changes.{IsChanged, first_after};
 ghost use Rattle.stage.specs.Faults.{fault_if, feeder_fault, full_fault, next_fault};
 
 use crate::faults::CommitFault;
 use crate::home::Home;
-use role_network::{Coming, make_change, steps_run};
+use net_core::{Coming, make_change, steps_run};
 use std::collections::VecDeque;
 
 impl Home {

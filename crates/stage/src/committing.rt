@@ -5,9 +5,9 @@ ghost use Rattle.std.specs.Prelude.{◌≡◌, ◌≢◌, IfErr, IfOk, OnErr, On
 ghost use Rattle.dioc_terms.specs.declared.entries.Act.TheVariants as acts;
 ghost use Rattle.dioc_terms.specs.declared.entries.Entry.TheVariants as entry;
 ghost use Rattle.dioc_terms.specs.Processes.{load, noted};
-ghost use Rattle.marked_laws.specs.Network.{pending_at};
+ghost use Rattle.network_steps.specs.Network.{pending_at};
 ghost use Rattle.process_steps.specs.Steps.{Alone, Puts};
-ghost use Rattle.role_network.specs.Nets.{network_at};
+ghost use Rattle.net_core.specs.Nets.{network_at};
 ghost use Rattle.stage.specs.Faults.{role_fault, take_fault};
 ghost use Rattle.stage.specs.Homes.{with_entry};
 ghost use Rattle.stage.specs.Roles.{CanAdd, CanDo, CanTake};
@@ -16,7 +16,7 @@ use crate::faults::CommitFault;
 use crate::home::Home;
 use crate::messages::{push_entry, put_message, take_message};
 use dioc_terms::{Entry, Key, Name, Payload};
-use role_network::steps_run;
+use net_core::steps_run;
 
 impl Home {
     /// Puts a message of a role. After a refusal the home is as it was, and the key and the payload

@@ -2,14 +2,14 @@
 
 ghost use Rattle.std.specs.Prelude.{◌≡◌, nat_le, length};
 ghost use Rattle.dioc_terms.specs.Plain.{plain};
-ghost use Rattle.net_core.specs.Schedule.{change_is_due};
+ghost use Rattle.network_steps.specs.Schedule.{change_is_due};
 ghost use Rattle.stage.specs.Faults.{role_fault, take_fault};
 ghost use Rattle.stage.specs.Homes.{IsSoundHome};
 
 use crate::faults::{CommitFault, Why};
 use dioc_terms::{Bundle, Entry, Key, Name, Roles};
+use net_core::{Coming, is_first_due};
 use role_mailbox::Mail;
-use role_network::{Coming, is_first_due};
 use rule_book::Book;
 use std::alloc::Global;
 use std::collections::VecDeque;
@@ -60,8 +60,8 @@ impl Model for Home {
     ghost use Rattle.std.specs.Prelude.{map};
     ghost use Rattle.std.specs.Coded.{codes};
     ghost use Rattle.dioc_terms.specs.Plain.{plain};
-    ghost use Rattle.role_network.specs.Codes.{expression_code, term_code};
-    ghost use Rattle.role_network.specs.KeptParts.{due_seen};
+    ghost use Rattle.net_core.specs.Codes.{expression_code, term_code};
+    ghost use Rattle.net_core.specs.KeptParts.{due_seen};
     ghost use Rattle.stage.specs.Homes.{HomeState, IsHome};
 
     ghost Value = { HomeState };
@@ -91,7 +91,7 @@ pub struct StageBase {
 impl Model for StageBase {
     ghost use Rattle.std.specs.Coded.{codes};
     ghost use Rattle.dioc_terms.specs.Plain.{plain};
-    ghost use Rattle.role_network.specs.Codes.{expression_code, term_code};
+    ghost use Rattle.net_core.specs.Codes.{expression_code, term_code};
     ghost use Rattle.stage.specs.Seats.{Base};
 
     ghost Value = { Base };

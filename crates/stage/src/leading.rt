@@ -14,7 +14,7 @@ use crate::faults::CommitFault;
 use crate::home::Home;
 use crate::messages::push_entry;
 use dioc_terms::{Chosen, Entry, Memory, Name, ScopeHead, Store};
-use role_network::steps_run;
+use net_core::steps_run;
 use rule_book::Book;
 use std::alloc::Global;
 use trace_book::History;

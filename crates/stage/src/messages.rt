@@ -5,7 +5,7 @@ ghost use Rattle.dioc_terms.specs.declared.entries.Entry.TheVariants as entry;
 ghost use Rattle.dioc_terms.specs.Processes.{Load, load, noted};
 ghost use Rattle.process_steps.specs.Steps.{Puts, Takes};
 ghost use Rattle.role_mailbox.specs.Pending.{messages, payload_at, room};
-ghost use Rattle.role_network.specs.Deeds.{MailAfter};
+ghost use Rattle.net_core.specs.Deeds.{MailAfter};
 
 use dioc_terms::{Entry, Key, Memory, Name, Note, Payload};
 use role_mailbox::Mail;

@@ -7,8 +7,8 @@ ghost use Rattle.stage.specs.Homes.{opening_home};
 
 use crate::home::Home;
 use dioc_terms::{Bundle, Memory, Name, Role, Rule};
+use net_core::keep_script;
 use role_mailbox::Mail;
-use role_network::keep_script;
 use rule_book::Book;
 use std::alloc::Global;
 use std::snapshot::Snapshot;

@@ -19,7 +19,7 @@ use crate::laws::{deeds_move, others_leave_alone};
 use crate::pulse::Pulse;
 use crate::seating::make_seats;
 use dioc_terms::{Bundle, Entry, Key, Memory, Name, Payload};
-use role_network::steps_run;
+use net_core::steps_run;
 use std::alloc::Global;
 use std::sync::Wait;
 use trace_book::History;

@@ -3,7 +3,7 @@
 ghost use Rattle.std.specs.Prelude.{◌≡◌, ◌≤◌, IfOk, OnOk, length};
 ghost use Rattle.dioc_terms.specs.Messages.{visible};
 ghost use Rattle.dioc_terms.specs.Plain.{plain};
-ghost use Rattle.role_network.specs.Nets.{IsSoundRun};
+ghost use Rattle.net_core.specs.Nets.{IsSoundRun};
 ghost use Rattle.rule_checks.specs.Refusals.{IsAccepted};
 ghost use Rattle.command_words.specs.Commands.{most_steps};
 ghost use Rattle.command_words.specs.declared.commands.Verb.{Verb};
@@ -15,8 +15,8 @@ use aux_messages::is_aux;
 use command_words::Options;
 use dioc_terms::{Bundle, Entry, Last, Memory};
 use flat_role::FlatRole;
+use net_core::Net;
 use net_drive::{DriveFault, drive_strays_are_exact};
-use role_network::Net;
 use std::alloc::Global;
 use trace_text::write_text;
 

@@ -4,7 +4,7 @@ ghost use Rattle.std.specs.Prelude.{◌≡◌, ◌≤◌, ◌++◌, decimal, IfO
 ghost use Rattle.dioc_terms.specs.Plain.{plain};
 ghost use Rattle.dioc_terms.specs.Terms.{nodes, term};
 ghost use Rattle.load_gen.specs.Made.{made};
-ghost use Rattle.role_network.specs.Nets.{network_of};
+ghost use Rattle.net_core.specs.Nets.{network_of};
 ghost use Rattle.rule_checks.specs.Refusals.{IsAccepted};
 ghost use Rattle.aioc_top.specs.Replies.{gen_line, gen_reply, line_of_text, reply_of};
 
@@ -14,8 +14,8 @@ use dioc_terms::{Bundle, Memory, give_up};
 use flat_role::FlatRole;
 use index_marks::nodes;
 use load_gen::make;
-use net_core::{accepted_is_sound, runs_are_sound};
-use role_network::Net;
+use net_core::Net;
+use net_laws::{accepted_is_sound, runs_are_sound};
 use schedule::run_seeded;
 use std::alloc::Global;
 use text_pieces::{write_bytes, write_number};

@@ -11,7 +11,7 @@ ghost use Rattle.aioc_top.specs.Replies.{monitor_refusal, monitor_reply, reply_o
 
 use crate::replies::{Written, say_no, say_yes};
 use dioc_terms::{Bundle, Memory, Role};
-use net_core::accepted_is_sound;
+use net_laws::accepted_is_sound;
 use role_monitor::{FeedFault, Monitor};
 use rule_checks::{Refusal, Where, accept};
 use std::alloc::Global;

@@ -2,8 +2,8 @@
 
 ghost use Rattle.std.specs.Prelude.{◌≡◌, ◌≤◌, IfOk};
 ghost use Rattle.dioc_terms.specs.Plain.{plain};
-ghost use Rattle.net_core.specs.Schedule.{sched_from};
-ghost use Rattle.role_network.specs.Nets.{IsSoundRun};
+ghost use Rattle.network_steps.specs.Schedule.{sched_from};
+ghost use Rattle.net_core.specs.Nets.{IsSoundRun};
 ghost use Rattle.rule_checks.specs.Refusals.{IsAccepted};
 ghost use Rattle.command_words.specs.Commands.{most_steps};
 ghost use Rattle.command_words.specs.declared.commands.Verb.{Verb};
@@ -13,8 +13,8 @@ use crate::replies::{End, Written, last_line, say_no};
 use command_words::Options;
 use dioc_terms::{Bundle, Memory, give_up};
 use flat_role::FlatRole;
+use net_core::Net;
 use net_drive::{ResumeFault, run_strays_are_exact};
-use role_network::Net;
 use schedule::run_seeded;
 use std::alloc::Global;
 use trace_text::write_text;

@@ -11,7 +11,7 @@ ghost use Rattle.aioc_top.specs.Replies.{Replies, reply_of};
 use crate::replies::{Written, last_line, run_end};
 use command_words::Options;
 use dioc_terms::{Bundle, Memory};
-use net_core::accepted_is_sound;
+use net_laws::accepted_is_sound;
 use role_runner::Gate;
 use std::alloc::Global;
 use std::sync::Wait;

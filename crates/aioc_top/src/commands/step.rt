@@ -13,8 +13,8 @@ use crate::replies::{End, Written};
 use command_words::Options;
 use dioc_terms::{Bundle, Memory};
 use flat_role::FlatRole;
-use net_core::accepted_is_sound;
-use role_network::Net;
+use net_core::Net;
+use net_laws::accepted_is_sound;
 use schedule::Finish;
 use std::alloc::Global;
 

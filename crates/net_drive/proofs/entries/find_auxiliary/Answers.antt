@@ -3,7 +3,7 @@ use Rattle.std.proofs.Common.{◌≡◌, Some, None, sym, ap, ◌∙◌}
 use Rattle.std.specs.List.{find}
 use Rattle.std.specs.Option.{option_copied}
 use Rattle.drive_laws.specs.Laws.{is_aux_act}
-use Rattle.net_core.specs.declared.moves.Move.TheVariants as move
+use Rattle.network_steps.specs.declared.moves.Move.TheVariants as move
 use Rattle.net_drive.proofs.Trying.{found_here, found_later}
 use Rattle.net_drive.proofs.entries.find_auxiliary.Goals as goal
 

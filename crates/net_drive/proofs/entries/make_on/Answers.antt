@@ -3,10 +3,10 @@ use Rattle.std.proofs.Common.{true, false, sym, ap, ◌∙◌, subst}
 use Rattle.std.specs.Prelude.{map}
 use Rattle.dioc_terms.specs.Plain.{setting}
 use Rattle.marked_laws.proofs.Premise.{Known}
-use Rattle.net_core.specs.Schedule.{move_step}
+use Rattle.network_steps.specs.Schedule.{move_step}
 use Rattle.net_drive.specs.Making.{Makes}
 use Rattle.net_drive.proofs.Trying.{move_made}
-use Rattle.role_network.specs.Nets.{network_of}
+use Rattle.net_core.specs.Nets.{network_of}
 use Rattle.schedule.proofs.AgendaLemmas.{stale_after}
 use Rattle.schedule.specs.Agendas.{agenda_of, ready_seen}
 use Rattle.net_drive.proofs.entries.make_on.Goals as goal

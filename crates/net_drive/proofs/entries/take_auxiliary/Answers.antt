@@ -2,12 +2,12 @@
 use Rattle.std.proofs.Common.{◌≡◌, Option, IfOk, refl, sym, ap, ◌∙◌, subst}
 use Rattle.std.specs.Prelude.{map, option_and_then}
 use Rattle.dioc_terms.specs.Plain.{setting}
-use Rattle.marked_laws.specs.Network.{NextNetwork}
-use Rattle.net_core.specs.Schedule.{move_step}
+use Rattle.network_steps.specs.Network.{NextNetwork}
+use Rattle.network_steps.specs.Schedule.{move_step}
 use Rattle.net_drive.specs.Driven.{first_auxiliary}
 use Rattle.net_drive.specs.Making.{Makes}
 use Rattle.net_drive.proofs.Trying.{first_of_agenda}
-use Rattle.role_network.specs.Nets.{network_of}
+use Rattle.net_core.specs.Nets.{network_of}
 use Rattle.schedule.specs.Agendas.{ready_seen}
 use Rattle.net_drive.proofs.entries.take_auxiliary.Goals as goal
 

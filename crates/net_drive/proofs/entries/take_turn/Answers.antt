@@ -3,14 +3,14 @@ use Rattle.std.proofs.Common.{◌<◌, length, sym, subst}
 use Rattle.std.specs.Prelude.{map}
 use Rattle.dioc_terms.specs.Plain.{setting}
 use Rattle.marked_laws.proofs.Premise.{Known}
-use Rattle.net_core.specs.declared.moves.Move.{Move}
+use Rattle.network_steps.specs.declared.moves.Move.{Move}
 use Rattle.net_drive.specs.declared.entries.Tried.TheVariants as tried
 use Rattle.net_drive.specs.Driven.{first_auxiliary}
 use Rattle.net_drive.specs.Driving.{HasCome, IsTried}
 use Rattle.net_drive.specs.Making.{Makes}
 use Rattle.net_drive.proofs.OnTheWay.{few_made, has_room}
 use Rattle.net_drive.proofs.Trying.{turn_stuck, turn_waits}
-use Rattle.role_network.specs.Nets.{NetState, network_of}
+use Rattle.net_core.specs.Nets.{NetState, network_of}
 use Rattle.schedule.proofs.AgendaLemmas.{stale_after}
 use Rattle.schedule.specs.Agendas.{ready_seen}
 use Rattle.schedule.specs.Turns.{IsMoveOf}

@@ -4,13 +4,13 @@ use Rattle.std.specs.Option.{option_map_or}
 use Rattle.dioc_terms.specs.Equality.{entry_eq}
 use Rattle.dioc_terms.specs.Plain.{setting}
 use Rattle.marked_laws.proofs.Premise.{Known}
-use Rattle.net_core.specs.declared.moves.Move.{Move}
-use Rattle.net_core.specs.Schedule.{move_step}
+use Rattle.network_steps.specs.declared.moves.Move.{Move}
+use Rattle.network_steps.specs.Schedule.{move_step}
 use Rattle.net_drive.specs.declared.entries.Tried.{Tried}
 use Rattle.net_drive.specs.Driving.{IsTried, judged}
 use Rattle.net_drive.specs.Making.{Makes, shown_move}
 use Rattle.net_drive.proofs.Trying.{tried_by}
-use Rattle.role_network.specs.Nets.{network_of}
+use Rattle.net_core.specs.Nets.{network_of}
 use Rattle.net_drive.proofs.entries.try_entry.Goals as goal
 
 pub returns : goal.returns

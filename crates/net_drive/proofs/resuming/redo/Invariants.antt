@@ -1,6 +1,6 @@
 -- The history is that of the entries so far.
 use Rattle.std.proofs.Common.{◌≡◌, ◌≤◌, ◌++◌, drop, length}
-use Rattle.role_network.specs.Nets.{IsSoundRun}
+use Rattle.net_core.specs.Nets.{IsSoundRun}
 use Rattle.net_drive.proofs.resuming.redo.Given as goal
 
 abbrev pub invariant-loop-entry : goal.invariant-loop-entry

@@ -3,9 +3,9 @@ use Rattle.std.proofs.Common.{◌∙◌, true, false, length, slice_get, sym, ap
 use Rattle.std.specs.Option.{option_map_or}
 use Rattle.dioc_terms.specs.Equality.{entry_eq}
 use Rattle.dioc_terms.specs.Plain.{setting}
-use Rattle.net_core.specs.declared.moves.Move.{Move}
-use Rattle.net_core.specs.Schedule.{move_step}
-use Rattle.role_network.specs.Nets.{network_of}
+use Rattle.network_steps.specs.declared.moves.Move.{Move}
+use Rattle.network_steps.specs.Schedule.{move_step}
+use Rattle.net_core.specs.Nets.{network_of}
 use Rattle.net_drive.proofs.Redone.{redoes_none, redoes_noted}
 use Rattle.net_drive.specs.Making.{Makes}
 use Rattle.net_drive.specs.Redoing.{Redoes}

@@ -1,7 +1,7 @@
 -- The move is that of the act that the entry shows.
 use Rattle.std.proofs.Common.{◌≡◌, IfOk, sym, ap, ◌∙◌, subst}
 use Rattle.dioc_terms.specs.declared.entries.Act.TheVariants as acts
-use Rattle.net_core.specs.declared.moves.Move.TheVariants as move
+use Rattle.network_steps.specs.declared.moves.Move.TheVariants as move
 use Rattle.net_drive.specs.Making.{shown_move}
 use Rattle.net_drive.proofs.steps.move_of.Goals as goal
 

@@ -7,7 +7,7 @@ use Rattle.net_drive.specs.Driving.{DrivesOn, Settles}
 use Rattle.net_drive.specs.Making.{Makes}
 use Rattle.net_drive.proofs.OnTheWay.{few_made, has_room, join, lessens, room_stays, stay}
 use Rattle.net_drive.proofs.Trying.{longer, turn_on}
-use Rattle.role_network.specs.Nets.{network_of}
+use Rattle.net_core.specs.Nets.{network_of}
 use Rattle.net_drive.proofs.traces.settle.Goals as goal
 
 pub turns-init : goal.turns-init

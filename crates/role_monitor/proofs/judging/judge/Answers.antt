@@ -5,7 +5,7 @@ use Rattle.dpoc_process.specs.RoleSteps.{IsPrepared}
 use Rattle.role_monitor.proofs.Begins.{any_err, on_false, on_true}
 use Rattle.role_monitor.proofs.Owns.{keeps_same, messages_after, refuses_same, same_messages, unoffered_refused}
 use Rattle.role_monitor.specs.Judging.{MisfitsStay}
-use Rattle.role_network.specs.Scopes.{Tells}
+use Rattle.net_core.specs.Scopes.{Tells}
 use Rattle.rule_book.specs.KeptBooks.{book_of}
 use Rattle.role_monitor.proofs.judging.judge.Goals as goal
 

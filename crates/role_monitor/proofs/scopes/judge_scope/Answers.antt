@@ -8,10 +8,10 @@ use Rattle.dioc_terms.specs.Plain.{plain, plain_rule, setting}
 use Rattle.dioc_terms.specs.Rules.{choose}
 use Rattle.dpoc_process.specs.Acting.{lead_head}
 use Rattle.marked_laws.proofs.Shapes.{some_same}
-use Rattle.marked_laws.specs.Network.{decision}
+use Rattle.network_steps.specs.Network.{decision}
 use Rattle.process_steps.specs.Steps.{Keeps, Replaces}
-use Rattle.role_network.proofs.ScopeLemmas.{body_in_cast, can_begin, choice_none, lead_there}
-use Rattle.role_network.specs.Standing.{body_of}
+use Rattle.net_core.proofs.ScopeLemmas.{body_in_cast, can_begin, choice_none, lead_there}
+use Rattle.net_core.specs.Standing.{body_of}
 use Rattle.role_monitor.proofs.Begins.{chosen_there, choice_taken, keep_kept, keep_refused, on_true, replace_kept, replace_refused, rule_answers, rule_stands}
 use Rattle.role_monitor.specs.Judging.{decides}
 use Rattle.rule_book.specs.KeptBooks.{book_of}

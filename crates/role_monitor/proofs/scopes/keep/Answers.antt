@@ -1,6 +1,6 @@
 -- The leader went on as the book says.
 use Rattle.process_steps.specs.Steps.{FromBook}
-use Rattle.role_network.proofs.ScopeLemmas.{kept_brings}
+use Rattle.net_core.proofs.ScopeLemmas.{kept_brings}
 use Rattle.role_monitor.proofs.Begins.{any_true}
 use Rattle.role_monitor.proofs.scopes.keep.Goals as goal
 

@@ -6,7 +6,7 @@ use Rattle.dioc_terms.specs.Equality.{entry_eq, member}
 use Rattle.dioc_terms.specs.Processes.{process, letters}
 use Rattle.dioc_terms.specs.Terms.{term}
 use Rattle.process_steps.specs.Steps.{FromBook}
-use Rattle.role_network.proofs.ScopeLemmas.{replaced_brings}
+use Rattle.net_core.proofs.ScopeLemmas.{replaced_brings}
 use Rattle.scope_leader.specs.Plans.{part_of, begin_messages}
 use Rattle.role_monitor.proofs.scopes.replace.Goals as goal
 

@@ -5,7 +5,7 @@ use Rattle.dioc_terms.specs.Plain.{plain}
 use Rattle.dpoc_process.specs.Acting.{acting_lead}
 use Rattle.flat_role.specs.FlatStates.{local_of}
 use Rattle.dpoc_process.specs.RoleSteps.{IsPrepared, IsStep}
-use Rattle.role_network.specs.Scopes.{Tells}
+use Rattle.net_core.specs.Scopes.{Tells}
 use Rattle.role_runner.proofs.ScopeLemmas.{begin_can, begin_leaves, chosen, head_there, heads, led, tells}
 use Rattle.role_runner.proofs.StepLemmas.{goes_on}
 use Rattle.role_runner.proofs.TieLemmas.{if_err_at, if_ok_at, refused_leaves, role_full}

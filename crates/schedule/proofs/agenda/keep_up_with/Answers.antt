@@ -1,8 +1,8 @@
 -- The roles of the agenda are those of the cast.
 use Rattle.std.proofs.Common.{Some, subst}
 use Rattle.std.specs.Prelude.{map}
-use Rattle.net_core.specs.declared.moves.Move.{Move}
-use Rattle.net_core.specs.declared.moves.Move.TheVariants as move
+use Rattle.network_steps.specs.declared.moves.Move.{Move}
+use Rattle.network_steps.specs.declared.moves.Move.TheVariants as move
 use Rattle.schedule.proofs.AgendaLemmas.{roles_of_cast}
 use Rattle.schedule.specs.Agendas.{IsStale, ready_seen}
 use Rattle.schedule.proofs.agenda.keep_up_with.Goals as goal

@@ -1,7 +1,7 @@
 -- The agenda so far is of the roles so far.
 use Rattle.std.proofs.Common.{◌≡◌, take}
 use Rattle.std.specs.Prelude.{map}
-use Rattle.role_network.specs.Nets.{network_of}
+use Rattle.net_core.specs.Nets.{network_of}
 use Rattle.schedule.specs.Agendas.{ready_in, ready_seen}
 use Rattle.schedule.proofs.agenda.list_ready.Given as goal
 

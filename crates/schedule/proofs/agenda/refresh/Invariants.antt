@@ -1,7 +1,7 @@
 -- The roles so far are listed anew where they are touched, and the rest are as they were.
 use Rattle.std.proofs.Common.{◌≡◌, ◌++◌, drop, take}
 use Rattle.std.specs.Prelude.{map}
-use Rattle.role_network.specs.Nets.{network_of}
+use Rattle.net_core.specs.Nets.{network_of}
 use Rattle.schedule.specs.Agendas.{refreshed, ready_seen}
 use Rattle.schedule.proofs.agenda.refresh.Given as goal
 

@@ -1,6 +1,6 @@
 -- Each turn goes on with the run.
 use Rattle.std.proofs.Common.{◌≤◌, sym, ◌∙◌, subst}
-use Rattle.role_network.specs.Nets.{IsSoundRun}
+use Rattle.net_core.specs.Nets.{IsSoundRun}
 use Rattle.schedule.proofs.RunLemmas.{goes_here, goes_more, goes_on}
 use Rattle.schedule.specs.Runs.{HasGone}
 use Rattle.schedule.proofs.runs.take_turns.Goals as goal

@@ -2,8 +2,8 @@
 use Rattle.std.proofs.Common.{◌≡◌, ◌∷◌, ◌-◌, Some, slice_get}
 use Rattle.std.specs.Prelude.{flat_map, map}
 use Rattle.std.proofs.lemmas.Result.{IfOk-weaker}
-use Rattle.net_core.specs.declared.moves.Move.{Move}
-use Rattle.net_core.specs.declared.moves.Move.TheVariants as move
+use Rattle.network_steps.specs.declared.moves.Move.{Move}
+use Rattle.network_steps.specs.declared.moves.Move.TheVariants as move
 use Rattle.schedule.proofs.AgendaLemmas.{got_later}
 use Rattle.schedule.specs.Agendas.{moves_of, ready_seen}
 use Rattle.schedule.proofs.turns.change_or_act.Goals as goal

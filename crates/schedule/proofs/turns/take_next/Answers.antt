@@ -3,8 +3,8 @@ use Rattle.std.proofs.Common.{length}
 use Rattle.std.specs.Prelude.{map}
 use Rattle.dioc_terms.specs.Plain.{setting}
 use Rattle.marked_laws.proofs.Premise.{Known}
-use Rattle.net_core.specs.Schedule.{move_place, moves}
-use Rattle.role_network.specs.Nets.{network_of}
+use Rattle.network_steps.specs.Schedule.{move_place, moves}
+use Rattle.net_core.specs.Nets.{network_of}
 use Rattle.schedule.proofs.AgendaLemmas.{stale_after}
 use Rattle.schedule.proofs.MoveLemmas.{can_make, some_move}
 use Rattle.schedule.proofs.TurnLemmas.{advances}

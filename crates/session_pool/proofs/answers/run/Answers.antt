@@ -1,7 +1,7 @@
 -- The run is the schedule's, and so is its end.
 use Rattle.std.proofs.Common.{◌≡◌, Ok, sym, ap, ◌∙◌}
 use Rattle.dioc_terms.specs.Plain.{plain}
-use Rattle.net_core.specs.Schedule.{sched, sched_from}
+use Rattle.network_steps.specs.Schedule.{sched, sched_from}
 use Rattle.session_pool.specs.Answers.{answered, ended_after}
 use Rattle.session_pool.proofs.answers.run.Goals as goal
 

@@ -1,9 +1,9 @@
 -- The line is that of the run that the schedule takes of the made bundle.
 use Rattle.std.proofs.Common.{◌≡◌, ◌↔◌, length, true, false, None, ap, ◌∙◌, subst, arith}
 use Rattle.dioc_terms.specs.Plain.{PlainBundle, plain}
-use Rattle.marked_laws.specs.Network.{network_ended}
-use Rattle.net_core.specs.Schedule.{sched_from}
-use Rattle.role_network.specs.Nets.{network_at}
+use Rattle.network_steps.specs.Network.{network_ended}
+use Rattle.network_steps.specs.Schedule.{sched_from}
+use Rattle.net_core.specs.Nets.{network_at}
 use Rattle.rule_checks.specs.Refusals.{IsAccepted}
 use Rattle.load_gen.specs.Made.{made}
 use Rattle.schedule.specs.declared.runs.Finish.TheVariants as finish

@@ -1,6 +1,6 @@
 -- The run that the net has made is the one that the schedule takes.
 use Rattle.std.proofs.Common.{◌≡◌}
-use Rattle.net_core.specs.Schedule.{sched_from}
+use Rattle.network_steps.specs.Schedule.{sched_from}
 use Rattle.aioc_top.specs.Replies.{run_reply}
 use Rattle.aioc_top.proofs.Judged.{with_reply}
 use Rattle.aioc_top.proofs.commands.resume.go_on.Goals as goal

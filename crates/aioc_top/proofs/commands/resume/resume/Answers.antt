@@ -2,10 +2,10 @@
 use Rattle.std.proofs.Common.{◌≡◌, ◌<◌, List, length, take, Some, sym, ap, ◌∙◌, subst}
 use Rattle.dioc_terms.specs.declared.entries.Entry.{Entry}
 use Rattle.dioc_terms.specs.Plain.{plain}
-use Rattle.marked_laws.specs.Network.{network_run}
-use Rattle.net_core.specs.Schedule.{sched_from}
+use Rattle.network_steps.specs.Network.{network_run}
+use Rattle.network_steps.specs.Schedule.{sched_from}
 use Rattle.net_drive.specs.Faults.{FullAt}
-use Rattle.role_network.specs.Nets.{network_of}
+use Rattle.net_core.specs.Nets.{network_of}
 use Rattle.aioc_top.specs.Replies.{run_reply}
 use Rattle.aioc_top.proofs.Judged.{with_reply}
 use Rattle.aioc_top.proofs.Resuming.{cut, whole}

@@ -1,7 +1,7 @@
 -- The text is that of the schedule's run, on which a net goes from the start.
 use Rattle.std.proofs.Common.{◌≡◌}
 use Rattle.dioc_terms.specs.Plain.{plain}
-use Rattle.net_core.specs.Schedule.{sched_from}
+use Rattle.network_steps.specs.Schedule.{sched_from}
 use Rattle.aioc_top.specs.Replies.{run_reply, step_history}
 use Rattle.aioc_top.proofs.Judged.{with_reply}
 use Rattle.aioc_top.proofs.commands.step.step.Goals as goal

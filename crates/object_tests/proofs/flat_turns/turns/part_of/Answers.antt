@@ -2,7 +2,7 @@
 use Rattle.std.proofs.Common.{◌≡◌, true, sym, subst}
 use Rattle.dioc_terms.specs.Equality.{member}
 use Rattle.dioc_terms.specs.Plain.{plain}
-use Rattle.role_network.proofs.StartLemmas.{roles_of_cast}
+use Rattle.net_core.proofs.StartLemmas.{roles_of_cast}
 use Rattle.object_tests.proofs.flat_turns.turns.part_of.Goals as goal
 
 pub project-requires : goal.project-requires

@@ -3,7 +3,7 @@ use Rattle.std.proofs.Common.{refl, sym, subst, arith}
 use Rattle.dioc_terms.specs.Plain.{PlainBundle, setting}
 use Rattle.dpoc_process.specs.KeptStates.{local_of}
 use Rattle.role_monitor.specs.Judging.{KeepsOwn, RefusesOwn}
-use Rattle.role_network.specs.Scopes.{Tells}
+use Rattle.net_core.specs.Scopes.{Tells}
 use Rattle.marked_laws.specs.Laws.{IsSound}
 use Rattle.rule_book.specs.KeptBooks.{book_of, IsBookOf}
 use Rattle.role_monitor.proofs.OneMore.{fed_fits, judged_fits, misfits_here, own_role, read_kept, read_refused, read_same, tells_here}

@@ -1,6 +1,6 @@
 -- What the monitor is begun with.
 use Rattle.dioc_terms.specs.Plain.{plain}
-use Rattle.role_network.proofs.StartLemmas.{roles_of_cast}
+use Rattle.net_core.proofs.StartLemmas.{roles_of_cast}
 use Rattle.role_monitor.proofs.monitor.Monitor.new.Goals as goal
 
 pub opening_state-requires : goal.opening_state-requires

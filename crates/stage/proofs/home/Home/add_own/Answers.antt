@@ -2,7 +2,7 @@
 use Rattle.std.proofs.Common.{◌≡◌, None, refl, sym, subst}
 use Rattle.std.specs.Prelude.{map}
 use Rattle.dioc_terms.specs.Plain.{plain}
-use Rattle.role_network.specs.KeptParts.{due_seen}
+use Rattle.net_core.specs.KeptParts.{due_seen}
 use Rattle.stage.proofs.HomeLemmas.{Laws, home_added, home_same}
 use Rattle.stage.specs.Faults.{role_fault}
 use Rattle.stage.specs.Homes.{HomeState}

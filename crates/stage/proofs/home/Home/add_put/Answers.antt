@@ -5,7 +5,7 @@ use Rattle.dioc_terms.specs.declared.entries.Act.TheVariants as acts
 use Rattle.dioc_terms.specs.Plain.{plain}
 use Rattle.dioc_terms.specs.Processes.{load}
 use Rattle.process_steps.specs.Steps.{Alone, Puts}
-use Rattle.role_network.specs.KeptParts.{due_seen}
+use Rattle.net_core.specs.KeptParts.{due_seen}
 use Rattle.stage.proofs.HomeLemmas.{Laws, home_did, home_same, is_free}
 use Rattle.stage.specs.Faults.{role_fault}
 use Rattle.stage.specs.Homes.{HomeState}

@@ -3,7 +3,7 @@ use Rattle.std.proofs.Common.{◌≡◌, [], ◌∷◌, ◌++◌, None, ap, refl
 use Rattle.std.specs.Prelude.{map, IfOk, OnOk}
 use Rattle.dioc_terms.specs.KeptStores.{store_of}
 use Rattle.dioc_terms.specs.Plain.{plain}
-use Rattle.role_network.specs.KeptParts.{due_seen}
+use Rattle.net_core.specs.KeptParts.{due_seen}
 use Rattle.stage.proofs.BeginLemmas.{begin_there, home_led, update_fits, update_there}
 use Rattle.stage.proofs.HomeLemmas.{Laws, home_same}
 use Rattle.stage.specs.Begins.{CanBegin, begin_in, update_in}

@@ -3,9 +3,9 @@ use Rattle.std.proofs.Common.{◌≡◌, None, Some, refl, sym, subst, ◌∙◌
 use Rattle.std.specs.Prelude.{map, IfOk}
 use Rattle.dioc_terms.specs.Plain.{plain}
 use Rattle.dioc_terms.specs.Processes.{load}
-use Rattle.marked_laws.specs.Network.{pending_at}
-use Rattle.role_network.specs.KeptParts.{due_seen}
-use Rattle.role_network.specs.Nets.{network_at}
+use Rattle.network_steps.specs.Network.{pending_at}
+use Rattle.net_core.specs.KeptParts.{due_seen}
+use Rattle.net_core.specs.Nets.{network_at}
 use Rattle.stage.proofs.HomeLemmas.{Laws, home_took, home_same, pending_is, take_there}
 use Rattle.stage.specs.Faults.{take_fault}
 use Rattle.stage.specs.Homes.{HomeState}

@@ -2,7 +2,7 @@
 use Rattle.std.proofs.Common.{true, ap, sym, subst, ◌∙◌}
 use Rattle.std.specs.Prelude.{map, length, slice_set}
 use Rattle.dioc_terms.specs.Plain.{plain}
-use Rattle.role_network.specs.KeptParts.{due_seen}
+use Rattle.net_core.specs.KeptParts.{due_seen}
 use Rattle.stage.proofs.EndingLemmas.{home_finished, marks_fit, shows_finished}
 use Rattle.stage.specs.Homes.{HasEnded, HomeState}
 use Rattle.stage.specs.Marks.{with_finished}

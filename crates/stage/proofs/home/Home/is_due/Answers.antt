@@ -2,9 +2,9 @@
 use Rattle.std.proofs.Common.{ap, ◌∙◌}
 use Rattle.std.specs.Prelude.{map}
 use Rattle.dioc_terms.specs.Plain.{plain}
-use Rattle.net_core.specs.Schedule.{change_is_due}
-use Rattle.role_network.specs.KeptParts.{due_seen}
-use Rattle.role_network.specs.MovesIn.{is_first_due}
+use Rattle.network_steps.specs.Schedule.{change_is_due}
+use Rattle.net_core.specs.KeptParts.{due_seen}
+use Rattle.net_core.specs.MovesIn.{is_first_due}
 use Rattle.stage.proofs.HomeLemmas.{due_is}
 use Rattle.stage.specs.Homes.{HomeState}
 use Rattle.stage.proofs.home.Home.is_due.Goals as goal

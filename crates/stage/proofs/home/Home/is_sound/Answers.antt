@@ -2,7 +2,7 @@
 use Rattle.std.proofs.Common.{subst}
 use Rattle.std.specs.Prelude.{map}
 use Rattle.dioc_terms.specs.Plain.{plain}
-use Rattle.role_network.specs.KeptParts.{due_seen}
+use Rattle.net_core.specs.KeptParts.{due_seen}
 use Rattle.stage.proofs.HomeLemmas.{sound_home}
 use Rattle.stage.specs.Homes.{IsSoundHome}
 use Rattle.stage.proofs.home.Home.is_sound.Goals as goal

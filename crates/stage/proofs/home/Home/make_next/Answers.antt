@@ -2,7 +2,7 @@
 use Rattle.std.proofs.Common.{◌≡◌, None, ap, sym, subst}
 use Rattle.std.specs.Prelude.{map, OnOk}
 use Rattle.dioc_terms.specs.Plain.{plain}
-use Rattle.role_network.specs.KeptParts.{due_seen}
+use Rattle.net_core.specs.KeptParts.{due_seen}
 use Rattle.trace_book.specs.Histories.{Written}
 use Rattle.stage.proofs.ChangedHome.{home_changed}
 use Rattle.stage.proofs.FeederLemmas.{feeder_free, home_unchanged, is_changed}

@@ -2,8 +2,8 @@
 use Rattle.std.proofs.Common.{◌≡◌, None, Some, slice_get, sym, ◌∙◌, subst}
 use Rattle.std.specs.Prelude.{map}
 use Rattle.dioc_terms.specs.Plain.{plain}
-use Rattle.net_core.specs.Schedule.{changes_in}
-use Rattle.role_network.specs.KeptParts.{due_seen}
+use Rattle.network_steps.specs.Schedule.{changes_in}
+use Rattle.net_core.specs.KeptParts.{due_seen}
 use Rattle.stage.proofs.FeederLemmas.{fault_after, next_is}
 use Rattle.stage.specs.Faults.{next_fault}
 use Rattle.stage.specs.Homes.{HomeState}

@@ -5,9 +5,9 @@ use Rattle.std.proofs.lemmas.List.{length-map}
 use Rattle.dioc_terms.specs.declared.bundles.Bundle.{Bundle}
 use Rattle.dioc_terms.specs.Bundles.{adds}
 use Rattle.dioc_terms.specs.Plain.{plain, plain_rule}
-use Rattle.role_network.proofs.StartLemmas.{adds_rules}
-use Rattle.role_network.specs.KeptParts.{due_seen}
-use Rattle.role_network.specs.Standing.{due_of}
+use Rattle.net_core.proofs.StartLemmas.{adds_rules}
+use Rattle.net_core.specs.KeptParts.{due_seen}
+use Rattle.net_core.specs.Standing.{due_of}
 use Rattle.stage.proofs.OpeningLemmas.{home_started, names_started}
 use Rattle.stage.specs.Homes.{IsHome}
 use Rattle.stage.proofs.home.Home.start.Goals as goal

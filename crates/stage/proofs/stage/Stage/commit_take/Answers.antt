@@ -2,8 +2,8 @@
 use Rattle.std.proofs.Common.{◌≡◌, None, Some, sym, ◌∙◌, subst}
 use Rattle.dioc_terms.specs.declared.entries.Entry.TheVariants as entry
 use Rattle.dioc_terms.specs.Processes.{load}
-use Rattle.marked_laws.specs.Network.{pending_at}
-use Rattle.role_network.specs.Nets.{network_at}
+use Rattle.network_steps.specs.Network.{pending_at}
+use Rattle.net_core.specs.Nets.{network_at}
 use Rattle.stage.proofs.HomeLemmas.{Laws}
 use Rattle.stage.proofs.HoldLemmas.{did_take, grown_by, own_item, refused_hold}
 use Rattle.stage.proofs.SeatLemmas.{take_now}

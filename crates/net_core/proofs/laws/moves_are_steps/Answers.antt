@@ -1,5 +1,0 @@
-use Rattle.net_core.proofs.ScheduleLemmas.{moves_are_steps}
-use Rattle.net_core.proofs.laws.moves_are_steps.Goals as goal
-
-pub returns : goal.returns
-returns c = moves_are_steps c.known.ensures c.progress.ensures c.offers_are_steps.ensures c.accepted_is_sound.ensures

@@ -1,5 +1,0 @@
-use Rattle.net_core.proofs.PromptLemmas.{schedules_are_prompt}
-use Rattle.net_core.proofs.laws.schedules_are_prompt.Goals as goal
-
-pub returns : goal.returns
-returns c = schedules_are_prompt

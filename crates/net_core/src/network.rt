@@ -1,0 +1,332 @@
+//! The network of a bundle, stepped entry by entry.
+
+ghost use Rattle.std.specs.Prelude.{◌≡◌, ◌≢◌, ◌<◌, ◌≤◌, true, false, ◌&&◌, not, IfErr, IfOk, OnErr, OnOk, length, nat_le};
+ghost use Rattle.dioc_terms.specs.Equality.{member};
+ghost use Rattle.dioc_terms.specs.Plain.{setting};
+ghost use Rattle.network_steps.specs.Network.{network_ended};
+ghost use Rattle.network_steps.specs.Schedule.{change_due, moves};
+ghost use Rattle.process_steps.specs.Steps.{ended};
+ghost use Rattle.net_core.specs.Changes.{IsChangeOf, change_fault};
+ghost use Rattle.net_core.specs.MovesIn.{ready_of};
+ghost use Rattle.net_core.specs.Nets.{IsSoundRun, network_of};
+ghost use Rattle.net_core.specs.Steps.{IsStepOf, fault_of};
+
+use crate::bodies::{Coming, RuleBody};
+use crate::changing::make_change;
+use crate::faults::ChangeFault;
+use crate::laws::steps_run;
+use crate::listing::{is_first_due, list_moves, ready_at};
+use crate::parts::{all_done, is_done_at, step_role};
+use crate::starting::{keep_bodies, keep_script, role_states};
+use dioc_terms::{Act, Bundle, Items, Memory, Role, Roles};
+use dpoc_process::{Begins, Runs};
+use network_steps::{Move, StepFault};
+use role_mailbox::Mail;
+use rule_book::Book;
+use std::alloc::Global;
+use std::collections::VecDeque;
+use std::marker::Model;
+use std::snapshot::Snapshot;
+use trace_book::History;
+
+/// The network of a bundle after some entries, of which there may be at most `limit`.
+pub struct Net<R: Runs> {
+    alloc: Global,
+    of: Snapshot<Bundle>,
+    cast: Roles,
+    roles: Vec<R>,
+    mail: Mail,
+    book: Book,
+    bodies: Items<RuleBody>,
+    coming: VecDeque<Coming>,
+    updates: u32,
+    history: History,
+    limit: u64,
+}
+
+impl<R: Runs + Drop> Drop for Net<R> {
+    fn drop(self) {
+        let Net {
+            alloc: _,
+            of: _,
+            cast: _,
+            roles: _,
+            mail: _,
+            book: _,
+            bodies: _,
+            coming: _,
+            updates: _,
+            history: _,
+            limit: _,
+        } = self;
+    }
+}
+
+impl<R: Runs> Model for Net<R> {
+    ghost use Rattle.std.specs.Prelude.{map};
+    ghost use Rattle.std.specs.Coded.{codes};
+    ghost use Rattle.dioc_terms.specs.Plain.{plain};
+    ghost use Rattle.net_core.specs.KeptParts.{body_seen, due_seen};
+    ghost use Rattle.network_steps.specs.Schedule.{change_due, moves};
+    ghost use Rattle.net_core.specs.Changes.{IsChangeOf, change_fault};
+    ghost use Rattle.net_core.specs.Codes.{expression_code, term_code};
+    ghost use Rattle.net_core.specs.Nets.{NetState};
+    ghost use Rattle.net_core.specs.Standing.{HoldsRun};
+
+    ghost Value = { NetState };
+
+    ghost coded = { Prim.hlevel (codes, expression_code, term_code) };
+
+    ghost view = { λ net. record {
+      bundle = plain net.of.value;
+      history = net.history.entries;
+      limit = net.limit;
+    } };
+
+    ghost invariant = { λ net. HoldsRun (plain net.of.value) net.limit (record {
+      cast = net.cast;
+      locals = map R.local net.roles.items;
+      mail = net.mail;
+      book = net.book;
+      bodies = map body_seen net.bodies;
+      coming = map due_seen net.coming.items;
+      updates = net.updates;
+      history = net.history.entries;
+    }) };
+}
+
+impl<R: Runs> Net<R> {
+    /// The entries so far. They are a run of the bundle, of at most as many entries as the limit.
+    pub fn history(&self) -> &History
+        ensures entries { result.now.entries ≡ self.now.history }
+        ensures run { IsSoundRun self.now }
+    {
+        &self.history
+    }
+
+    /// The history, without the network.
+    pub fn into_history(self) -> History
+        ensures { result.entries ≡ self.history }
+    {
+        let Net {
+            alloc: _,
+            of: _,
+            cast: _,
+            roles: _,
+            mail: _,
+            book: _,
+            bodies: _,
+            coming: _,
+            updates: _,
+            history,
+            limit: _,
+        } = self;
+        history
+    }
+
+    /// How many entries there may be.
+    pub fn limit(&self) -> u64
+        ensures { result ≡ self.now.limit }
+    {
+        self.limit
+    }
+
+    /// The allocator that its memory comes from.
+    pub fn allocator(&self) -> Global {
+        self.alloc
+    }
+
+    /// The roles, in the cast's order.
+    pub fn cast(&self) -> &[Role]
+        ensures { result.now ≡ self.now.bundle.cast }
+    {
+        self.cast.as_slice()
+    }
+
+    /// The acts that a role of the cast can do now: those that its process offers, from left to
+    /// right in it, without takes whose message isn't pending.
+    pub fn ready_acts(&self, role: &Role) -> Result<Vec<Act>, Memory>
+        requires { member role.now self.now.bundle.cast ≡ true }
+        ensures { IfOk result (λ acts. acts.items ≡ ready_of (network_of self.now) role.now) }
+    {
+        let cast = self.cast.as_slice();
+        match ready_at(self.alloc, cast, self.roles.as_slice(), &self.mail, role) {
+            Ok(acts) => Ok(acts),
+            Err(fault) => Err(fault),
+        }
+    }
+
+    /// How many updates were made.
+    pub fn updates(&self) -> u32
+        ensures { result ≡ (network_of self.now).updates }
+    {
+        self.updates
+    }
+
+    /// Whether each process has ended and no message is pending.
+    pub fn is_ended(&self) -> bool
+        ensures { result ≡ network_ended self.now.bundle.cast (network_of self.now) }
+    {
+        let done = all_done(self.roles.as_slice());
+        self.mail.len() == 0 && done
+    }
+
+    /// Whether the process of a role of the cast has ended. Its messages may still be pending. It
+    /// takes no memory.
+    pub fn is_done(&self, role: &Role) -> bool
+        requires { member role.now self.now.bundle.cast ≡ true }
+        ensures { result ≡ ended ((network_of self.now).processes role.now) }
+    {
+        is_done_at(self.cast.as_slice(), self.roles.as_slice(), role)
+    }
+
+    /// Whether the history has as many entries as it may.
+    fn is_full(&self) -> bool
+        ensures { result ≡ nat_le self.now.limit (length self.now.history) }
+    {
+        self.history.len() >= self.limit
+    }
+
+    /// The moves of the network, in the order in which a schedule numbers them: the script's next
+    /// change where it is due and the network has not ended, and then the acts that the roles
+    /// offer, role by role in the cast's order, without takes whose message isn't pending.
+    pub fn moves(&self) -> Result<Vec<Move>, Memory>
+        ensures { IfOk result
+            (λ found. found.items ≡ moves (setting self.now.bundle) (network_of self.now)) }
+    {
+        let due = self.is_change_due();
+        match list_moves(self.alloc, &self.cast, &self.roles, &self.mail, due) {
+            Ok(found) => Ok(found),
+            Err(fault) => Err(fault),
+        }
+    }
+
+    /// Whether the script's next change is due and the network has not ended.
+    pub fn is_change_due(&self) -> bool
+        ensures { result ≡ (change_due self.now.bundle.script (network_of self.now).changes
+            (network_of self.now).visible
+            && not (network_ended self.now.bundle.cast (network_of self.now))) }
+    {
+        let due = is_first_due(&self.coming, self.history.visible_len());
+        let ended = self.is_ended();
+        due && !ended
+    }
+
+    /// The step of a role by an act. The refusals come in the order of their variants; after any of
+    /// them the net is unchanged.
+    pub fn step(&mut self, role: &Role, act: &Act) -> Result<(), StepFault>
+        requires { (network_of self.old).updates < 4294967295 }
+        ensures stepped { OnOk result (IsStepOf self.old role.now act.now self.new) }
+        ensures refused { IfErr result (λ fault. fault ≢ StepFault.Memory
+            → fault_of self.old role.now act.now ≡ Some fault) }
+        ensures err { OnErr result (self.new ≡ self.old) }
+    {
+        if self.is_ended() {
+            return Err(StepFault::Ended);
+        }
+        if self.is_full() {
+            return Err(StepFault::Full);
+        }
+        self.act(role, act)
+    }
+
+    /// Makes the next change of the script. The refusals come in the order of their variants; after
+    /// any of them the net is unchanged. A change may come after the network has ended.
+    pub fn change(&mut self) -> Result<(), ChangeFault>
+        ensures changed { OnOk result (IsChangeOf self.old self.new) }
+        ensures refused { IfErr result (λ fault. fault ≢ ChangeFault.Memory
+            → change_fault self.old ≡ Some fault) }
+        ensures err { OnErr result (self.new ≡ self.old) }
+    {
+        if self.is_full() {
+            return Err(ChangeFault::Full);
+        }
+        self.next_change()
+    }
+
+    /// The next change of the script, where the history has room.
+    fn next_change(&mut self) -> Result<(), ChangeFault>
+        requires { length self.old.history < self.old.limit }
+        ensures changed { OnOk result (IsChangeOf self.old self.new) }
+        ensures refused { IfErr result (λ fault. fault ≢ ChangeFault.Memory
+            → change_fault self.old ≡ Some fault) }
+        ensures err { OnErr result (self.new ≡ self.old) }
+    {
+        steps_run();
+        match make_change(&mut self.coming, &mut self.book, &mut self.history) {
+            Ok(()) => Ok(()),
+            Err(fault) => Err(fault),
+        }
+    }
+
+    /// The step of a role, where the network has not ended and the history has room.
+    fn act(&mut self, role: &Role, act: &Act) -> Result<(), StepFault>
+        requires updates { (network_of self.old).updates < 4294967295 }
+        requires goes { network_ended self.old.bundle.cast (network_of self.old) ≡ false }
+        requires room { length self.old.history < self.old.limit }
+        ensures stepped { OnOk result (IsStepOf self.old role.now act.now self.new) }
+        ensures refused { IfErr result (λ fault. fault ≢ StepFault.Memory
+            → fault_of self.old role.now act.now ≡ Some fault) }
+        ensures err { OnErr result (self.new ≡ self.old) }
+    {
+        steps_run();
+        marked_laws::unique_keys();
+        marked_laws::mail_is_a_map();
+        dioc_terms::casts_are_roles();
+        process_steps::steps_show_their_acts();
+        scope_leader::leaders_tell();
+        match step_role(
+            self.alloc,
+            &self.cast,
+            &mut self.roles,
+            &mut self.mail,
+            &self.book,
+            &self.bodies,
+            &mut self.updates,
+            &mut self.history,
+            role,
+            act,
+        ) {
+            Ok(()) => Ok(()),
+            Err(fault) => Err(fault),
+        }
+    }
+}
+
+impl<R: Begins> Net<R> {
+    ghost use Rattle.std.specs.Prelude.{[]};
+    ghost use Rattle.marked_laws.specs.Laws.{IsSound};
+    ghost use Rattle.dioc_terms.specs.Plain.{plain};
+
+    /// The network of a bundle before its first step.
+    pub fn start(alloc: Global, bundle: &Bundle, limit: u64) -> Result<Net<R>, Memory>
+        requires { IsSound (plain bundle.now) }
+        ensures bundle { IfOk result (λ net. net.bundle ≡ plain bundle.now) }
+        ensures history { IfOk result (λ net. net.history ≡ []) }
+        ensures limit { IfOk result (λ net. net.limit ≡ limit) }
+    {
+        dioc_terms::casts_are_roles();
+        let cast = bundle.cast.copy(alloc)?;
+        let bodies = keep_bodies(alloc, bundle.rules.as_slice())?;
+        let coming = keep_script(alloc, bundle.rules.as_slice(), bundle.script.as_slice())?;
+        let book = Book::new(alloc, bundle)?;
+        let roles = role_states(alloc, bundle)?;
+        let of = Snapshot::of(bundle);
+        let bodies = Items::new(bodies);
+        let mail = Mail::new(alloc);
+        let history = History::new(alloc);
+        Ok(Net {
+            alloc,
+            of,
+            cast,
+            roles,
+            mail,
+            book,
+            bodies,
+            coming,
+            updates: 0,
+            history,
+            limit,
+        })
+    }
+}

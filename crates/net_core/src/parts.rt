@@ -1,0 +1,273 @@
+//! The parts of a step: where a role is, the room that a step needs, and what it does to a role,
+//! the mail and the history.
+
+ghost use Rattle.std.specs.Prelude.{◌≡◌, ◌<◌, ◌≤◌, ℕ, List, true, false, Option, None, Some, IsSome, IfErr, IfOk, OnErr, OnOk, length, map};
+ghost use Rattle.std.specs.Option.{option_map};
+ghost use Rattle.std.specs.List.{list_all, position};
+ghost use Rattle.dioc_terms.specs.declared.entries.Act.TheVariants as acts;
+ghost use Rattle.dioc_terms.specs.declared.processes.Key.{Key as OneKey};
+ghost use Rattle.dioc_terms.specs.declared.names.Role.{Role as OneRole};
+ghost use Rattle.dioc_terms.specs.Equality.{member, role_eq};
+ghost use Rattle.dioc_terms.specs.Plain.{PlainRule};
+ghost use Rattle.dioc_terms.specs.Processes.{load};
+ghost use Rattle.dpoc_process.specs.Acting.{Lead};
+ghost use Rattle.dpoc_process.specs.Handed.{handed, given_like, StandsFor};
+ghost use Rattle.dpoc_process.specs.RoleSteps.{IsPrepared};
+ghost use Rattle.dpoc_process.specs.LocalStates.{LocalState, offered, step_at};
+ghost use Rattle.process_steps.specs.Laws.{is_done};
+ghost use Rattle.process_steps.specs.Steps.{ended, is_offered};
+ghost use Rattle.role_mailbox.specs.Pending.{messages, payload_at, room};
+ghost use Rattle.net_core.specs.Acts.{given_from_mail, CanStep, TakenBy, PutBy};
+ghost use Rattle.net_core.specs.Deeds.{given_to, asks_scope, is_there, ActDone, DoneAt, IsAt, IsDone, RefusedFor, RoleDid};
+ghost use Rattle.net_core.specs.Faults.{ReadyFault};
+ghost use Rattle.net_core.specs.KeptParts.{body_seen};
+ghost use Rattle.net_core.specs.Scopes.{KnownRules, Tells};
+ghost use Rattle.net_core.specs.Standing.{body_of};
+ghost use Rattle.rule_book.specs.KeptBooks.{book_of, IsBookOf};
+
+use crate::bodies::RuleBody;
+use crate::scopes::begin_scope;
+use dioc_terms::{Act, Items, Memory, Payload, Role, Roles};
+use dpoc_process::{Got, PrepareFault, Prepared, Runs};
+use network_steps::StepFault;
+use role_mailbox::Mail;
+use rule_book::Book;
+use std::alloc::Global;
+use trace_book::History;
+
+/// The place of a role in the cast, `None` where it isn't of the cast.
+pub(crate) fn place_of(cast: &[Role], role: &Role) -> Option<usize>
+    ensures { result ≡ position (role_eq role.now) cast.now }
+{
+    cast.iter().position(|one| role == one)
+}
+
+/// Whether each of the roles has nothing left to do.
+pub(crate) fn all_done<R: Runs>(roles: &[R]) -> bool
+    ensures { result ≡ list_all (λ state. ended (R.local state).process) roles.now }
+{
+    roles.iter().all(|role| role.is_done())
+}
+
+/// Whether a role of the cast has nothing left to do.
+pub(crate) fn is_done_at<R: Runs>(cast: &[Role], roles: &[R], role: &Role) -> bool
+    requires lengths { length roles.now ≡ length cast.now }
+    requires member { member role.now cast.now ≡ true }
+    ensures { DoneAt cast.now (map R.local roles.now) role.now result }
+{
+    let Some(at) = place_of(cast, role) else {
+        unreachable!()
+    };
+    let state = &roles[at];
+    state.is_done()
+}
+
+/// Makes room for one message more and one entry more.
+pub(crate) fn make_room(mail: &mut Mail, history: &mut History) -> Result<(), Memory>
+    ensures mail_room { OnOk result (0 < room mail.new) }
+    ensures history_room { OnOk result (0 < history.new.room) }
+    ensures same_mail { messages mail.new ≡ messages mail.old }
+    ensures same_history { history.new.entries ≡ history.old.entries }
+{
+    history.reserve(1)?;
+    mail.reserve(1)
+}
+
+/// Makes a role ready for an act whose message is there, and shows what is known of it.
+pub(crate) fn make_ready<R: Runs>(
+    alloc: Global,
+    state: &mut R,
+    mail: &Mail,
+    act: &Act,
+) -> Result<Prepared, StepFault>
+    ensures same { R.local state.new ≡ R.local state.old }
+    ensures ready { OnOk result (R.is_ready state.new act.now) }
+    ensures there { OnOk result (is_there act.now mail.now ≡ true) }
+    ensures shown { IfOk result (IsPrepared (R.local state.old) act.now) }
+    ensures refused { IfErr result (ReadyFault (R.local state.old) mail.now act.now) }
+{
+    match state.prepare(alloc, act) {
+        Ok(prepared) => {
+            if is_there(mail, act) {
+                return Ok(prepared);
+            }
+            drop(prepared);
+            Err(StepFault::NotYet)
+        }
+        Err(PrepareFault::NoAct) => Err(StepFault::NoAct),
+        Err(PrepareFault::Memory) => Err(StepFault::Memory),
+    }
+}
+
+/// Whether what the act needs is there: every act but a take whose message isn't pending.
+pub(crate) fn is_there(mail: &Mail, act: &Act) -> bool
+    ensures { result ≡ is_there act.now mail.now }
+{
+    match act {
+        Act::Take(key) => mail.holds(key),
+        _ => true,
+    }
+}
+
+/// Takes the message of a take out of the mail.
+fn take_in(mail: &mut Mail, act: &Act) -> Got
+    requires plain { asks_scope act.now ≡ false }
+    requires there { is_there act.now mail.old ≡ true }
+    ensures like { given_like (handed result) ≡ given_from_mail act.now mail.old }
+    ensures stands { (me : OneRole) (lead : Option Lead) →
+        StandsFor me lead (handed result) (given_from_mail act.now mail.old) }
+    ensures taken { TakenBy act.now mail.old mail.new }
+    ensures keeps_room { room mail.old ≤ room mail.new }
+{
+    match act {
+        Act::Take(key) => Got::Payload(mail.take(key).unwrap()),
+        _ => Got::Nothing,
+    }
+}
+
+/// Puts the message of a put into the mail.
+fn put_out(mail: &mut Mail, act: Act, payload: Option<Payload>)
+    requires has_room { 0 < room mail.old }
+    requires free { (k : OneKey) → act ≡ acts.Put k → payload_at k mail.old ≡ None }
+    requires sent { (k : OneKey) → act ≡ acts.Put k → IsSome payload }
+    ensures { PutBy act (option_map load payload) mail.old mail.new }
+{
+    match act {
+        Act::Put(key) => mail.put(key, payload.unwrap()),
+        _ => drop(payload),
+    }
+}
+
+/// The step of a role that is ready for an act that isn't a scope's. It takes no memory.
+pub(crate) fn commit<R: Runs>(
+    state: &mut R,
+    mail: &mut Mail,
+    history: &mut History,
+    act: &Act,
+    prepared: Prepared,
+)
+    requires ready { R.is_ready state.old act.now }
+    requires shown { IsPrepared (R.local state.old) act.now prepared }
+    requires plain { asks_scope act.now ≡ false }
+    requires there { is_there act.now mail.old ≡ true }
+    requires can { is_done (step_at (R.local state.old) act.now (given_from_mail act.now mail.old))
+        ≡ true }
+    requires free { (k : OneKey) → act.now ≡ acts.Put k → payload_at k mail.old ≡ None }
+    requires mail_room { 0 < room mail.old }
+    requires history_room { 0 < history.old.room }
+    ensures { (count : ℕ)
+        → IsDone act.now (given_from_mail act.now mail.old) (R.local state.old) mail.old
+        count history.old.entries (R.local state.new) mail.new count history.new.entries }
+{
+    process_steps::steps_show_their_acts();
+    let Prepared {
+        act: own,
+        entry,
+        head,
+        payload,
+    } = prepared;
+    drop(head);
+    history.push(entry.unwrap());
+    let got = take_in(mail, act);
+    state.advance(act, got);
+    put_out(mail, own, payload);
+}
+
+/// Whether the act begins a scope.
+fn is_scope(act: &Act) -> bool
+    ensures { result ≡ asks_scope act.now }
+{
+    matches!(act, Act::Scope(_))
+}
+
+/// The step of one role by an act, with all its memory taken first. After a refusal nothing is
+/// changed.
+fn do_act<R: Runs>(
+    alloc: Global,
+    cast: &Roles,
+    state: &mut R,
+    mail: &mut Mail,
+    book: &Book,
+    bodies: &Items<RuleBody>,
+    updates: &mut u32,
+    history: &mut History,
+    act: &Act,
+) -> Result<(), StepFault>
+    requires can { CanStep (R.local state.old) act.now mail.old }
+    requires updates { updates.old < 4294967295 }
+    requires known { KnownRules cast.now book.now (map body_seen bodies.now) }
+    requires tells { Tells cast.now (R.local state.old) act.now }
+    requires mail_room { 0 < room mail.old }
+    requires history_room { 0 < history.old.room }
+    ensures did { (rules : List PlainRule) → IsBookOf rules book.now
+        → map body_seen bodies.now ≡ map body_of rules
+        → OnOk result (ActDone act.now
+        (λ s. given_to cast.now rules mail.old (book_of book.now) updates.old s act.now)
+        (R.local state.old) mail.old updates.old history.old.entries
+        (R.local state.new) mail.new updates.new history.new.entries) }
+    ensures refused { IfErr result (ReadyFault (R.local state.old) mail.old act.now) }
+    ensures same_local { OnErr result (R.local state.new ≡ R.local state.old) }
+    ensures same_mail { OnErr result (mail.new ≡ mail.old) }
+    ensures same_updates { OnErr result (updates.new ≡ updates.old) }
+    ensures same_history { OnErr result (history.new ≡ history.old) }
+{
+    let prepared = make_ready(alloc, state, mail, act)?;
+    if is_scope(act) {
+        return match begin_scope(
+            alloc, cast, state, book, bodies, updates, history, act, prepared,
+        ) {
+            Ok(()) => Ok(()),
+            Err(_) => Err(StepFault::Memory),
+        };
+    }
+    commit(state, mail, history, act, prepared);
+    Ok(())
+}
+
+/// The step of a role of the cast by an act. After a refusal the roles, the messages, the number of
+/// updates and the history are as they were.
+pub(crate) fn step_role<R: Runs>(
+    alloc: Global,
+    cast: &Roles,
+    roles: &mut Vec<R>,
+    mail: &mut Mail,
+    book: &Book,
+    bodies: &Items<RuleBody>,
+    updates: &mut u32,
+    history: &mut History,
+    role: &Role,
+    act: &Act,
+) -> Result<(), StepFault>
+    requires lengths { length roles.old.items ≡ length cast.now }
+    requires can { (local : LocalState) → IsAt cast.now (map R.local roles.old.items) role.now local
+        → CanStep local act.now mail.old }
+    requires updates { updates.old < 4294967295 }
+    requires known { KnownRules cast.now book.now (map body_seen bodies.now) }
+    requires tells { (local : LocalState)
+        → IsAt cast.now (map R.local roles.old.items) role.now local
+        → Tells cast.now local act.now }
+    ensures did { (rules : List PlainRule) → IsBookOf rules book.now
+        → map body_seen bodies.now ≡ map body_of rules
+        → OnOk result (RoleDid cast.now role.now act.now
+        (λ s. given_to cast.now rules mail.old (book_of book.now) updates.old s act.now)
+        (map R.local roles.old.items) mail.old updates.old history.old.entries
+        (map R.local roles.new.items) mail.new updates.new history.new.entries) }
+    ensures refused { IfErr result
+        (RefusedFor cast.now (map R.local roles.old.items) mail.old role.now act.now) }
+    ensures same_roles { OnErr result (map R.local roles.new.items ≡ map R.local roles.old.items) }
+    ensures same_mail { OnErr result (messages mail.new ≡ messages mail.old) }
+    ensures same_updates { OnErr result (updates.new ≡ updates.old) }
+    ensures same_history { OnErr result (history.new.entries ≡ history.old.entries) }
+{
+    let Some(at) = place_of(cast.as_slice(), role) else {
+        return Err(StepFault::NoAct);
+    };
+    make_room(mail, history)?;
+    let state = &mut roles[at];
+    match do_act(
+        alloc, cast, state, mail, book, bodies, updates, history, act,
+    ) {
+        Ok(()) => Ok(()),
+        Err(fault) => Err(fault),
+    }
+}

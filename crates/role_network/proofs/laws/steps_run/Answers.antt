@@ -1,6 +1,0 @@
--- Each part is a lemma over the laws of terms.
-use Rattle.role_network.proofs.RunLemmas.{steps_run}
-use Rattle.role_network.proofs.laws.steps_run.Goals as goal
-
-pub returns : goal.returns
-returns c = steps_run c.known.ensures c.offers_are_steps.ensures

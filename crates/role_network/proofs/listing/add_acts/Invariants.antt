@@ -1,8 +1,0 @@
--- The moves so far are those of the acts so far.
-use Rattle.std.proofs.Common.{◌≡◌, ◌++◌}
-use Rattle.std.specs.Prelude.{map}
-use Rattle.net_core.specs.declared.moves.Move.TheVariants as move
-use Rattle.role_network.proofs.listing.add_acts.Given as goal
-
-abbrev pub invariant-loop-act : goal.invariant-loop-act
-invariant-loop-act g l = l.moves.items ≡ l.initial.moves.items ++ map (move.Act l.role) l.yielded

@@ -1,4 +1,0 @@
-use Rattle.role_network.proofs.parts.is_there.Goals as goal
-
-pub returns-in-Take : goal.returns-in-Take
-returns-in-Take c = cc
