@@ -52,8 +52,17 @@ pub fn operation(
     key_of(alloc, from, to, index, tag)
 }
 
+/// The acts that the process offers, from left to right.
+pub fn offers_of(alloc: Global, me: &Role, proc: &Proc) -> Result<Vec<Act>, Memory>
+    ensures { IfOk result (λ acts. acts.items ≡ offers me.now (process proc.now)) }
+{
+    let mut acts = Vec::new(alloc);
+    add_offers(alloc, me, proc, &mut acts)?;
+    Ok(acts)
+}
+
 /// Adds the acts that the process offers, from left to right.
-pub fn add_offers(alloc: Global, me: &Role, proc: &Proc, acts: &mut Vec<Act>) -> Result<(), Memory>
+fn add_offers(alloc: Global, me: &Role, proc: &Proc, acts: &mut Vec<Act>) -> Result<(), Memory>
     ensures { OnOk result (acts.new.items ≡ acts.old.items ++ offers me.now (process proc.now)) }
 {
     match proc {

@@ -4,7 +4,7 @@ ghost use Rattle.std.specs.Prelude.{◌≡◌};
 ghost use Rattle.dioc_terms.specs.KeptStores.{store_of};
 ghost use Rattle.dioc_terms.specs.Processes.{process};
 
-use crate::offered::{add_offers, is_ended};
+use crate::offered::{is_ended, offers_of};
 use crate::ready::{Ready, advanced, clear, keep_ready, make_ready};
 use crate::roles::{Begins, Runs};
 use crate::runs::{Got, PrepareFault, Prepared};
@@ -57,9 +57,7 @@ impl Runs for RoleState {
     ghost is_ready = { IsReady };
 
     fn acts(&self, alloc: Global) -> Result<Vec<Act>, Memory> {
-        let mut acts = Vec::new(alloc);
-        add_offers(alloc, &self.role, &self.proc, &mut acts)?;
-        Ok(acts)
+        offers_of(alloc, &self.role, &self.proc)
     }
 
     fn prepare(&mut self, alloc: Global, act: &Act) -> Result<Prepared, PrepareFault> {

@@ -15,8 +15,8 @@ use crate::parts::does;
 use crate::places::{Stance, add_offers_at, beside, stance_at, stance_of};
 use dioc_terms::{Act, Key, Memory, Messages, Role};
 use dpoc_process::offered::{
-    add_offers as add_offers_of, find as find_in, gathers, is_ended as has_ended, offer_of_gather,
-    offer_of_tell, tells,
+    find as find_in, gathers, is_ended as has_ended, offer_of_gather, offer_of_tell, offers_of,
+    tells,
 };
 use std::alloc::Global;
 
@@ -60,7 +60,7 @@ pub(crate) fn add_offers(
             Ok(keys.is_empty())
         }
         Frame::Arrived(proc) => {
-            add_offers_of(alloc, me, proc, acts)?;
+            add_acts(offers_of(alloc, me, proc)?, acts)?;
             Ok(has_ended(proc))
         }
         Frame::Seq(first_over, first, second) => {
@@ -86,6 +86,14 @@ pub(crate) fn add_offers(
             Ok(add_offers(alloc, me, code, right, acts)? && over)
         }
     }
+}
+
+/// Adds these acts.
+fn add_acts(mut more: Vec<Act>, acts: &mut Vec<Act>) -> Result<(), Memory>
+    ensures { OnOk result (acts.new.items ≡ acts.old.items ++ more.items) }
+{
+    acts.append(&mut more)?;
+    Ok(())
 }
 
 /// Adds an act, where there is one.
