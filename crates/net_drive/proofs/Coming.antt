@@ -39,7 +39,7 @@ use Rattle.marked_laws.proofs.Simulate.{Marks, answers_in, state_of, moves}
 use Rattle.network_steps.specs.declared.moves.Move.{Move}
 use Rattle.network_steps.specs.declared.moves.Move.TheVariants as move
 use Rattle.network_steps.specs.Schedule.{change_due, is_ready, role_moves, move_step}
-use Rattle.net_laws.specs.Schedule as schedule
+use Rattle.network_steps.specs.Schedule as schedule
 use Rattle.net_laws.proofs.MoveLemmas.{MailOfTags, EachDone, some_got, moves_done, mail_of_tags, deed_of}
 use Rattle.net_drive.specs.Driven.{is_aux_move, first_auxiliary, act_may_come, may_come}
 
