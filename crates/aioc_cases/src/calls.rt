@@ -4,6 +4,7 @@ mod auxiliary;
 mod bundles;
 mod casts;
 mod choreographies;
+mod copies;
 mod expressions;
 mod indices;
 mod lexemes;
@@ -72,6 +73,8 @@ fn answer_choreography(
         b"nodes" => sizes::answer_nodes(alloc, case, out),
         b"depth" => sizes::answer_depth(alloc, case, out),
         b"indices" => indices::answer(alloc, case, out),
+        b"copy" => copies::answer_copy(alloc, case, out),
+        b"stamped" => copies::answer_stamped(alloc, case, out),
         b"roles" => casts::answer(alloc, case, out),
         b"check" => links::answer(alloc, case, out),
         _ => return None,

@@ -3,6 +3,8 @@
 //! An empty line and a line that begins with `#` are for the reader. A line that begins with `|`
 //! adds a line to the text of the case above it. Every other line begins a case.
 
+ghost use Rattle.text_pieces.specs.Pieces.{KeepsFront};
+
 use crate::cases::Case;
 use crate::problems::Problem;
 use aioc_io::{Sink, Source, read_all, write_all};
@@ -133,9 +135,12 @@ fn write_problem(problem: Problem, out: &mut Vec<u8>) -> Result<(), Memory> {
     }
 }
 
-/// Appends the lines of a text, each with a head before it. A last line that has no line feed is
-/// marked.
-pub fn write_lines(head: &[u8], text: &[u8], out: &mut Vec<u8>) -> Result<(), Memory> {
+/// Appends the lines of a text, each with a head before it and a line feed behind it. What stands
+/// there already stays; after `Memory` some of the lines may stand behind it.
+#[tactic(auto, using(text_pieces::proofs::KeptFronts::front_of_front))]
+pub fn write_lines(head: &[u8], text: &[u8], out: &mut Vec<u8>) -> Result<(), Memory>
+    ensures { KeepsFront out.old.items out.new.items }
+{
     if text.is_empty() {
         return Ok(());
     }

@@ -1,5 +1,8 @@
 //! What the readers of the grammar find at the front of a text.
 
+ghost use Rattle.std.specs.Prelude.{◌≡◌, ◌++◌, codes, decimal, OnErr, OnOk};
+ghost use Rattle.text_pieces.specs.Pieces.{KeepsFront};
+
 use crate::cases::Case;
 use crate::problems::Problem;
 use aioc_tokens::{TokenFault, tokens};
@@ -94,15 +97,27 @@ fn whole_of<T: Drop>(front: Front<T>, otherwise: &'static str) -> Result<T, Prob
     }
 }
 
-/// Appends `reads N: ` for a front of so many tokens.
-pub fn write_count(count: usize, out: &mut Vec<u8>) -> Result<(), Memory> {
+/// Appends `reads N: ` for a front of so many tokens. After `Memory` a part of it may stand behind
+/// the old bytes.
+#[tactic(auto, using(text_pieces::proofs::KeptFronts::front_of_front))]
+pub fn write_count(count: usize, out: &mut Vec<u8>) -> Result<(), Memory>
+    ensures ok { OnOk result (out.new.items
+        ≡ out.old.items ++ (codes "reads " ++ (decimal count ++ codes ": "))) }
+    ensures memory { OnErr result (KeepsFront out.old.items out.new.items) }
+{
     write_bytes(b"reads ", out)?;
     write_number(count as u64, out)?;
     write_bytes(b": ", out)
 }
 
-/// Appends a word and the byte that it is about.
-pub fn write_place(word: &str, byte: usize, out: &mut Vec<u8>) -> Result<(), Memory> {
+/// Appends a word and the byte that it is about. After `Memory` a part of it may stand behind the
+/// old bytes.
+#[tactic(auto, using(text_pieces::proofs::KeptFronts::front_of_front))]
+pub fn write_place(word: &str, byte: usize, out: &mut Vec<u8>) -> Result<(), Memory>
+    ensures ok { OnOk result (out.new.items
+        ≡ out.old.items ++ (word.now ++ (codes " " ++ decimal byte))) }
+    ensures memory { OnErr result (KeepsFront out.old.items out.new.items) }
+{
     write_bytes(word.as_bytes(), out)?;
     write_bytes(b" ", out)?;
     write_number(byte as u64, out)

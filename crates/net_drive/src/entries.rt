@@ -1,7 +1,7 @@
 //! A net driven towards an entry of a visible trace, and the auxiliary moves that it makes on the
 //! way.
 
-ghost use Rattle.std.specs.Prelude.{◌≡◌, ◌≢◌, ◌<◌, false, IfOk, OnOk, flat_map, length, map};
+ghost use Rattle.std.specs.Prelude.{◌≡◌, ◌≢◌, ◌<◌, false, Some, IfOk, OnOk, flat_map, length, map};
 ghost use Rattle.std.specs.List.{find};
 ghost use Rattle.std.specs.Option.{option_copied};
 ghost use Rattle.dioc_terms.specs.Messages.{is_aux};
@@ -12,7 +12,7 @@ ghost use Rattle.net_drive.specs.Driven.{first_auxiliary, is_aux_move};
 ghost use Rattle.net_drive.specs.Driving.{HasRoom, IsTried, IsTurn, judged};
 ghost use Rattle.net_drive.specs.Making.{Makes, shown_move};
 ghost use Rattle.net_core.specs.Nets.{IsSoundRun, network_of};
-ghost use Rattle.schedule.specs.Agendas.{agenda_of, moves_of, ready_seen};
+ghost use Rattle.schedule.specs.Agendas.{IsStale, agenda_of, moves_of, ready_seen};
 
 use crate::laws::known;
 use crate::steps::{is_noted, make, move_by};
@@ -22,6 +22,7 @@ use net_core::Net;
 use network_steps::Move;
 use schedule::{ReadyRole, copy_of_act, keep_up_with};
 use std::alloc::Global;
+use std::mem;
 
 /// What became of an entry that was tried.
 #[derive(Clone, Copy)]
@@ -37,23 +38,23 @@ pub(crate) enum Tried {
 /// A turn towards an entry: takes it where it may come, and else the first auxiliary move.
 pub(crate) fn take_turn<R: Runs>(
     net: &mut Net<R>,
-    agenda: &mut [ReadyRole],
+    agenda: &mut Vec<ReadyRole>,
     next: &Move,
     entry: &Entry,
 ) -> Result<Tried, Memory>
     requires run { IsSoundRun net.old }
     requires room { HasRoom net.old }
-    requires agenda { map ready_seen agenda.old ≡ agenda_of net.old }
+    requires agenda { map ready_seen agenda.old.items ≡ agenda_of net.old }
     requires next { next.now ≡ shown_move entry.now }
     requires shown { is_aux entry.now ≡ false }
     ensures turn { IfOk result (IsTurn net.old entry.now net.new) }
     ensures agenda { IfOk result
-        (λ tried. tried ≢ Tried.Strays → map ready_seen agenda.new ≡ agenda_of net.new) }
+        (λ tried. tried ≢ Tried.Strays → map ready_seen agenda.new.items ≡ agenda_of net.new) }
 {
     known();
     match try_entry(net, next, entry)? {
         Tried::Came => {
-            keep_up_with(net, next, agenda)?;
+            bring_up(net, next, agenda)?;
             Ok(Tried::Came)
         }
         Tried::Waits => {
@@ -98,17 +99,17 @@ fn judged(next: &Move, is_made: bool, is_noted: bool) -> Tried
 /// Makes the first auxiliary move, where there is one. Where there is none, the net is unchanged.
 pub(crate) fn take_auxiliary<R: Runs>(
     net: &mut Net<R>,
-    agenda: &mut [ReadyRole],
+    agenda: &mut Vec<ReadyRole>,
 ) -> Result<bool, Memory>
     requires run { IsSoundRun net.old }
     requires room { length net.old.history < net.old.limit }
     requires few { (network_of net.old).updates < 4294967295 }
-    requires agenda { map ready_seen agenda.old ≡ agenda_of net.old }
+    requires agenda { map ready_seen agenda.old.items ≡ agenda_of net.old }
     ensures makes { IfOk result (Makes (first_auxiliary (setting net.old.bundle)
         (network_of net.old)) net.old net.new) }
-    ensures agenda { OnOk result (map ready_seen agenda.new ≡ agenda_of net.new) }
+    ensures agenda { OnOk result (map ready_seen agenda.new.items ≡ agenda_of net.new) }
 {
-    match find_auxiliary(net.allocator(), agenda)? {
+    match find_auxiliary(net.allocator(), agenda.as_slice())? {
         Some(next) => {
             let is_made = make_on(net, agenda, &next);
             drop(next);
@@ -120,21 +121,35 @@ pub(crate) fn take_auxiliary<R: Runs>(
 
 // Makes the move, where it can be made, and brings the agenda up to date. Where it can't, the net
 // is unchanged.
-fn make_on<R: Runs>(net: &mut Net<R>, agenda: &mut [ReadyRole], next: &Move) -> Result<bool, Memory>
+fn make_on<R: Runs>(
+    net: &mut Net<R>,
+    agenda: &mut Vec<ReadyRole>,
+    next: &Move,
+) -> Result<bool, Memory>
     requires run { IsSoundRun net.old }
     requires room { length net.old.history < net.old.limit }
     requires few { (network_of net.old).updates < 4294967295 }
-    requires agenda { map ready_seen agenda.old ≡ agenda_of net.old }
+    requires agenda { map ready_seen agenda.old.items ≡ agenda_of net.old }
     ensures makes { IfOk result (Makes (move_step (setting net.old.bundle) (network_of net.old)
         next.now) net.old net.new) }
-    ensures agenda { OnOk result (map ready_seen agenda.new ≡ agenda_of net.new) }
+    ensures agenda { OnOk result (map ready_seen agenda.new.items ≡ agenda_of net.new) }
 {
     known();
     if !make(net, next)? {
         return Ok(false);
     }
-    keep_up_with(net, next, agenda)?;
+    bring_up(net, next, agenda)?;
     Ok(true)
+}
+
+// Puts the agenda after a move in place of the one before it.
+fn bring_up<R: Runs>(net: &Net<R>, made: &Move, agenda: &mut Vec<ReadyRole>) -> Result<(), Memory>
+    requires { IsStale net.now (Some made.now) (map ready_seen agenda.old.items) }
+    ensures { OnOk result (map ready_seen agenda.new.items ≡ agenda_of net.now) }
+{
+    let before = mem::replace(agenda, Vec::new(net.allocator()));
+    *agenda = keep_up_with(net, made, before)?;
+    Ok(())
 }
 
 // The first auxiliary act in an agenda, as a move.

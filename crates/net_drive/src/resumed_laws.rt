@@ -2,7 +2,7 @@
 
 ghost use Rattle.connectedness.specs.Laws.{RolesAtEnds, StampedConnected};
 ghost use Rattle.dioc_terms.specs.TermLaws.{CastsAreRoles, MentionsAreRoles, StampedBodies};
-ghost use Rattle.net_drive.specs.ResumedLaws.{ResumedRuns, RunStraysAreExact};
+ghost use Rattle.net_drive.specs.ResumedLaws.{ResumedNets, ResumedRuns, RunStraysAreExact};
 ghost use Rattle.process_steps.specs.Laws.{OffersAreSteps};
 ghost use Rattle.projection.specs.Laws.{OutsidersHaveEnded};
 
@@ -23,6 +23,16 @@ pub(crate) fn known()
 /// with the seed; or the first of them, where they are more than the limit. It does nothing.
 pub fn resumed_runs()
     ensures { ResumedRuns }
+{
+    net_laws::runs_are_sound();
+    net_laws::every_run();
+}
+
+/// A law: the net that `resume` gives of an accepted bundle has, once `run_seeded` has taken it to
+/// its end or to its limit, the history of the resumed run; so has the net that `resume` gives where
+/// there are more entries than the limit. Of both the headline holds. It does nothing.
+pub fn resumed_nets()
+    ensures { ResumedNets }
 {
     net_laws::runs_are_sound();
     net_laws::every_run();

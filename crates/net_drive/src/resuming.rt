@@ -16,6 +16,7 @@ use net_core::Net;
 use net_laws::accepted_is_sound;
 use network_steps::Move;
 use std::alloc::Global;
+use trace_book::History;
 
 /// Why a run isn't resumed to its last entry.
 #[derive(Drop)]
@@ -41,6 +42,24 @@ pub(crate) enum Redone {
 /// Each entry is done again: the role that it names takes the act that it shows, or the script's
 /// next change is made, and what the network notes is compared with it.
 pub fn resume<R: Begins>(
+    alloc: Global,
+    bundle: &Bundle,
+    entries: &History,
+    limit: u64,
+) -> Result<Net<R>, ResumeFault<R>>
+    requires accepted { IsAccepted (plain bundle.now) }
+    requires numbers { limit ≤ 4294967295 }
+    ensures resumed { IfOk result (IsNetAfter (plain bundle.now) entries.now.entries limit) }
+    ensures within { IfOk result (λ _. length entries.now.entries ≤ limit) }
+    ensures full { IfErr result (FullAt (plain bundle.now) entries.now.entries limit) }
+    ensures stray { IfErr result (StraysAt (plain bundle.now) entries.now.entries limit) }
+    ensures counted { IfErr result (StrayCounted (plain bundle.now) entries.now.entries limit) }
+{
+    resume_all(alloc, bundle, entries.as_slice(), limit)
+}
+
+// The same, of the entries of the history.
+fn resume_all<R: Begins>(
     alloc: Global,
     bundle: &Bundle,
     entries: &[Entry],

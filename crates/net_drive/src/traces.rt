@@ -24,6 +24,7 @@ use network_steps::Move;
 use schedule::{ReadyRole, list_ready};
 use std::alloc::Global;
 use thiserror::Error;
+use trace_book::History;
 
 /// Why a trace isn't driven.
 #[derive(Clone, Copy, Debug, PartialEq, Eq, Error)]
@@ -43,6 +44,27 @@ pub enum DriveFault {
 ///
 /// The net's limit is the greatest number there is, so its history is never full.
 pub fn drive<R: Begins>(
+    alloc: Global,
+    bundle: &Bundle,
+    trace: &History,
+) -> Result<Net<R>, DriveFault>
+    requires accepted { IsAccepted (plain bundle.now) }
+    requires shown { list_all (λ e. not (is_aux e)) trace.now.entries ≡ true }
+    requires few { length trace.now.entries ≤ 1000000 }
+    ensures driven { IfOk result
+        (λ net. driven (plain bundle.now) trace.now.entries ≡ Some net.history) }
+    ensures shows { IfOk result (λ net. visible net.history ≡ trace.now.entries) }
+    ensures run { IfOk result IsSoundRun }
+    ensures bundle { IfOk result (λ net. net.bundle ≡ plain bundle.now) }
+    ensures limit { IfOk result (λ net. net.limit ≡ 18446744073709551615) }
+    ensures stray { IfErr result (LostAt (plain bundle.now) trace.now.entries) }
+    ensures counted { IfErr result (LostCounted (plain bundle.now) trace.now.entries) }
+{
+    drive_all(alloc, bundle, trace.as_slice())
+}
+
+// The same, of the entries of the trace.
+fn drive_all<R: Begins>(
     alloc: Global,
     bundle: &Bundle,
     trace: &[Entry],
@@ -105,18 +127,18 @@ fn drive_through<R: Runs>(net: &mut Net<R>, trace: &[Entry]) -> Result<Option<u6
     ensures limit { IfOk result (λ stray. stray ≡ None → net.new.limit ≡ net.old.limit) }
 {
     let mut agenda = list_ready(net)?;
-    drive_entries(net, agenda.as_mut_slice(), trace)
+    drive_entries(net, &mut agenda, trace)
 }
 
 // The same, with the agenda of the net.
 fn drive_entries<R: Runs>(
     net: &mut Net<R>,
-    agenda: &mut [ReadyRole],
+    agenda: &mut Vec<ReadyRole>,
     trace: &[Entry],
 ) -> Result<Option<u64>, Memory>
     requires fresh { net.old.history ≡ [] }
     requires room { HasRoom net.old }
-    requires agenda { map ready_seen agenda.old ≡ agenda_of net.old }
+    requires agenda { map ready_seen agenda.old.items ≡ agenda_of net.old }
     requires shown { list_all (λ e. not (is_aux e)) trace.now ≡ true }
     requires few { length trace.now ≤ 1000000 }
     ensures driven { IfOk result (IsDriven net.old trace.now net.new) }
@@ -139,13 +161,17 @@ fn drive_entries<R: Runs>(
 }
 
 // Takes auxiliary moves until the entry comes, or says that it can't come.
-fn reach<R: Runs>(net: &mut Net<R>, agenda: &mut [ReadyRole], entry: &Entry) -> Result<bool, Memory>
+fn reach<R: Runs>(
+    net: &mut Net<R>,
+    agenda: &mut Vec<ReadyRole>,
+    entry: &Entry,
+) -> Result<bool, Memory>
     requires room { HasRoom net.old }
-    requires agenda { map ready_seen agenda.old ≡ agenda_of net.old }
+    requires agenda { map ready_seen agenda.old.items ≡ agenda_of net.old }
     requires shown { is_aux entry.now ≡ false }
     ensures reached { IfOk result (Reaches net.old entry.now net.new) }
     ensures agenda { IfOk result
-        (λ has_come. has_come ≡ true → map ready_seen agenda.new ≡ agenda_of net.new) }
+        (λ has_come. has_come ≡ true → map ready_seen agenda.new.items ≡ agenda_of net.new) }
 {
     let next = move_of(net.allocator(), entry)?;
     let has_come = reach_by(net, agenda, &next, entry);
@@ -156,17 +182,17 @@ fn reach<R: Runs>(net: &mut Net<R>, agenda: &mut [ReadyRole], entry: &Entry) -> 
 // The same, with the move that the entry shows.
 fn reach_by<R: Runs>(
     net: &mut Net<R>,
-    agenda: &mut [ReadyRole],
+    agenda: &mut Vec<ReadyRole>,
     next: &Move,
     entry: &Entry,
 ) -> Result<bool, Memory>
     requires room { HasRoom net.old }
-    requires agenda { map ready_seen agenda.old ≡ agenda_of net.old }
+    requires agenda { map ready_seen agenda.old.items ≡ agenda_of net.old }
     requires next { next.now ≡ shown_move entry.now }
     requires shown { is_aux entry.now ≡ false }
     ensures reached { IfOk result (Reaches net.old entry.now net.new) }
     ensures agenda { IfOk result
-        (λ has_come. has_come ≡ true → map ready_seen agenda.new ≡ agenda_of net.new) }
+        (λ has_come. has_come ≡ true → map ready_seen agenda.new.items ≡ agenda_of net.new) }
 {
     known();
     'turns: loop {
@@ -180,9 +206,9 @@ fn reach_by<R: Runs>(
 }
 
 // Takes auxiliary moves until none is left.
-fn settle<R: Runs>(net: &mut Net<R>, agenda: &mut [ReadyRole]) -> Result<(), Memory>
+fn settle<R: Runs>(net: &mut Net<R>, agenda: &mut Vec<ReadyRole>) -> Result<(), Memory>
     requires room { HasRoom net.old }
-    requires agenda { map ready_seen agenda.old ≡ agenda_of net.old }
+    requires agenda { map ready_seen agenda.old.items ≡ agenda_of net.old }
     ensures { OnOk result (Settles net.old net.new) }
 {
     known();

@@ -7,7 +7,7 @@ ghost use Rattle.dioc_terms.specs.Equality.{member};
 ghost use Rattle.net_core.specs.Nets.{network_of};
 ghost use Rattle.schedule.specs.Agendas.{IsStale, again, agenda_of, moves_of, puts_to, refreshed, ready_seen, touches};
 
-use dioc_terms::{Act, Memory, Role};
+use dioc_terms::{Act, Memory, Role, give_up};
 use dpoc_process::Runs;
 use net_core::Net;
 use network_steps::Move;
@@ -22,43 +22,57 @@ pub struct ReadyRole {
     pub acts: Vec<Act>,
 }
 
-/// Brings an agenda up to date after a move. Before the first move it makes one.
+/// The agenda after a move, from the one before it. Before the first move it makes one.
 pub(crate) fn keep_up<R: Runs>(
     net: &Net<R>,
     made: &Option<Move>,
-    agenda: &mut Vec<ReadyRole>,
-) -> Result<(), Memory>
-    requires { IsStale net.now made.now (map ready_seen agenda.old.items) }
-    ensures { OnOk result (map ready_seen agenda.new.items ≡ agenda_of net.now) }
+    agenda: Vec<ReadyRole>,
+) -> Result<Vec<ReadyRole>, Memory>
+    requires { IsStale net.now made.now (map ready_seen agenda.items) }
+    ensures { IfOk result (λ agenda. map ready_seen agenda.items ≡ agenda_of net.now) }
 {
     match made {
-        None => start_agenda(net, agenda),
-        Some(made) => keep_up_with(net, made, agenda.as_mut_slice()),
+        None => {
+            drop(agenda);
+            list_ready(net)
+        }
+        Some(made) => keep_up_with(net, made, agenda),
     }
 }
 
-/// Brings an agenda up to date after a move: it asks only the roles that the move touches. After
-/// `Memory` it is no agenda of the net.
+/// The agenda of a net after a move, from the one before it: it asks only the roles that the move
+/// touches. After `Memory` the old agenda is dropped.
 pub fn keep_up_with<R: Runs>(
     net: &Net<R>,
     made: &Move,
-    agenda: &mut [ReadyRole],
-) -> Result<(), Memory>
-    requires { IsStale net.now (Some made.now) (map ready_seen agenda.old) }
-    ensures { OnOk result (map ready_seen agenda.new ≡ agenda_of net.now) }
+    agenda: Vec<ReadyRole>,
+) -> Result<Vec<ReadyRole>, Memory>
+    requires { IsStale net.now (Some made.now) (map ready_seen agenda.items) }
+    ensures { IfOk result (λ agenda. map ready_seen agenda.items ≡ agenda_of net.now) }
 {
     match made {
-        Move::Change => Ok(()),
-        Move::Act(role, act) => refresh(net, role, act, agenda),
+        Move::Change => Ok(agenda),
+        Move::Act(role, act) => refreshed(net, role, act, agenda),
     }
 }
 
-/// Makes the agenda of a net in place of another.
-fn start_agenda<R: Runs>(net: &Net<R>, agenda: &mut Vec<ReadyRole>) -> Result<(), Memory>
-    ensures { OnOk result (map ready_seen agenda.new.items ≡ agenda_of net.now) }
+/// The agenda with what the roles can do listed anew that an act of a role touches.
+fn refreshed<R: Runs>(
+    net: &Net<R>,
+    role: &Role,
+    act: &Act,
+    agenda: Vec<ReadyRole>,
+) -> Result<Vec<ReadyRole>, Memory>
+    requires { list_all (λ ready. member ready.0 net.now.bundle.cast)
+        (map ready_seen agenda.items) ≡ true }
+    ensures { IfOk result (λ new. map ready_seen new.items
+        ≡ refreshed (network_of net.now) role.now act.now (map ready_seen agenda.items)) }
 {
-    *agenda = list_ready(net)?;
-    Ok(())
+    let mut new = agenda;
+    match refresh(net, role, act, new.as_mut_slice()) {
+        Ok(()) => Ok(new),
+        Err(fault) => give_up(new, fault),
+    }
 }
 
 /// The agenda of a net: the acts that each role can do now, in the cast's order.

@@ -77,7 +77,7 @@ fn take_turns<R: Runs>(
 }
 
 /// Takes one turn: brings the agenda up to date after the last move, and makes the next one. After
-/// a refusal the net is unchanged.
+/// a refusal the net is unchanged, and the agenda may be lost.
 fn take_turn<R: Runs>(
     net: &mut Net<R>,
     seed: Option<u64>,
@@ -93,7 +93,8 @@ fn take_turn<R: Runs>(
     ensures stale { OnOk result (IsStale net.new made.new (map ready_seen agenda.new.items)) }
     ensures err { OnErr result (net.new ≡ net.old) }
 {
-    keep_up(net, made, agenda)?;
+    let before = mem::replace(agenda, Vec::new(net.allocator()));
+    *agenda = keep_up(net, made, before)?;
     let next = take_next(net, agenda.as_slice(), seed)?;
     drop(mem::replace(made, Some(next)));
     Ok(())

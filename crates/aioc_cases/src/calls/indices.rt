@@ -1,7 +1,8 @@
-//! `indices: TEXT`: the indices of a choreography.
+//! `indices: TEXT`: the indices of a choreography. `indices EPOCH: TEXT`: those of the choreography
+//! and of its copy in that epoch, one behind the other.
 
-use case_tables::{Case, Problem, whole_choreo};
-use dioc_terms::{Choreo, Index, Memory};
+use case_tables::{Case, Problem, read_number, whole_choreo};
+use dioc_terms::{Choreo, Index, Memory, give_up, new_boxes, stamped};
 use index_marks::distinct;
 use std::alloc::Global;
 use text_pieces::write_bytes;
@@ -9,10 +10,37 @@ use trace_text::write_index;
 
 /// Appends whether no index stands twice, and the indices in the order of the text.
 pub fn answer(alloc: Global, case: &Case, out: &mut Vec<u8>) -> Result<(), Problem> {
+    let epoch = match case.option()? {
+        b"" => None,
+        digits => Some(number_of(digits)?),
+    };
     let choreo = whole_choreo(alloc, case)?;
-    let written = write_marks(alloc, &choreo, out);
-    drop(choreo);
+    let asked = match epoch {
+        None => choreo,
+        Some(epoch) => twice(alloc, choreo, epoch)?,
+    };
+    let written = write_marks(alloc, &asked, out);
+    drop(asked);
     Ok(written?)
+}
+
+/// The number of an epoch or a level.
+pub fn number_of(digits: &[u8]) -> Result<u32, Problem> {
+    match u32::try_from(read_number(digits)?) {
+        Ok(number) => Ok(number),
+        Err(_) => Err(Problem::Bad("an epoch or a level is too great")),
+    }
+}
+
+// The choreography, and behind it its copy in that epoch. (A text alone gives no index twice.)
+fn twice(alloc: Global, choreo: Choreo, epoch: u32) -> Result<Choreo, Memory> {
+    match stamped(alloc, &choreo, epoch, 0) {
+        Ok(again) => {
+            let (first, second) = new_boxes(alloc, choreo, again)?;
+            Ok(Choreo::Seq(first, second))
+        }
+        Err(fault) => give_up(choreo, fault),
+    }
 }
 
 fn write_marks(alloc: Global, choreo: &Choreo, out: &mut Vec<u8>) -> Result<(), Memory> {
@@ -25,7 +53,8 @@ fn write_marks(alloc: Global, choreo: &Choreo, out: &mut Vec<u8>) -> Result<(), 
     write_indices(choreo, out)
 }
 
-fn write_indices(choreo: &Choreo, out: &mut Vec<u8>) -> Result<(), Memory> {
+/// Appends the indices in the order of the text, each behind a space.
+pub fn write_indices(choreo: &Choreo, out: &mut Vec<u8>) -> Result<(), Memory> {
     match choreo {
         Choreo::Skip => Ok(()),
         Choreo::Com { index, .. } | Choreo::Set { index, .. } | Choreo::Input { index, .. } => {

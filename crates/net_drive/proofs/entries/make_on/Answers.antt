@@ -23,8 +23,8 @@ returns-then-not-branch-clause-agenda g c =
     subst (Makes (move_step (setting old.bundle) (network_of old) c.args.next.now) old c.make.new.net) c.if-not-branch.true c.in_ok-make.ensures.makes in
     c.requires.agenda ∙ ap agenda_of (sym stays.1)
 
-pub keep_up_with-requires : goal.keep_up_with-requires
-keep_up_with-requires g c =
+pub bring_up-requires : goal.bring_up-requires
+bring_up-requires g c =
     let known : Known = record {
       mentions = c.known.ensures.mentions;
       casts = c.known.ensures.casts;
@@ -36,7 +36,7 @@ keep_up_with-requires g c =
     let new = c.make.new.net in
     let made : Makes (move_step (setting old.bundle) (network_of old) c.args.next.now) old new true =
     subst (Makes (move_step (setting old.bundle) (network_of old) c.args.next.now) old new) c.if-not-branch.false c.in_ok-make.ensures.makes in
-    stale_after known old new c.args.next.now (map ready_seen c.args.agenda.now) c.requires.run (move_made old new c.args.next.now made) c.requires.agenda
+    stale_after known old new c.args.next.now (map ready_seen c.args.agenda.now.items) c.requires.run (move_made old new c.args.next.now made) c.requires.agenda
 
 pub returns-clause-makes : goal.returns-clause-makes
 returns-clause-makes g c =

@@ -22,8 +22,8 @@ try_entry-requires-clause-room g c = has_room c.known.ensures.auxiliary c.args.n
 pub try_entry-requires-clause-few : goal.try_entry-requires-clause-few
 try_entry-requires-clause-few g c = few_made c.known.ensures.auxiliary c.args.net.now c.requires.run c.requires.room
 
-pub keep_up_with-requires : goal.keep_up_with-requires
-keep_up_with-requires g c =
+pub bring_up-requires : goal.bring_up-requires
+bring_up-requires g c =
     let known : Known = record {
       mentions = c.known.ensures.mentions;
       casts = c.known.ensures.casts;
@@ -34,7 +34,7 @@ keep_up_with-requires g c =
     let old = c.args.net.now in
     let new = c.try_entry.new.net in
     let come : HasCome old c.args.entry.now new = subst (IsTried old c.args.entry.now new) c.in-Came.is c.in_ok-try_entry.ensures in
-    stale_after known old new c.args.next.now (map ready_seen c.args.agenda.now) c.requires.run
+    stale_after known old new c.args.next.now (map ready_seen c.args.agenda.now.items) c.requires.run
     (subst (λ (m : Move). IsMoveOf old m new) (sym c.requires.next) come.made) c.requires.agenda
 
 pub take_auxiliary-requires-clause-room : goal.take_auxiliary-requires-clause-room

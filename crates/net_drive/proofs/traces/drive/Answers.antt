@@ -1,39 +1,32 @@
--- The net is that of the bundle, and so is what is said of the trace.
-use Rattle.std.proofs.Common.{◌≡◌, ◌≤◌, List, length, Some, sym, subst, arith}
+-- What is said of the entries of the trace is said of the trace.
+use Rattle.std.proofs.Common.{◌≡◌, ◌≤◌, List, length, Some, IfErr, IfOk, not, true, sym, subst}
+use Rattle.std.specs.List.{list_all}
 use Rattle.dioc_terms.specs.declared.entries.Entry.{Entry}
-use Rattle.dioc_terms.specs.Messages.{visible}
-use Rattle.dioc_terms.specs.Plain.{PlainBundle, plain}
-use Rattle.marked_laws.specs.Laws.{IsSound}
+use Rattle.dioc_terms.specs.Messages.{is_aux, visible}
+use Rattle.dioc_terms.specs.Plain.{plain}
+use Rattle.net_core.specs.Nets.{NetState}
 use Rattle.net_drive.specs.Driven.{driven}
 use Rattle.net_drive.specs.Faults.{LostAt, LostCounted}
-use Rattle.net_drive.proofs.OnTheWay.{few_roles}
 use Rattle.net_drive.proofs.traces.drive.Goals as goal
 
-pub start-requires : goal.start-requires
-start-requires g c = c.accepted_is_sound.ensures (plain c.args.bundle.now) c.requires.accepted
+pub drive_all-requires-clause-shown : goal.drive_all-requires-clause-shown
+drive_all-requires-clause-shown g c = subst (λ (es : List Entry). list_all (λ e. not (is_aux e)) es ≡ true) (sym c.as_slice.ensures) c.requires.shown
 
-pub drive_whole-requires-clause-sound : goal.drive_whole-requires-clause-sound
-drive_whole-requires-clause-sound g c =
-    subst IsSound (sym c.in-Ok.ensures.bundle) (c.accepted_is_sound.ensures (plain c.args.bundle.now) c.requires.accepted)
+pub drive_all-requires-clause-few : goal.drive_all-requires-clause-few
+drive_all-requires-clause-few g c = subst (λ (es : List Entry). length es ≤ 1000000) (sym c.as_slice.ensures) c.requires.few
 
-pub drive_whole-requires-clause-room : goal.drive_whole-requires-clause-room
-drive_whole-requires-clause-room g c = record {
-  roles = subst (λ (B : PlainBundle). length B.cast ≤ 32) (sym c.in-Ok.ensures.bundle) (few_roles (plain c.args.bundle.now) c.requires.accepted);
-  entries = subst (λ (h : List Entry). length (visible h) ≤ 1000000) (sym c.in-Ok.ensures.history) (omega arith);
-  limit = c.in-Ok.ensures.limit;
-}
+pub returns-clause-driven : goal.returns-clause-driven
+returns-clause-driven g c =
+    subst (λ (es : List Entry). IfOk c.drive_all.result (λ (net : NetState). driven (plain c.args.bundle.now) es ≡ Some net.history)) c.as_slice.ensures c.drive_all.ensures.driven
 
-pub returns-in-Ok-drive_whole-clause-driven : goal.returns-in-Ok-drive_whole-clause-driven
-returns-in-Ok-drive_whole-clause-driven g c =
-    subst (λ (B : PlainBundle). driven B c.args.trace.now ≡ Some c.drive_whole.new.net.history) c.in-Ok.ensures.bundle c.in-Ok-drive_whole.ensures.driven.0
+pub returns-clause-shows : goal.returns-clause-shows
+returns-clause-shows g c =
+    subst (λ (es : List Entry). IfOk c.drive_all.result (λ (net : NetState). visible net.history ≡ es)) c.as_slice.ensures c.drive_all.ensures.shows
 
-pub returns-in-Ok-drive_whole-clause-shows : goal.returns-in-Ok-drive_whole-clause-shows
-returns-in-Ok-drive_whole-clause-shows g c = c.in-Ok-drive_whole.ensures.driven.1
+pub returns-clause-stray : goal.returns-clause-stray
+returns-clause-stray g c =
+    subst (λ (es : List Entry). IfErr c.drive_all.result (LostAt (plain c.args.bundle.now) es)) c.as_slice.ensures c.drive_all.ensures.stray
 
-pub returns-in-Err-clause-stray : goal.returns-in-Err-clause-stray
-returns-in-Err-clause-stray g c =
-    subst (λ (B : PlainBundle). LostAt B c.args.trace.now c.in-Err.fault) c.in-Ok.ensures.bundle c.in-Err.ensures.stray
-
-pub returns-in-Err-clause-counted : goal.returns-in-Err-clause-counted
-returns-in-Err-clause-counted g c =
-    subst (λ (B : PlainBundle). LostCounted B c.args.trace.now c.in-Err.fault) c.in-Ok.ensures.bundle c.in-Err.ensures.counted
+pub returns-clause-counted : goal.returns-clause-counted
+returns-clause-counted g c =
+    subst (λ (es : List Entry). IfErr c.drive_all.result (LostCounted (plain c.args.bundle.now) es)) c.as_slice.ensures c.drive_all.ensures.counted

@@ -9,5 +9,5 @@ abbrev pub invariant-loop-entry : goal.invariant-loop-entry
 invariant-loop-entry g l = record {
   number : l.number ≡ l.entry-index;
   way : DrivesOn l.initial.net l.net (take l.entry-index l.trace) (drop l.entry-index l.trace);
-  agenda : map ready_seen l.agenda ≡ agenda_of l.net;
+  agenda : map ready_seen l.agenda.items ≡ agenda_of l.net;
 }

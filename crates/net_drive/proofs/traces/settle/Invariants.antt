@@ -9,7 +9,7 @@ abbrev pub invariant-turns : goal.invariant-turns
 invariant-turns g l = record {
   way : DrivesOn l.initial.net l.net [] [];
   room : HasRoom l.net;
-  agenda : map ready_seen l.agenda ≡ agenda_of l.net;
+  agenda : map ready_seen l.agenda.items ≡ agenda_of l.net;
 }
 
 abbrev pub decreases-turns : goal.decreases-turns

@@ -7,8 +7,8 @@ use Rattle.schedule.proofs.AgendaLemmas.{roles_of_cast}
 use Rattle.schedule.specs.Agendas.{IsStale, ready_seen}
 use Rattle.schedule.proofs.agenda.keep_up_with.Goals as goal
 
-pub refresh-requires : goal.refresh-requires
-refresh-requires g c =
-    let stale : IsStale c.args.net.now (Some (move.Act c.in-Act.role c.in-Act.act)) (map ready_seen c.args.agenda.now) =
-    subst (λ (m : Move). IsStale c.args.net.now (Some m) (map ready_seen c.args.agenda.now)) c.in-Act.is c.requires in
-    roles_of_cast c.args.net.now c.in-Act.role c.in-Act.act (map ready_seen c.args.agenda.now) stale
+pub refreshed-requires : goal.refreshed-requires
+refreshed-requires g c =
+    let stale : IsStale c.args.net.now (Some (move.Act c.in-Act.role c.in-Act.act)) (map ready_seen c.args.agenda.items) =
+    subst (λ (m : Move). IsStale c.args.net.now (Some m) (map ready_seen c.args.agenda.items)) c.in-Act.is c.requires in
+    roles_of_cast c.args.net.now c.in-Act.role c.in-Act.act (map ready_seen c.args.agenda.items) stale
