@@ -76,7 +76,7 @@ impl<H: Chronicle> Turns<H> {
     ghost use Rattle.turn_lock.specs.Words.{view, turn_view, known, turn_known, IsSeatOf, IsTurnOf, claim_of};
 
     /// A lock over a value with an empty list, and the first seat. It has the number 0, and it
-    /// alone can make seats. `Err` is want of memory, and drops the value.
+    /// alone can make seats. `Err` says that memory ran out, and drops the value.
     pub fn new(alloc: Global, home: H) -> Result<(Turns<H>, Seat<H>), Memory>
     where
         H: Drop,
