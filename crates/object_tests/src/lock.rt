@@ -1,4 +1,5 @@
-//! Two seats of a lock that take turns in two threads, and a seat that is left out at the end.
+//! Two seats of a lock that take turns in two threads, a seat that is left out at the end, and seats
+//! that are handed in with the first one last.
 
 ghost use Rattle.std.specs.Prelude.{◌≡◌, ◌≤◌, ◌<◌, ◌^◌, [], ◌∷◌, ◌++◌, length, true, false};
 ghost use Rattle.std.specs.Bool.{OnTrue, OnFalse};
@@ -23,15 +24,25 @@ impl Chronicle for Journal {
 
     type Base = ();
 
+    type Mark = ();
+
     ghost items = { λ journal. journal.entries.items };
 
     ghost base = { λ _. tt };
 
     ghost owner = { λ _ entry. entry };
 
+    ghost at = { λ _. tt };
+
+    ghost grows = { λ _ _. Unit {0} };
+
     fn count(&self) -> u64 {
         self.entries.len() as u64
     }
+
+    ghost stays = { λ _. tt };
+
+    ghost goes_on = { λ _ _ _ _ _. tt };
 }
 
 impl Journal {
@@ -116,5 +127,31 @@ fn two_seats_take_turns_and_close(rt: HostRuntime) -> Result<(), Fail> {
         panic!(rt; "did not close with both seats")
     };
     assert!(rt; has_all_turns(&journal));
+    Ok(())
+}
+
+#[test]
+fn seats_close_in_any_order(rt: HostRuntime) -> Result<(), Fail> {
+    let alloc = rt.alloc();
+    let journal = Journal {
+        entries: Vec::new(alloc),
+    };
+    let Ok((turns, first)) = Turns::new(alloc, journal) else {
+        panic!(rt; "no memory")
+    };
+    let (first, second) = turns.split(first);
+    let (first, third) = turns.split(first);
+    let second = take_turn(&rt, &turns, second, 1);
+    let mut seats = Vec::with_capacity(alloc, 2)?;
+    seats.push_reserved(third);
+    seats.push_reserved(second);
+    let Err(Missing { turns, mut seats }) = turns.close(seats) else {
+        panic!(rt; "closed without its first seat")
+    };
+    seats.push(first)?;
+    let Ok(journal) = turns.close(seats) else {
+        panic!(rt; "did not close with its first seat last")
+    };
+    assert!(rt; journal.count() == 1);
     Ok(())
 }
