@@ -1,5 +1,6 @@
 """The program that draws traces: its stored run, the pictures of the pages, and its statuses as docs/LOOKING.md has them."""
 import os
+import re
 
 from testing.calls import quoted
 from testing.runner import Test
@@ -32,6 +33,23 @@ STREAMS = {
 }
 
 
+# Traces, and the arrows of their SVG: from where, to where, and whether an arrow arrives. In the second and the last
+# the messages are those of no run. The longest label has 12 characters, so lanes are 120 pixels apart.
+LINE = re.compile(rb'<line x1="(\d+)" y1="(\d+)" x2="(\d+)" y2="(\d+)"( marker-end="url\(#tip\)")?/>')
+CIRCLE = re.compile(rb'<circle class="open" cx="(\d+)" cy="(\d+)" r="4"/>')
+ARROWS = (
+    ("messages that cross", ["put a -> b hi#0.0 = 1", "put b -> a ho#0.1 = 2", "take a -> b hi#0.0 x", "take b -> a ho#0.1 y"],
+     [(120, 70, 240, 130, True), (240, 100, 120, 160, True)]),
+    ("messages that are never taken", ["put a -> c hi#0.0 = 1", "take a -> b hi#0.0 x", "put c -> a ho#0.1 = 2"],
+     [(120, 70, 180, 79, False), (240, 130, 180, 139, False)]),
+    ("a key that is used again",
+     ["put a -> b hi#0.0 = 1", "take a -> b hi#0.0 x", "add r", "put a -> b hi#0.0 = 2", "take a -> b hi#0.0 x", "put a -> b hi#0.0 = 3"],
+     [(120, 70, 240, 100, True), (120, 160, 240, 190, True), (120, 220, 180, 229, False)]),
+    ("a key that is put twice before its take", ["put a -> b hi#0.0 = 1", "put a -> b hi#0.0 = 2", "take a -> b hi#0.0 x"],
+     [(120, 70, 240, 130, True), (120, 100, 240, 130, True)]),
+)
+
+
 def read(path):
     with open(path, "rb") as it:
         return it.read()
@@ -48,6 +66,15 @@ def picture(programs, stem):
     programs.call(["--svg"], read(f"examples/{stem}.trace"), programs.diagram).expect(0, wanted, b"")
     script = f'"$1" step < {quoted(os.fsencode(f"examples/{stem}.aioc"))} | "$2" --svg'
     programs.shell(script, programs.aioc, programs.diagram).expect(0, wanted, b"")
+
+
+def arrows(programs, lines, wanted):
+    """The arrows of an SVG go from put to take, and the others end in an open circle."""
+    drawn = programs.call(["--svg"], "\n".join([*lines, ""]), programs.diagram).expect(0, None, b"")
+    found = [(*map(int, it.groups()[:4]), it[5] is not None) for it in LINE.finditer(drawn.out)]
+    circles = [tuple(map(int, it.groups())) for it in CIRCLE.finditer(drawn.out)]
+    if found != wanted or circles != [it[2:4] for it in wanted if not it[4]]:
+        raise drawn.failed(f"its arrows are {found}, and its open circles {circles}")
 
 
 def of_streams(programs, script, code, err):
@@ -72,6 +99,8 @@ def tests(programs):
     for file in sorted(os.listdir("examples")):
         if file.endswith(".trace"):
             yield Test(f"diagram: examples/{file}", lambda path=f"examples/{file}": every_form(programs, path))
+    for name, lines, wanted in ARROWS:
+        yield Test(f"diagram: {name}", lambda lines=lines, it=wanted: arrows(programs, lines, it))
     for name, words, text, code, err in REFUSED:
         wanted = code, b"", err
         yield Test(f"diagram: {name}", lambda w=words, t=text, it=wanted: programs.call(w, t, programs.diagram).expect(*it))

@@ -1,3 +1,4 @@
+pub mod Arrived
 pub mod Harmless
 pub mod Repeats
 pub mod Sources

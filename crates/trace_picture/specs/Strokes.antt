@@ -9,7 +9,7 @@ use Rattle.trace_picture.specs.declared.shapes.Shape.TheVariants as shape
 -- `*` a take, `o` an assignment, `i` an input, `?` a decision, `K` a scope that keeps its body,
 -- `R` one that a rule replaces, `@` a message to oneself
 abbrev pub sign_byte : Sign → ℕ
-sign_byte sign.Take = 42
+sign_byte (sign.Take back) = 42
 sign_byte sign.Set = 111
 sign_byte sign.Input = 105
 sign_byte sign.Pick = 63

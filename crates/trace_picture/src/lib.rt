@@ -1,6 +1,7 @@
-//! Pictures of traces: sequence diagrams in letters, for Mermaid, and as SVG.
+//! Pictures of traces: sequence diagrams as plain text, for Mermaid, and as SVG.
 #![tactic(auto)]
 
+mod arrivals;
 mod calls;
 mod drawing;
 mod fragments;

@@ -1,7 +1,7 @@
 //! What of a picture shows an entry.
 
 ghost use Rattle.std.specs.Prelude.{◌≡◌, ℕ, ◌≤◌, length};
-ghost use Rattle.trace_picture.specs.Shapes.{arrow_between, choice_sign, shape_of, IsWithin};
+ghost use Rattle.trace_picture.specs.Shapes.{arrow_between, taken_at, choice_sign, shape_of, IsWithin};
 
 use crate::lanes::lane_of;
 use dioc_terms::{Chosen, Entry, Role};
@@ -9,8 +9,8 @@ use dioc_terms::{Chosen, Entry, Role};
 /// A sign on a lane.
 #[derive(Clone, Copy)]
 pub enum Sign {
-    /// A message was taken.
-    Take,
+    /// A message was taken; `back` where it came from the right.
+    Take { back: bool },
     /// A variable was set.
     Set,
     /// A variable was set to an input.
@@ -43,7 +43,7 @@ pub fn shape_of(lanes: &[Role], entry: &Entry) -> Shape
 {
     match entry {
         Entry::Put { key, .. } => arrow(lane_of(lanes, &key.from), lane_of(lanes, &key.to)),
-        Entry::Take { key, .. } => mark(Sign::Take, lane_of(lanes, &key.to)),
+        Entry::Take { key, .. } => taken(lane_of(lanes, &key.from), lane_of(lanes, &key.to)),
         Entry::Set { role, .. } => mark(Sign::Set, lane_of(lanes, role)),
         Entry::Input { role, .. } => mark(Sign::Input, lane_of(lanes, role)),
         Entry::Pick { role, .. } => mark(Sign::Pick, lane_of(lanes, role)),
@@ -58,6 +58,13 @@ fn mark(sign: Sign, at: usize) -> Shape
     ensures { result ≡ Shape.Mark sign at }
 {
     Shape::Mark { sign, at }
+}
+
+/// The sign of a take on the lane of its receiver.
+fn taken(from: usize, to: usize) -> Shape
+    ensures { result ≡ taken_at from to }
+{
+    mark(Sign::Take { back: to < from }, to)
 }
 
 fn arrow(from: usize, to: usize) -> Shape

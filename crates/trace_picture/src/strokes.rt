@@ -13,7 +13,7 @@ fn sign_byte(sign: Sign) -> u8
     ensures { result ≡ sign_byte sign }
 {
     match sign {
-        Sign::Take => b'*',
+        Sign::Take { .. } => b'*',
         Sign::Set => b'o',
         Sign::Input => b'i',
         Sign::Pick => b'?',

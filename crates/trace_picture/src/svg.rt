@@ -1,19 +1,23 @@
 //! The picture of a trace as an SVG. Lengths are in pixels.
 
-ghost use Rattle.std.specs.Prelude.{◌≡◌, ◌*◌, ◌≤◌, ◌<◌, ◌^◌, ◌++◌, length, IfOk, OnOk, OnErr};
+ghost use Rattle.std.specs.Prelude.{◌≡◌, ◌*◌, ◌≤◌, ◌<◌, ◌^◌, ◌++◌, length, IfOk, IfSome, OnOk, OnErr};
 ghost use Rattle.limits.specs.Limits.{most_roles};
 ghost use Rattle.text_pieces.specs.Pieces.{KeepsFront};
 ghost use Rattle.trace_picture.specs.Runs.{pieces_from};
 ghost use Rattle.trace_picture.specs.Shapes.{IsWithin};
-ghost use Rattle.trace_picture.specs.Svg.{most_columns, longest_label, columns_of, half_gap, lane_x, width, row_y, sign_class, shape_class, entry_class, drawing, group_front, svg_entry, box_paper, name_box, lane_line, svg_lane, svg_head, svg_last, svg_tail, svg_picture};
+ghost use Rattle.trace_picture.specs.Svg.{most_columns, longest_label, columns_of, half_gap, lane_x, before_x, width, row_y, sign_class, shape_class, entry_class, stands_back, message_line, drawing, group_front, svg_entry, svg_entries, box_paper, name_box, lane_line, svg_lane, svg_head, svg_last, svg_tail, svg_picture};
 
+use crate::arrivals::arrivals_of;
 use crate::fragments::Fragment::{Marked, Number, Plain};
 use crate::fragments::write_fragments;
 use crate::labels::write_label;
 use crate::lanes::longest_name;
 use crate::runs::write_shortened;
 use crate::shapes::{Shape, Sign, shape_of};
-use crate::svg_parts::{write_arrow, write_open, write_paper, write_sign, write_words};
+use crate::svg_parts::{
+    write_arrow, write_open, write_open_line, write_paper, write_sign, write_words,
+    write_words_beside,
+};
 use dioc_terms::{Entry, Last, Memory, Role};
 use std::alloc::Global;
 use text_pieces::write_bytes;
@@ -65,9 +69,23 @@ fn lane_x(columns: usize, lane: usize) -> u64
     requires columns { columns ≤ 34 }
     requires lane { lane ≤ most_roles }
     ensures value { result ≡ lane_x columns lane }
-    ensures small { result ≤ 148 * 65 }
+    ensures right { 24 ≤ result }
+    ensures small { result ≤ 148 * 66 }
 {
-    half_gap(columns) * (2 * lane as u64 + 1)
+    half_gap(columns) * (2 * lane as u64 + 2)
+}
+
+/// Where an arrow from one lane to another ends that doesn't arrive.
+fn before_x(columns: usize, from: usize, to: usize) -> u64
+    requires columns { columns ≤ 34 }
+    requires to { to ≤ most_roles }
+    ensures { result ≡ before_x columns from to }
+{
+    if from < to {
+        half_gap(columns) * (2 * to as u64 + 1)
+    } else {
+        half_gap(columns) * (2 * to as u64 + 3)
+    }
 }
 
 /// How wide the picture is.
@@ -76,7 +94,7 @@ fn width(columns: usize, lanes: &[Role]) -> u64
     requires lanes { length lanes.now ≤ most_roles }
     ensures { result ≡ width columns lanes.now }
 {
-    half_gap(columns) * (2 * lanes.len().max(1) as u64 + 1)
+    half_gap(columns) * (2 * lanes.len().max(1) as u64 + 2)
 }
 
 /// Where the row of an entry stands.
@@ -93,7 +111,7 @@ fn sign_class(sign: Sign) -> &'static [u8]
     ensures { result.now ≡ sign_class sign }
 {
     match sign {
-        Sign::Take => b"take",
+        Sign::Take { .. } => b"take",
         Sign::Set => b"set",
         Sign::Input => b"input",
         Sign::Pick => b"pick",
@@ -123,34 +141,72 @@ fn entry_class(shape: Shape, entry: &Entry) -> &'static [u8]
     }
 }
 
-/// Appends the shape of an entry with its label.
+/// Whether the label of a sign stands on its left.
+fn stands_back(sign: Sign) -> bool
+    ensures { result ≡ stands_back sign }
+{
+    match sign {
+        Sign::Take { back } => back,
+        _ => false,
+    }
+}
+
+/// Appends the arrow of a message that is put in one row and arrives in another, or never.
+#[tactic(auto, unfolding(crate::specs::Svg::message_line))]
+fn write_message(
+    columns: usize,
+    from: usize,
+    to: usize,
+    row: usize,
+    arrives: Option<usize>,
+    out: &mut Vec<u8>,
+) -> Result<(), Memory>
+    requires columns { columns ≤ 34 }
+    requires lanes { (from ≤ most_roles) × (to ≤ most_roles) }
+    requires row { row < 2 ^ 32 }
+    requires arrives { IfSome arrives (λ taken. taken < 2 ^ 32) }
+    ensures ok { OnOk result (out.new.items ≡ out.old.items
+        ++ message_line columns from to row arrives) }
+    ensures memory { OnErr result (KeepsFront out.old.items out.new.items) }
+{
+    let start = lane_x(columns, from);
+    let top = row_y(row);
+    match arrives {
+        Some(taken) => write_arrow(start, top, lane_x(columns, to), row_y(taken), out),
+        None => write_open_line(start, top, before_x(columns, from, to), top + 9, out),
+    }
+}
+
+/// Appends the shape of an entry in a row with its label.
 #[tactic(auto, unfolding(crate::specs::Svg::drawing))]
 fn write_drawing(
     columns: usize,
     lanes: &[Role],
-    y: u64,
+    row: usize,
+    arrives: Option<usize>,
     shape: Shape,
     said: &[u8],
     out: &mut Vec<u8>,
 ) -> Result<(), Memory>
     requires columns { columns ≤ 34 }
     requires lanes { length lanes.now ≤ most_roles }
+    requires row { row < 2 ^ 32 }
+    requires arrives { IfSome arrives (λ taken. taken < 2 ^ 32) }
     requires shape { IsWithin most_roles shape }
-    requires low { (11 ≤ y) × (y < 2 ^ 40) }
     ensures ok { OnOk result (out.new.items ≡ out.old.items
-        ++ drawing columns lanes.now y shape said.now) }
+        ++ drawing columns lanes.now row arrives shape said.now) }
     ensures memory { OnErr result (KeepsFront out.old.items out.new.items) }
 {
+    let y = row_y(row);
     match shape {
         Shape::Arrow { from, to } => {
-            write_arrow(lane_x(columns, from), lane_x(columns, to), y, out)?;
-            let middle = half_gap(columns) * (from as u64 + to as u64 + 1);
-            write_words(middle, y - 5, said, out)
+            write_words_beside(to < from, lane_x(columns, from), y - 5, said, out)?;
+            write_message(columns, from, to, row, arrives, out)
         }
         Shape::Mark { sign, at } => {
             let x = lane_x(columns, at);
             write_sign(sign, x, y, 8 * columns as u64 + 14, out)?;
-            write_words(x + 9, y + 4, said, out)
+            write_words_beside(stands_back(sign), x, y + 4, said, out)
         }
         Shape::Band => {
             write_paper(0, y, width(columns, lanes), out)?;
@@ -183,14 +239,16 @@ fn write_entry(
     columns: usize,
     lanes: &[Role],
     row: usize,
+    arrives: Option<usize>,
     entry: &Entry,
     out: &mut Vec<u8>,
 ) -> Result<(), Memory>
     requires columns { (3 ≤ columns) × (columns ≤ 34) }
     requires lanes { length lanes.now ≤ most_roles }
     requires row { row < 2 ^ 32 }
+    requires arrives { IfSome arrives (λ taken. taken < 2 ^ 32) }
     ensures ok { OnOk result (out.new.items ≡ out.old.items
-        ++ svg_entry columns lanes.now row entry.now) }
+        ++ svg_entry columns lanes.now row arrives entry.now) }
     ensures memory { OnErr result (KeepsFront out.old.items out.new.items) }
 {
     let mut line = Vec::new(alloc);
@@ -201,7 +259,7 @@ fn write_entry(
     write_shortened(&label, columns, &mut shown)?;
     let shape = shape_of(lanes, entry);
     write_title(entry_class(shape, entry), &line, out)?;
-    write_drawing(columns, lanes, row_y(row), shape, &shown, out)?;
+    write_drawing(columns, lanes, row, arrives, shape, &shown, out)?;
     write_bytes(b"</g>\n", out)
 }
 
@@ -243,7 +301,7 @@ fn write_box(
     let mut shown = Vec::new(alloc);
     write_shortened(role.0.bytes(), columns, &mut shown)?;
     write_title(b"role", role.0.bytes(), out)?;
-    let x = half_gap(columns) * (lane as u64 + lane as u64) + 8;
+    let x = half_gap(columns) * (lane as u64 + lane as u64 + 1) + 8;
     write_box_paper(x, y, 8 * columns as u64 + 8, out)?;
     write_words(lane_x(columns, lane), y + 17, &shown, out)?;
     write_bytes(b"</g>\n", out)
@@ -400,11 +458,12 @@ fn write_entries(
     requires lanes { length lanes.now ≤ most_roles }
     requires entries { length entries.now < 2 ^ 32 }
     ensures ok { OnOk result (out.new.items ≡ out.old.items
-        ++ pieces_from (svg_entry columns lanes.now) 0 entries.now) }
+        ++ svg_entries columns lanes.now entries.now) }
     ensures memory { OnErr result (KeepsFront out.old.items out.new.items) }
 {
+    let arrivals = arrivals_of(alloc, entries)?;
     for (row, entry) in entries.iter().enumerate() {
-        write_entry(alloc, columns, lanes, row, entry, out)?;
+        write_entry(alloc, columns, lanes, row, arrivals[row], entry, out)?;
     }
     Ok(())
 }

@@ -1,8 +1,8 @@
 //! The parts of an SVG, each appended to the bytes written so far. Lengths are in pixels.
 
-ghost use Rattle.std.specs.Prelude.{◌≡◌, ◌≤◌, ◌++◌, OnOk, OnErr};
+ghost use Rattle.std.specs.Prelude.{◌≡◌, ◌≤◌, ◌<◌, ◌^◌, ◌++◌, OnOk, OnErr};
 ghost use Rattle.text_pieces.specs.Pieces.{KeepsFront};
-ghost use Rattle.trace_picture.specs.Svg.{dot, paper, sign_mark, arrow_line, words, style_text, tip_text, svg_tag, ground_text, svg_open};
+ghost use Rattle.trace_picture.specs.Svg.{dot, paper, sign_mark, arrow_line, open_line, words, words_to, words_beside, style_text, dark_text, tip_text, svg_tag, ground_text, svg_open};
 
 use crate::fragments::Fragment::{Marked, Number, Plain};
 use crate::fragments::write_fragments;
@@ -54,7 +54,7 @@ pub fn write_sign(sign: Sign, x: u64, y: u64, wide: u64, out: &mut Vec<u8>) -> R
     match sign {
         Sign::Keep => write_paper(x, y, wide, out),
         Sign::Replace => write_paper(x, y, wide, out),
-        Sign::Take => write_dot(x, y, out),
+        Sign::Take { .. } => write_dot(x, y, out),
         Sign::Set => write_dot(x, y, out),
         Sign::Input => write_dot(x, y, out),
         Sign::Pick => write_dot(x, y, out),
@@ -62,21 +62,58 @@ pub fn write_sign(sign: Sign, x: u64, y: u64, wide: u64, out: &mut Vec<u8>) -> R
     }
 }
 
+/// Appends a line with a tip at its end.
 #[tactic(auto, unfolding(crate::specs::Svg::arrow_line))]
-pub fn write_arrow(start: u64, end: u64, y: u64, out: &mut Vec<u8>) -> Result<(), Memory>
-    ensures ok { OnOk result (out.new.items ≡ out.old.items ++ arrow_line start end y) }
+pub fn write_arrow(
+    start: u64,
+    top: u64,
+    end: u64,
+    low: u64,
+    out: &mut Vec<u8>,
+) -> Result<(), Memory>
+    ensures ok { OnOk result (out.new.items ≡ out.old.items ++ arrow_line start top end low) }
     ensures memory { OnErr result (KeepsFront out.old.items out.new.items) }
 {
     let fragments = [
         Plain(b"<line x1=\""),
         Number(start),
         Plain(b"\" y1=\""),
-        Number(y),
+        Number(top),
         Plain(b"\" x2=\""),
         Number(end),
         Plain(b"\" y2=\""),
-        Number(y),
+        Number(low),
         Plain(b"\" marker-end=\"url(#tip)\"/>"),
+    ];
+    write_fragments(&fragments, out)
+}
+
+/// Appends a line with an open circle at its end.
+#[tactic(auto, unfolding(crate::specs::Svg::open_line))]
+pub fn write_open_line(
+    start: u64,
+    top: u64,
+    end: u64,
+    low: u64,
+    out: &mut Vec<u8>,
+) -> Result<(), Memory>
+    ensures ok { OnOk result (out.new.items ≡ out.old.items ++ open_line start top end low) }
+    ensures memory { OnErr result (KeepsFront out.old.items out.new.items) }
+{
+    let fragments = [
+        Plain(b"<line x1=\""),
+        Number(start),
+        Plain(b"\" y1=\""),
+        Number(top),
+        Plain(b"\" x2=\""),
+        Number(end),
+        Plain(b"\" y2=\""),
+        Number(low),
+        Plain(b"\"/><circle class=\"open\" cx=\""),
+        Number(end),
+        Plain(b"\" cy=\""),
+        Number(low),
+        Plain(b"\" r=\"4\"/>"),
     ];
     write_fragments(&fragments, out)
 }
@@ -99,38 +136,105 @@ pub fn write_words(x: u64, y: u64, bytes: &[u8], out: &mut Vec<u8>) -> Result<()
     write_fragments(&fragments, out)
 }
 
+/// Appends words that end at a place.
+#[tactic(auto, unfolding(crate::specs::Svg::words_to))]
+fn write_words_to(x: u64, y: u64, bytes: &[u8], out: &mut Vec<u8>) -> Result<(), Memory>
+    ensures ok { OnOk result (out.new.items ≡ out.old.items ++ words_to x y bytes.now) }
+    ensures memory { OnErr result (KeepsFront out.old.items out.new.items) }
+{
+    let fragments = [
+        Plain(b"<text class=\"back\" x=\""),
+        Number(x),
+        Plain(b"\" y=\""),
+        Number(y),
+        Plain(b"\">"),
+        Marked(bytes),
+        Plain(b"</text>"),
+    ];
+    write_fragments(&fragments, out)
+}
+
+/// Appends words beside a lane, on its left where `back` says so.
+#[tactic(auto, unfolding(crate::specs::Svg::words_beside))]
+pub fn write_words_beside(
+    back: bool,
+    x: u64,
+    y: u64,
+    said: &[u8],
+    out: &mut Vec<u8>,
+) -> Result<(), Memory>
+    requires right { (9 ≤ x) × (x < 2 ^ 40) }
+    ensures ok { OnOk result (out.new.items ≡ out.old.items ++ words_beside back x y said.now) }
+    ensures memory { OnErr result (KeepsFront out.old.items out.new.items) }
+{
+    if back {
+        write_words_to(x - 9, y, said, out)
+    } else {
+        write_words(x + 9, y, said, out)
+    }
+}
+
+/// Appends the colours.
 #[tactic(auto, unfolding(crate::specs::Svg::style_text))]
 fn write_style(out: &mut Vec<u8>) -> Result<(), Memory>
     ensures ok { OnOk result (out.new.items ≡ out.old.items ++ style_text) }
     ensures memory { OnErr result (KeepsFront out.old.items out.new.items) }
 {
     let fragments = [
-        Plain(b"<style>text{font:12px monospace;fill:#222}"),
-        Plain(b".lane{stroke:#b8b8b8;stroke-dasharray:5 4}.role rect{fill:#e8eef8;stroke:#42659c}"),
-        Plain(b".role text,line+text{text-anchor:middle}.role text{font-weight:bold}"),
-        Plain(b".put line{stroke:#1d4f91;stroke-width:1.6}"),
-        Plain(b".aux line{stroke:#999;stroke-dasharray:3 3}"),
-        Plain(b"g text{paint-order:stroke;stroke:#fff;stroke-width:4px}"),
-        Plain(b".take circle{fill:#1d4f91}.set circle{fill:#fff;stroke:#1d4f91;stroke-width:2}"),
-        Plain(b".input circle{fill:#2e8540}.pick circle{fill:#8a3ab9}.aux circle{fill:#999}"),
+        Plain(b"<style>text{font:12px monospace;fill:#222}.back{text-anchor:end}"),
+        Plain(b".ground{fill:#fff}.lane{stroke:#b8b8b8;stroke-dasharray:5 4}"),
+        Plain(b".role rect{fill:#e8eef8;stroke:#42659c}"),
+        Plain(b".role text{text-anchor:middle;font-weight:bold}"),
+        Plain(b".put line,.put .open{stroke:#1d4f91;stroke-width:1.6}"),
+        Plain(b".aux line{stroke:#999;stroke-dasharray:3 3}.aux .open{stroke:#999}"),
+        Plain(b"g text{paint-order:stroke;stroke:#fff;stroke-width:7px;stroke-linejoin:round}"),
+        Plain(b".put circle,.take circle{fill:#1d4f91}.input circle{fill:#2e8540}"),
+        Plain(b".set circle{fill:#fff;stroke:#1d4f91;stroke-width:2}"),
+        Plain(b".pick circle{fill:#8a3ab9}.aux circle{fill:#999}"),
+        Plain(b"g .open{fill:#fff}#tip{fill:#1d4f91}#pale{fill:#999}"),
+        Plain(b".aux [marker-end]{marker-end:url(#pale)}"),
         Plain(b".keep rect{fill:#f4f4f4;stroke:#999}.replace rect{fill:#ffe2b8;stroke:#c77700}"),
         Plain(b".change rect{fill:#ddf1dd;stroke:#2e8540}"),
-        Plain(b".role text,.keep text,.replace text,.change text{stroke:none}</style>\n"),
+        Plain(b".role text,.keep text,.replace text,.change text{stroke:none}\n"),
     ];
     write_fragments(&fragments, out)
 }
 
-/// Appends the tip of arrows.
+/// Appends the colours on a dark ground.
+#[tactic(auto, unfolding(crate::specs::Svg::dark_text))]
+fn write_dark(out: &mut Vec<u8>) -> Result<(), Memory>
+    ensures ok { OnOk result (out.new.items ≡ out.old.items ++ dark_text) }
+    ensures memory { OnErr result (KeepsFront out.old.items out.new.items) }
+{
+    let fragments = [
+        Plain(b"@media(prefers-color-scheme:dark){text{fill:#e4e4e4}.ground{fill:#16181d}"),
+        Plain(b".lane{stroke:#5c616b}.role rect{fill:#233049;stroke:#7fa8e8}"),
+        Plain(b".put line,.put .open{stroke:#7fb0ff}.aux line,.aux .open{stroke:#8a8f99}"),
+        Plain(b"g text{stroke:#16181d}.put circle,.take circle{fill:#7fb0ff}"),
+        Plain(b".set circle{fill:#16181d;stroke:#7fb0ff}.input circle{fill:#5ecb7b}"),
+        Plain(b".pick circle{fill:#c792ea}.aux circle{fill:#8a8f99}g .open{fill:#16181d}"),
+        Plain(b"#tip{fill:#7fb0ff}#pale{fill:#8a8f99}.keep rect{fill:#2a2d34;stroke:#8a8f99}"),
+        Plain(b".replace rect{fill:#4a3413;stroke:#e09a3e}"),
+        Plain(b".change rect{fill:#1d3a24;stroke:#5ecb7b}}</style>\n"),
+    ];
+    write_fragments(&fragments, out)
+}
+
+/// Appends the tips of arrows.
 #[tactic(auto, unfolding(crate::specs::Svg::tip_text))]
 fn write_tip(out: &mut Vec<u8>) -> Result<(), Memory>
     ensures ok { OnOk result (out.new.items ≡ out.old.items ++ tip_text) }
     ensures memory { OnErr result (KeepsFront out.old.items out.new.items) }
 {
     let fragments = [
-        Plain(b"<defs><marker id=\"tip\" viewBox=\"0 0 10 8\" refX=\"10\" refY=\"4\" "),
+        Plain(b"<defs><marker id=\"tip\" viewBox=\"0 0 10 8\" refX=\"14\" refY=\"4\" "),
         Plain(b"markerWidth=\"10\" markerHeight=\"8\" "),
         Plain(b"markerUnits=\"userSpaceOnUse\" orient=\"auto\">"),
-        Plain(b"<path d=\"M0 0L10 4L0 8z\" fill=\"#1d4f91\"/></marker></defs>\n"),
+        Plain(b"<path d=\"M0 0L10 4L0 8z\"/></marker>\n"),
+        Plain(b"<marker id=\"pale\" viewBox=\"0 0 10 8\" refX=\"14\" refY=\"4\" "),
+        Plain(b"markerWidth=\"10\" markerHeight=\"8\" "),
+        Plain(b"markerUnits=\"userSpaceOnUse\" orient=\"auto\">"),
+        Plain(b"<path d=\"M0 0L10 4L0 8z\"/></marker></defs>\n"),
     ];
     write_fragments(&fragments, out)
 }
@@ -155,18 +259,18 @@ fn write_tag(wide: u64, high: u64, out: &mut Vec<u8>) -> Result<(), Memory>
     write_fragments(&fragments, out)
 }
 
-/// Appends the white ground of a picture of this size.
+/// Appends the ground of a picture of this size.
 #[tactic(auto, unfolding(crate::specs::Svg::ground_text))]
 fn write_ground(wide: u64, high: u64, out: &mut Vec<u8>) -> Result<(), Memory>
     ensures ok { OnOk result (out.new.items ≡ out.old.items ++ ground_text wide high) }
     ensures memory { OnErr result (KeepsFront out.old.items out.new.items) }
 {
     let fragments = [
-        Plain(b"<rect width=\""),
+        Plain(b"<rect class=\"ground\" width=\""),
         Number(wide),
         Plain(b"\" height=\""),
         Number(high),
-        Plain(b"\" fill=\"#fff\"/>\n"),
+        Plain(b"\"/>\n"),
     ];
     write_fragments(&fragments, out)
 }
@@ -179,6 +283,7 @@ pub fn write_open(wide: u64, high: u64, out: &mut Vec<u8>) -> Result<(), Memory>
 {
     write_tag(wide, high, out)?;
     write_style(out)?;
+    write_dark(out)?;
     write_tip(out)?;
     write_ground(wide, high, out)
 }

@@ -7,6 +7,9 @@ use Rattle.trace_picture.proofs.svg_parts.write_open.Goals as goal
 pub returns-in_err-write_style-clause-memory : goal.returns-in_err-write_style-clause-memory
 returns-in_err-write_style-clause-memory c = grind (arith, front_of_front)
 
+pub returns-in_err-write_dark-clause-memory : goal.returns-in_err-write_dark-clause-memory
+returns-in_err-write_dark-clause-memory c = grind (arith, front_of_front)
+
 pub returns-in_err-write_tip-clause-memory : goal.returns-in_err-write_tip-clause-memory
 returns-in_err-write_tip-clause-memory c = grind (arith, front_of_front)
 
