@@ -14,6 +14,10 @@ use Rattle.stage.specs.Seats.{Base}
 abbrev pub KnownHere : Type 0
 KnownHere = Known Entry Base Marks
 
+-- the seat has had no hold, and knows these marks
+abbrev pub IsNewWith : Marks → KnownHere → Type 0
+IsNewWith marks k = (k.turns ≡ 0) × (k.at ≡ Some marks)
+
 -- The seat, which knew k and knows l, has had one hold more: it found `home`, where the marks that
 -- the seat knew still stand, and left `next`.
 pub record HeldOnce (k l : KnownHere) (home next : HomeState) : Type 0 where

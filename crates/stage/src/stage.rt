@@ -8,8 +8,8 @@ ghost use Rattle.marked_laws.specs.Laws.{IsSound};
 ghost use Rattle.process_steps.specs.Steps.{Alone, Got, Puts, Takes};
 ghost use Rattle.stage.specs.declared.marks.Marks.{Marks};
 ghost use Rattle.stage.specs.Faults.{role_fault, take_fault};
-ghost use Rattle.stage.specs.Held.{AddedOnce, RefusedOnce};
-ghost use Rattle.stage.specs.Homes.{IsSoundHome};
+ghost use Rattle.stage.specs.Held.{AddedOnce, IsNewWith, RefusedOnce};
+ghost use Rattle.stage.specs.Homes.{IsSoundHome, opening_home};
 ghost use Rattle.stage.specs.Marks.{MarksGrow, marks_of};
 ghost use Rattle.stage.specs.Roles.{is_input, is_pick, is_assignment};
 ghost use Rattle.stage.specs.Seats.{CanCommit, CanCommitOwn, CanReceive, Committed, CommittedOwn, IsClosed, RefusedFor, StillStands, opening_views};
@@ -58,6 +58,9 @@ impl Stage {
         ensures of { IfOk result (λ made. All (λ s. IsSeatIn made.0 s) made.1.items) }
         ensures views { IfOk result (λ made. map view made.1.items
             ≡ opening_views (plain bundle.now, limit) (length bundle.now.cast)) }
+        ensures knows { IfOk result (λ made. All (λ s.
+            IsNewWith (marks_of (opening_home (plain bundle.now) limit)) (known s))
+            made.1.items) }
     {
         let home = Home::start(alloc, bundle, limit)?;
         let Ok((turns, first)) = Turns::new(alloc, home) else {
