@@ -1,6 +1,6 @@
 //! `drive`: a bundle's visible trace with the auxiliary messages that it needs.
 
-ghost use Rattle.std.specs.Prelude.{◌≡◌, ◌≤◌, IfOk, OnOk, length};
+ghost use Rattle.std.specs.Prelude.{◌≡◌, ◌≤◌, ◌∷◌, ◌++◌, [], IfOk, OnOk, length};
 ghost use Rattle.dioc_terms.specs.Messages.{visible};
 ghost use Rattle.dioc_terms.specs.Plain.{plain};
 ghost use Rattle.net_core.specs.Nets.{IsSoundRun};
@@ -18,6 +18,7 @@ use flat_role::FlatRole;
 use net_core::Net;
 use net_drive::{DriveFault, drive_strays_are_exact};
 use std::alloc::Global;
+use trace_book::History;
 use trace_text::write_text;
 
 /// The text of the run that shows exactly the visible entries of the trace section, with the
@@ -51,7 +52,7 @@ fn drive_trace(alloc: Global, bundle: &Bundle) -> Result<Written, Memory>
     drive_strays_are_exact();
     let entries = bundle.trace.entries.as_slice();
     let trace = copy_visible(alloc, entries)?;
-    match net_drive::drive(alloc, bundle, trace.as_slice()) {
+    match net_drive::drive(alloc, bundle, &trace) {
         Ok(net) => say_driven(alloc, &bundle.trace.last, entries, &net),
         Err(DriveFault::Stray(number)) => say_no(alloc, section_number(entries, number)),
         Err(DriveFault::Memory) => Err(Memory),
@@ -84,17 +85,27 @@ fn say_driven(
     })
 }
 
-// Copies of the visible entries, in their order.
-fn copy_visible(alloc: Global, entries: &[Entry]) -> Result<Vec<Entry>, Memory>
-    ensures { IfOk result (λ copies. copies.items ≡ visible entries.now) }
+// A history of copies of the visible entries, in their order.
+fn copy_visible(alloc: Global, entries: &[Entry]) -> Result<History, Memory>
+    ensures { IfOk result (λ copies. copies.entries ≡ visible entries.now) }
 {
-    let mut copies = Vec::new(alloc);
+    let mut copies = History::new(alloc);
     for entry in entries {
         if !is_aux(entry) {
-            copies.push(entry.copy(alloc)?)?;
+            push_copy(alloc, &mut copies, entry)?;
         }
     }
     Ok(copies)
+}
+
+// Adds a copy of the entry as the last one.
+pub(crate) fn push_copy(alloc: Global, copies: &mut History, entry: &Entry) -> Result<(), Memory>
+    ensures { OnOk result (copies.new.entries ≡ copies.old.entries ++ entry.now ∷ []) }
+{
+    copies.reserve(1)?;
+    let copy = entry.copy(alloc)?;
+    copies.push(copy);
+    Ok(())
 }
 
 // The number of the visible entry that has this number among the visible ones, both from 1.

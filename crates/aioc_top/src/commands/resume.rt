@@ -9,14 +9,16 @@ ghost use Rattle.command_words.specs.Commands.{most_steps};
 ghost use Rattle.command_words.specs.declared.commands.Verb.{Verb};
 ghost use Rattle.aioc_top.specs.Replies.{reply_of, resume_reply, run_reply};
 
+use crate::commands::drive::push_copy;
 use crate::replies::{End, Written, last_line, say_no};
 use command_words::Options;
-use dioc_terms::{Bundle, Memory, give_up};
+use dioc_terms::{Bundle, Entry, Memory, give_up};
 use flat_role::FlatRole;
 use net_core::Net;
 use net_drive::{ResumeFault, run_strays_are_exact};
 use schedule::run_seeded;
 use std::alloc::Global;
+use trace_book::History;
 use trace_text::write_text;
 
 /// The text of the run that goes on from the entries of the trace section, by the schedule and to
@@ -30,13 +32,24 @@ pub fn resume(alloc: Global, options: &Options, bundle: &Bundle) -> Result<Writt
         ≡ resume_reply options.now (plain bundle.now)) }
 {
     run_strays_are_exact();
-    let entries = bundle.trace.entries.as_slice();
-    match net_drive::resume(alloc, bundle, entries, options.steps) {
+    let entries = copy_entries(alloc, bundle.trace.entries.as_slice())?;
+    match net_drive::resume(alloc, bundle, &entries, options.steps) {
         Ok(net) => go_on(alloc, options, net),
         Err(ResumeFault::Full(net)) => say_run(alloc, options, &net),
         Err(ResumeFault::Stray(number)) => say_no(alloc, number),
         Err(ResumeFault::Memory) => Err(Memory),
     }
+}
+
+// A history of copies of the entries, in their order.
+fn copy_entries(alloc: Global, entries: &[Entry]) -> Result<History, Memory>
+    ensures { IfOk result (λ copies. copies.entries ≡ entries.now) }
+{
+    let mut copies = History::new(alloc);
+    for entry in entries {
+        push_copy(alloc, &mut copies, entry)?;
+    }
+    Ok(copies)
 }
 
 // The text of the run that goes on from a net by the schedule.

@@ -4,4 +4,4 @@ use Rattle.dioc_terms.specs.Messages.{visible}
 use Rattle.aioc_top.proofs.commands.drive.copy_visible.Given as goal
 
 abbrev pub invariant-loop-entry : goal.invariant-loop-entry
-invariant-loop-entry l = l.copies.items ≡ visible (take l.entry-index l.entries)
+invariant-loop-entry l = l.copies.entries ≡ visible (take l.entry-index l.entries)

@@ -12,13 +12,13 @@ use Rattle.aioc_top.proofs.commands.drive.drive_trace.Goals as goal
 
 pub drive-requires-clause-shown : goal.drive-requires-clause-shown
 drive-requires-clause-shown c =
-    ap (list_all (λ e. not (is_aux e))) (c.as_slice.ensures.value ∙ c.in_ok-trace.ensures) ∙ all_shown c.as_slice-entries.result.now
+    ap (list_all (λ e. not (is_aux e))) c.in_ok-trace.ensures ∙ all_shown c.as_slice-entries.result.now
 
 pub returns-in-Ok : goal.returns-in-Ok
 returns-in-Ok c =
     let b = plain c.args.bundle.now in
     let net = c.in-Ok.net in
-    let trace : c.as_slice.result.now ≡ visible b.trace.entries = c.as_slice.ensures.value ∙ c.in_ok-trace.ensures ∙ ap visible c.as_slice-entries.ensures in
+    let trace : c.in_ok-trace.trace.entries ≡ visible b.trace.entries = c.in_ok-trace.ensures ∙ ap visible c.as_slice-entries.ensures in
     let drives : driven b (visible b.trace.entries) ≡ Some net.history = ap (driven b) (sym trace) ∙ c.in-Ok.ensures.driven in
     let sound : IsSound b = subst IsSound c.in-Ok.ensures.bundle c.in-Ok.ensures.run.sound in
     let same : driven_or_no b (trace_stray b) ≡ driven_reply b net.history = driven_is c.drive_strays_are_exact.ensures b sound net.history drives in
