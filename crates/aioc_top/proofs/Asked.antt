@@ -1,5 +1,5 @@
 -- Words ask for no longer runs than they can say, and for threads only by their first.
-use Rattle.std.proofs.Common.{◌≡◌, ◌≤◌, ℕ, List, [], ◌∷◌, Bool, true, false, true≢false, ◌≢◌, ◌&&◌, ◌||◌, Option, Some, None, refl, sym, ap, ◌∙◌, subst, arith}
+use Rattle.std.proofs.Common.{◌≡◌, ◌≤◌, ℕ, List, [], ◌∷◌, Bool, true, false, true≢false, ◌≢◌, ◌&&◌, Option, Some, None, refl, sym, ap, ◌∙◌, subst, arith}
 use Rattle.std.specs.Prelude.{option_map, option_and_then, unwrap_or, nat_le, codes, if◌then◌else◌}
 use Rattle.std.specs.List.{find, list_all}
 use Rattle.std.specs.Str.{bytes_eq, is_utf8}
@@ -7,7 +7,7 @@ use Rattle.std.specs.Str.Parse.{digits_value}
 use Rattle.std.proofs.lemmas.Bool.{leb-true, or_parts}
 use Rattle.marked_laws.proofs.Shapes.{none_some, some_same}
 use Rattle.command_words.specs.Words.{Text, text_of, given_by}
-use Rattle.command_words.specs.Commands.{Texts, command_of, named_first, command_by, command_with, options_of, monitor_by, number_or, number_within, optional_number, are_digits, known_options, positional_names, name_of, verb_of, verbs, most_steps, usual_steps, most_seed}
+use Rattle.command_words.specs.Commands.{Texts, named_first, command_by, command_with, options_of, monitor_by, number_or, number_within, optional_number, are_digits, known_options, positional_names, name_of, verb_of, verbs, most_steps, usual_steps, most_seed}
 use Rattle.command_words.specs.declared.commands.Options.{Options}
 use Rattle.command_words.specs.declared.commands.Command.{Command}
 use Rattle.command_words.specs.declared.commands.Command.TheVariants as command

@@ -11,11 +11,12 @@ use Rattle.command_words.specs.declared.commands.Command.{Command}
 use Rattle.command_words.specs.declared.commands.Command.TheVariants as command
 use Rattle.aioc_top.specs.Reasons.{Reason}
 use Rattle.aioc_top.specs.Replies.{Reply, Replies, is_finished, refusal_of, session_options, unread_reply}
-use Rattle.aioc_top.specs.Verdicts.{Verdict, TooLong, Unspelled, Refused, Replied, Comes, ComesBy, ComesOfInput, ComesOfSessions, ComesOfText, MayReply, Refuses, status_of, status_of_end}
+use Rattle.aioc_top.specs.Verdicts.{Verdict, TooLong, Unspelled, Refused, Replied, Cause, Comes, ComesBy, ComesOfInput, ComesOfSessions, ComesOfText, MayReply, Refuses, SpellsNothing, status_of, status_of_end}
 use Rattle.aioc_top.specs.Serve.{decided}
 use Rattle.aioc_top.specs.declared.replies.End.TheVariants as end
 use Rattle.aioc_top.specs.declared.status.Status.{Status}
 use Rattle.aioc_top.specs.declared.status.Status.TheVariants as status
+use Rattle.aioc_top.proofs.Table.{prints_always}
 
 -- how the threads of a run end isn't decided
 run_decided : (options : Options) (t : Bool) → decided (command.Run options) (status_of_end (if t then end.Done else end.Limit)) ≡ status.Done
@@ -46,6 +47,32 @@ one_end (command.Sessions options) b reply other h k = absurd h
 -- bytes that spell a bundle are not too many
 pub not_too_long : (bytes : List ℕ) (b : PlainBundle) → Spells bytes b → most_bytes < length bytes → ⊥
 not_too_long bytes b spells long = absurd (omega (arith, spells.small, long))
+
+-- ---- a verdict that comes of the bytes is the cause of its status
+
+not_long : status.Syntax ≡ status.TooLong → ⊥
+not_long is = cc
+
+not_refused : status.Syntax ≡ status.Refused → ⊥
+not_refused is = cc
+
+module _ (found : Command) (bytes : List ℕ) where
+  unspelled_by : (o : Option Options) (v : Verdict) → ComesOfInput o found bytes v → status.Syntax ≡ status_of v → SpellsNothing o bytes
+  unspelled_by (Some options) (Unspelled byte) h is = (h.0, h.1)
+  unspelled_by None (Unspelled byte) h is = (h.0, h.1)
+  unspelled_by o TooLong h is = absurd (not_long is)
+  unspelled_by o (Refused why) h is = absurd (not_refused is)
+  unspelled_by o (Replied reply) h is = absurd (prints_always status.Syntax reply.end is refl)
+
+  nothing_spelled : (o : Option Reply) (v : Verdict) → ComesBy o found bytes v → status.Syntax ≡ status_of v → (o ≡ None) × SpellsNothing (session_options found) bytes
+  nothing_spelled (Some reply) v h is = absurd (prints_always status.Syntax reply.end (is ∙ ap status_of h) refl)
+  nothing_spelled None v h is = (refl, unspelled_by (session_options found) v h is)
+
+  pub caused : (wanted : Status) (v : Verdict) → Comes found bytes v → wanted ≡ status_of v → Cause found wanted bytes
+  caused status.Syntax v h is = nothing_spelled (unread_reply found) v h is
+  caused wanted v h is = (v, h, is)
+
+-- ---- one cause for a text
 
 module _ (one : OneBundle) (found : Command) (bytes : List ℕ) where
   abbrev decided_of : Verdict → Status
@@ -103,5 +130,21 @@ module _ (one : OneBundle) (found : Command) (bytes : List ℕ) where
   kind_by (Some reply) verdict other h k = ap decided_of (h ∙ sym k)
   kind_by None verdict other h k = input_kind (session_options found) verdict other h k
 
-  pub one_kind : (verdict other : Verdict) → Comes found bytes verdict → Comes found bytes other → decided_of verdict ≡ decided_of other
+  one_kind : (verdict other : Verdict) → Comes found bytes verdict → Comes found bytes other → decided_of verdict ≡ decided_of other
   one_kind verdict other h k = kind_by (unread_reply found) verdict other h k
+
+  -- bytes that spell nothing have no other verdict than that
+  none_kind : (o : Option Options) (verdict : Verdict) → ComesOfInput o found bytes verdict → SpellsNothing o bytes → decided_of verdict ≡ decided found status.Syntax
+  none_kind o (Unspelled byte) h k = refl
+  none_kind (Some options) TooLong h k = absurd (omega (arith, h, k.0))
+  none_kind None TooLong h k = absurd (omega (arith, h, k.0))
+  none_kind (Some options) (Refused why) h k = absurd h
+  none_kind None (Refused why) h k = absurd (k.1 h.bundle h.spells)
+  none_kind (Some options) (Replied reply) h k = absurd (k.1 h.bundles h.spells)
+  none_kind None (Replied reply) h k = absurd (k.1 h.bundle h.spells)
+
+  -- a verdict on bytes in which a status has its cause has that status, as far as it is decided
+  pub one_cause : (wanted : Status) (verdict : Verdict) → Comes found bytes verdict → Cause found wanted bytes → decided_of verdict ≡ decided found wanted
+  one_cause status.Syntax verdict h cause =
+      none_kind (session_options found) verdict (subst (λ o. ComesBy o found bytes verdict) cause.0 h) cause.1
+  one_cause wanted verdict h cause = one_kind verdict cause.0 h cause.1 ∙ sym (ap (decided found) cause.2)

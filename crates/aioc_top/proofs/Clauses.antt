@@ -33,9 +33,9 @@ use Rattle.mend.specs.Refusals.{mend_refusal}
 use Rattle.command_words.specs.declared.commands.Options.{Options}
 use Rattle.command_words.specs.declared.commands.Command.{Command}
 use Rattle.command_words.specs.declared.commands.Command.TheVariants as command
-use Rattle.aioc_top.specs.Calls.{Call, Judges, Happens, IsRead, CommandReads, ReadsBy, ReadsNothing, ReadsTo, Says, Writes}
-use Rattle.aioc_top.specs.Replies.{Reply, Replies, drive_reply, monitor_refusal, monitor_reply, is_finished, refusal_of, IsThreadRun, run_reply, step_history, resume_history, resume_reply, resume_stray, resumed_or_no, replay_reply, line_of_text, check_line, project_text as project_lines, session_options, sessions_reply, upgrade_text as upgraded, unread_reply, gen_line, gen_reply, gen_history, updates_of}
-use Rattle.aioc_top.specs.Serve.{CheckText, ComesExactly, Complete, GenPrinted, GivesUp, HeadlineHolds, AfterEnd, ReadsToEnd, IsComplete, IsUpgraded, JudgementPrinted, MendText, MonitorText, ProjectText, ReadsAll, ReplayText, ResumePrinted, RunPrinted, SaysWhy, SessionsPrinted, SessionsText, Silent, TextPrinted, decided, never_of_sessions, UpgradeText, UsageComes, has_printed}
+use Rattle.aioc_top.specs.Calls.{Call, Judges, Happens, IsRead, CommandReads, NeedsNoSource, ReadsBy, ReadsNothing, ReadsPastLimit, ReadsText, ReadsTo, Says, Writes, WritesText}
+use Rattle.aioc_top.specs.Replies.{Reply, Replies, drive_reply, monitor_refusal, monitor_reply, is_finished, refusal_of, IsThreadRun, run_reply, step_history, resume_history, resume_reply, resume_stray, resumed_or_no, replay_reply, line_of_text, check_line, project_text as project_lines, session_options, upgrade_text as upgraded, unread_reply, gen_line, gen_reply, gen_history, updates_of}
+use Rattle.aioc_top.specs.Serve.{CheckText, ComesExactly, Complete, GenPrinted, GivesUp, HeadlineHolds, AfterEnd, ReadsSoFar, IsComplete, IsUpgraded, JudgementPrinted, MendText, MonitorText, ProjectText, ReadsAll, ReplayText, ResumePrinted, RunPrinted, SaysWhy, SessionsPrinted, SessionsText, Silent, TextPrinted, decided, never_of_sessions, UpgradeText, UsageComes, has_printed}
 use Rattle.aioc_top.specs.Verdicts.{Verdict, TooLong, Unspelled, Refused, Replied, MayReply, RepliesToSessions, Cause, Comes, ComesBy, ComesOfInput, ComesOfSessions, ComesOfText, Refuses, status_of, status_of_end}
 use Rattle.aioc_top.specs.Words.{IsShort}
 use Rattle.command_words.specs.Commands.{usual_steps}
@@ -47,7 +47,8 @@ use Rattle.aioc_top.specs.declared.replies.End.TheVariants as end
 use Rattle.aioc_top.specs.declared.status.Status.{Status}
 use Rattle.aioc_top.specs.declared.status.Status.TheVariants as status
 use Rattle.aioc_top.proofs.Table.{prints_always}
-use Rattle.aioc_top.proofs.Causes.{not_too_long, one_kind}
+use Rattle.aioc_top.proofs.Causes.{caused, not_too_long, one_cause}
+use Rattle.aioc_top.proofs.Driven.{limit_is_silent}
 
 filled : {A : Type 0} {P : A → Type 0} → ((x : A) → P x) → (o : Option A) → IfSome o P
 filled f None = tt
@@ -57,7 +58,7 @@ pub mapped : {A : Type 0} {P Q : A → Type 0} → ((x : A) → P x → Q x) →
 mapped f None h = h
 mapped f (Some x) h = f x h
 
-none_is_some : {A : Type 0} (o : Option A) → o ≡ None → IsSome o → ⊥
+pub none_is_some : {A : Type 0} (o : Option A) → o ≡ None → IsSome o → ⊥
 none_is_some None e h = cc
 none_is_some (Some x) e h = cc
 
@@ -103,27 +104,46 @@ asked_for call status.Refused h none = absurd (none_some (sym none ∙ h.1.asked
 pub usage : (call : Call) (s : Status) → Happens call s → UsageComes s call.asked
 usage call s h = record { only = λ e. (subst (Happens call) e h).0; always = asked_for call s h }
 
-pub read_fault : (call : Call) (s : Status) → Happens call s → s ≡ status.ReadFault → Rose call.source.faults call.source_after.faults
-read_fault call s h e = (subst (Happens call) e h).1
+pub read_fault : (call : Call) (s : Status) → Happens call s → s ≡ status.ReadFault → ReadsText call.asked × Rose call.source.faults call.source_after.faults
+read_fault call s h e = let failed = subst (Happens call) e h in (failed.0, failed.1)
 
 pub write_fault : (call : Call) (s : Status) → Happens call s → s ≡ status.WriteFault → Rose call.out.faults call.out_after.faults
 write_fault call s h e = (subst (Happens call) e h).2
 
 -- the end of the source, where a verdict other than too long was told
-at_end : (verdict : Verdict) (source : SourceState) (s : Status) → s ≡ status_of verdict → ReadsTo verdict source → (s ≡ status.TooLong → ⊥) → IsAtEnd source.left
-at_end TooLong source s is h other = absurd (other is)
-at_end (Unspelled byte) source s is h other = h
-at_end (Refused why) source s is h other = h
-at_end (Replied reply) source s is h other = h
+at_end : (verdict : Verdict) (source source_after : SourceState) (s : Status) → s ≡ status_of verdict → ReadsTo verdict source source_after → (s ≡ status.TooLong → ⊥) → IsAtEnd source_after.left
+at_end TooLong source source_after s is h other = absurd (other is)
+at_end (Unspelled byte) source source_after s is h other = h
+at_end (Refused why) source source_after s is h other = h
+at_end (Replied reply) source source_after s is h other = h
+
+unlike_syntax : status.TooLong ≡ status.Syntax → ⊥
+unlike_syntax is = cc
+
+unlike_refused : status.TooLong ≡ status.Refused → ⊥
+unlike_refused is = cc
+
+-- the limit was passed, where too long was told
+past_limit : (verdict : Verdict) (source source_after : SourceState) → status.TooLong ≡ status_of verdict → ReadsTo verdict source source_after → ReadsPastLimit source source_after
+past_limit TooLong source source_after is h = h
+past_limit (Unspelled byte) source source_after is h = absurd (unlike_syntax is)
+past_limit (Refused why) source source_after is h = absurd (unlike_refused is)
+past_limit (Replied reply) source source_after is h = absurd (prints_always status.TooLong reply.end is refl)
 
 -- what was read, where it is known whether the command reads
 text_read : (o : Option Reply) (verdict : Verdict) (bytes : List ℕ) (source source_after : SourceState) → o ≡ None → ReadsBy o verdict bytes source source_after
-    → IsRead source bytes × ReadsTo verdict source_after
+    → IsRead source bytes × ReadsTo verdict source source_after
 text_read o verdict bytes source source_after none h = subst (λ p. ReadsBy p verdict bytes source source_after) none h
 
-nothing_read : (o : Option Reply) (verdict : Verdict) (bytes : List ℕ) (source source_after : SourceState) (reply : Reply) → o ≡ Some reply → ReadsBy o verdict bytes source source_after
-    → source_after ≡ source
-nothing_read o verdict bytes source source_after reply is h = subst (λ p. ReadsBy p verdict bytes source source_after) is h
+nothing_read : (o : Option Reply) (verdict : Verdict) (bytes : List ℕ) (source source_after : SourceState) → IsSome o → ReadsBy o verdict bytes source source_after → source_after ≡ source
+nothing_read None verdict bytes source source_after some h = absurd (none_is_some {A = Reply} None refl some)
+nothing_read (Some reply) verdict bytes source source_after some h = h
+
+-- a command whose reply comes of no text that is too long
+limit_read : (o : Option Reply) (c : Command) (verdict : Verdict) (bytes : List ℕ) (source source_after : SourceState) → status.TooLong ≡ status_of verdict → ComesBy o c bytes verdict
+    → ReadsBy o verdict bytes source source_after → ReadsPastLimit source source_after
+limit_read None c verdict bytes source source_after is comes h = past_limit verdict source source_after is h.1
+limit_read (Some reply) c verdict bytes source source_after is comes h = absurd (prints_always status.TooLong reply.end (is ∙ ap status_of comes) refl)
 
 module _ (call : Call) (verdict : Verdict) (judges : Judges call verdict) where
   reads_by : (found : Command) → call.asked ≡ Some found → CommandReads found verdict judges.bytes call.source call.source_after
@@ -131,15 +151,18 @@ module _ (call : Call) (verdict : Verdict) (judges : Judges call verdict) where
 
   after_end : (s : Status) → s ≡ status_of verdict → (s ≡ status.TooLong → ⊥) → AfterEnd call.asked call.source_after
   after_end s is other found asked none =
-      at_end verdict call.source_after s is (text_read (unread_reply found) verdict judges.bytes call.source call.source_after none (reads_by found asked)).1 other
+      at_end verdict call.source call.source_after s is (text_read (unread_reply found) verdict judges.bytes call.source call.source_after none (reads_by found asked)).1 other
+
+  passes_limit : status.TooLong ≡ status_of verdict → ReadsPastLimit call.source call.source_after
+  passes_limit is = limit_read (unread_reply judges.command) judges.command verdict judges.bytes call.source call.source_after is judges.comes judges.read
 
   judged_nothing : ReadsNothing call.asked call.source call.source_after
-  judged_nothing found reply asked is = nothing_read (unread_reply found) verdict judges.bytes call.source call.source_after reply is (reads_by found asked)
+  judged_nothing needs = nothing_read (unread_reply judges.command) verdict judges.bytes call.source call.source_after (subst NeedsNoSource judges.asked needs) judges.read
 
 reads_nothing : (call : Call) (s : Status) → Happens call s → ReadsNothing call.asked call.source call.source_after
-reads_nothing call status.Usage h = λ found reply asked is. h.1
+reads_nothing call status.Usage h = λ needs. h.1
 reads_nothing call status.Memory h = h.2
-reads_nothing call status.ReadFault h = λ found reply asked is. absurd (none_some (sym h.0.2 ∙ ap unread_reply (some_same (sym h.0.1 ∙ asked)) ∙ is))
+reads_nothing call status.ReadFault h = λ needs. absurd (none_is_some (unread_reply h.0.0) h.0.2 (subst NeedsNoSource h.0.1 needs))
 reads_nothing call status.WriteFault h = judged_nothing call (Replied h.0) h.1
 reads_nothing call status.Done h = judged_nothing call h.0 h.1
 reads_nothing call status.Limit h = judged_nothing call h.0 h.1
@@ -148,21 +171,21 @@ reads_nothing call status.TooLong h = judged_nothing call h.0 h.1
 reads_nothing call status.Syntax h = judged_nothing call h.0 h.1
 reads_nothing call status.Refused h = judged_nothing call h.0 h.1
 
-ends_at : (call : Call) (s : Status) → Happens call s → ReadsToEnd s call.asked call.source call.source_after
-ends_at call status.Usage h = h.1
-ends_at call status.Done h = after_end call h.0 h.1 status.Done h.2 (λ e. cc)
-ends_at call status.Limit h = after_end call h.0 h.1 status.Limit h.2 (λ e. cc)
-ends_at call status.No h = after_end call h.0 h.1 status.No h.2 (λ e. cc)
-ends_at call status.Syntax h = after_end call h.0 h.1 status.Syntax h.2 (λ e. cc)
-ends_at call status.Refused h = after_end call h.0 h.1 status.Refused h.2 (λ e. cc)
-ends_at call status.WriteFault h = λ found asked none.
+reads_so_far : (call : Call) (s : Status) → Happens call s → ReadsSoFar s call.asked call.source call.source_after
+reads_so_far call status.Usage h = h.1
+reads_so_far call status.Done h = after_end call h.0 h.1 status.Done h.2 (λ e. cc)
+reads_so_far call status.Limit h = after_end call h.0 h.1 status.Limit h.2 (λ e. cc)
+reads_so_far call status.No h = after_end call h.0 h.1 status.No h.2 (λ e. cc)
+reads_so_far call status.Syntax h = after_end call h.0 h.1 status.Syntax h.2 (λ e. cc)
+reads_so_far call status.Refused h = after_end call h.0 h.1 status.Refused h.2 (λ e. cc)
+reads_so_far call status.WriteFault h = λ found asked none.
     (text_read (unread_reply found) (Replied h.0) h.1.bytes call.source call.source_after none (reads_by call (Replied h.0) h.1 found asked)).1
-ends_at call status.ReadFault h = tt
-ends_at call status.TooLong h = tt
-ends_at call status.Memory h = tt
+reads_so_far call status.ReadFault h = h.2
+reads_so_far call status.TooLong h = passes_limit call h.0 h.1 h.2
+reads_so_far call status.Memory h = h.3
 
 pub reads_all : (call : Call) (s : Status) → Happens call s → ReadsAll s call.asked call.source call.source_after
-reads_all call s h = record { to_end = ends_at call s h; nothing = reads_nothing call s h }
+reads_all call s h = record { so_far = reads_so_far call s h; nothing = reads_nothing call s h }
 
 -- nothing was written where nothing was printed
 quiet : (verdict : Verdict) (call : Call) (s : Status) → s ≡ status_of verdict → has_printed s ≡ false → Writes verdict call.out call.out_after → call.out_after ≡ call.out
@@ -171,9 +194,26 @@ quiet (Unspelled byte) call s is h w = w
 quiet (Refused why) call s is h w = w
 quiet (Replied reply) call s is h w = absurd (prints_always s reply.end is h)
 
+-- a verdict that was told with a status that prints is a reply
+reply_told : (call : Call) (s : Status) → has_printed s ≡ true → Told call s
+    → (reply : Reply) × Judges call (Replied reply) × (s ≡ status_of_end reply.end) × WritesText reply.text call.out call.out_after × (call.err_after ≡ call.err)
+reply_told call s is (TooLong, judges, same, writes, says) = absurd (true≢false (sym is ∙ ap has_printed same))
+reply_told call s is (Unspelled byte, judges, same, writes, says) = absurd (true≢false (sym is ∙ ap has_printed same))
+reply_told call s is (Refused why, judges, same, writes, says) = absurd (true≢false (sym is ∙ ap has_printed same))
+reply_told call s is (Replied reply, judges, same, writes, says) = (reply, judges, same, writes, says)
+
+-- `drive` has no text where it tells its limit
+idle_drive : (call : Call) → Told call status.Limit → (options : Options) → call.asked ≡ Some (command.Drive options) → call.out_after ≡ call.out
+idle_drive call h options asked =
+    let its = reply_told call status.Limit refl h in
+    let same : its.1.command ≡ command.Drive options = some_same (sym its.1.asked ∙ asked) in
+    let comes : MayReply (command.Drive options) its.1.bytes its.0 = subst (λ c. Comes c its.1.bytes (Replied its.0)) same its.1.comes in
+    let limit : status.Limit ≡ status_of_end (drive_reply options comes.bundle).end = its.2 ∙ ap (λ (r : Reply). status_of_end r.end) comes.replies in
+    its.3.1 (ap (λ (r : Reply). r.text) comes.replies ∙ limit_is_silent options comes.bundle limit)
+
 pub silent : (call : Call) (s : Status) → Happens call s → Silent s call.asked call.source call.out call.out_after
 silent call status.Done h = tt
-silent call status.Limit h = tt
+silent call status.Limit h = idle_drive call h
 silent call status.No h = tt
 silent call status.WriteFault h = record {
   command = h.1.command;
@@ -185,19 +225,11 @@ silent call status.WriteFault h = record {
   part = h.3;
 }
 silent call status.Usage h = h.2
-silent call status.ReadFault h = h.2
+silent call status.ReadFault h = h.3
 silent call status.Memory h = h.0
 silent call status.TooLong h = quiet h.0 call status.TooLong h.2 refl h.3
 silent call status.Syntax h = quiet h.0 call status.Syntax h.2 refl h.3
 silent call status.Refused h = quiet h.0 call status.Refused h.2 refl h.3
-
--- a verdict that was told with a status that prints is a reply
-reply_told : (call : Call) (s : Status) → has_printed s ≡ true → Told call s
-    → (reply : Reply) × Judges call (Replied reply) × (s ≡ status_of_end reply.end) × Appends call.out.taken call.out_after.taken reply.text × (call.err_after ≡ call.err)
-reply_told call s is (TooLong, judges, same, writes, says) = absurd (true≢false (sym is ∙ ap has_printed same))
-reply_told call s is (Unspelled byte, judges, same, writes, says) = absurd (true≢false (sym is ∙ ap has_printed same))
-reply_told call s is (Refused why, judges, same, writes, says) = absurd (true≢false (sym is ∙ ap has_printed same))
-reply_told call s is (Replied reply, judges, same, writes, says) = (reply, judges, same, writes, says)
 
 -- what comes of the bytes that were read comes of those that the source tells
 comes_by : (o : Option Reply) (c : Command) (verdict : Verdict) (bytes : List ℕ) (source source_after : SourceState) → ReadsBy o verdict bytes source source_after → ComesBy o c bytes verdict
@@ -226,7 +258,8 @@ refuses_by None c bytes why h = refused_input (session_options c) c bytes why h
 
 line_told : (call : Call) (s : Status) → has_printed s ≡ false → tells_verdict s ≡ true → Told call s → SaysWhy s call.asked call.source call.err call.err_after
 line_told call s unprinted is (TooLong, judges, same, writes, says) = subst (λ t. SaysWhy t call.asked call.source call.err call.err_after) (sym same) says
-line_told call s unprinted is (Unspelled byte, judges, same, writes, says) = subst (λ t. SaysWhy t call.asked call.source call.err call.err_after) (sym same) (byte, says)
+line_told call s unprinted is (Unspelled byte, judges, same, writes, says) = subst (λ t. SaysWhy t call.asked call.source call.err call.err_after) (sym same)
+    (judges.command, judges.asked, (byte, says, comes_told call (Unspelled byte) judges))
 line_told call s unprinted is (Refused why, judges, same, writes, says) = subst (λ t. SaysWhy t call.asked call.source call.err call.err_after) (sym same)
     (judges.command, judges.asked, (why, says, mapped (λ told comes. refuses_by (unread_reply judges.command) judges.command told why comes) call.source.left (comes_told call (Refused why) judges)))
 line_told call s unprinted is (Replied reply, judges, same, writes, says) = absurd (prints_always s reply.end same unprinted)
@@ -234,7 +267,7 @@ line_told call s unprinted is (Replied reply, judges, same, writes, says) = absu
 pub says : (call : Call) (s : Status) → Happens call s → SaysWhy s call.asked call.source call.err call.err_after
 says call status.Usage h = h.3
 says call status.Memory h = h.1
-says call status.ReadFault h = h.3
+says call status.ReadFault h = h.4
 says call status.WriteFault h = h.4
 says call status.Done h = (reply_told call status.Done refl h).4
 says call status.Limit h = (reply_told call status.Limit refl h).4
@@ -280,14 +313,14 @@ module _ (one : OneBundle) (call : Call) where
           let its = told call wanted tells (subst (Happens call) e h) in (
             its.1.command,
             its.1.asked,
-            mapped (λ left comes. (its.0, comes, its.2)) call.source.left (comes_told call its.0 its.1),
+            mapped (λ left comes. caused its.1.command left wanted its.0 comes its.2) call.source.left (comes_told call its.0 its.1),
           )
 
       same_status : (found : Command) → call.asked ≡ Some found → (its : Told call s) → IfSome call.source.left (λ bytes. Cause found wanted bytes → decided found s ≡ decided found wanted)
       same_status found is its =
           let command : its.1.command ≡ found = some_same (sym its.1.asked ∙ is) in
           mapped (λ left comes cause.
-          ap (decided found) its.2 ∙ one_kind one found left its.0 cause.0 (subst (λ c. Comes c left its.0) command comes) cause.1 ∙ sym (ap (decided found) cause.2))
+          ap (decided found) its.2 ∙ one_cause one found left wanted its.0 (subst (λ c. Comes c left its.0) command comes) cause)
           call.source.left (comes_told call its.0 its.1)
 
       always : (found : Command) → call.asked ≡ Some found → IfSome call.source.left (λ bytes. Cause found wanted bytes → (decided found s ≡ decided found wanted) ⊎ GivesUp s)
@@ -452,7 +485,7 @@ module _ (formed : SpelledIsFormed) (every : EveryRun) (options : Options) where
       let its = reply_told call s prints (told call s (printing s prints) h) in
       let same : its.1.command ≡ command.Step options = some_same (sym its.1.asked ∙ is) in
       let read : CommandReads (command.Step options) (Replied its.0) its.1.bytes call.source call.source_after = reads_by call (Replied its.0) its.1 (command.Step options) is in
-      step_printed sound its.1.bytes call.source call.out call.out_after s its.0 read.0 (subst (λ c. Comes c its.1.bytes (Replied its.0)) same its.1.comes) its.2 its.3
+      step_printed sound its.1.bytes call.source call.out call.out_after s its.0 read.0 (subst (λ c. Comes c its.1.bytes (Replied its.0)) same its.1.comes) its.2 its.3.0
 
   pub run_text : (call : Call) (s : Status) → Happens call s → call.asked ≡ Some (command.Run options) → has_printed s ≡ true
       → (run : RunPrinted options s call.source call.out call.out_after) × IsPrompt run.bundle run.history
@@ -460,7 +493,7 @@ module _ (formed : SpelledIsFormed) (every : EveryRun) (options : Options) where
       let its = reply_told call s prints (told call s (printing s prints) h) in
       let same : its.1.command ≡ command.Run options = some_same (sym its.1.asked ∙ is) in
       let read : CommandReads (command.Run options) (Replied its.0) its.1.bytes call.source call.source_after = reads_by call (Replied its.0) its.1 (command.Run options) is in
-      run_printed its.1.bytes call.source call.out call.out_after s its.0 read.0 (subst (λ c. Comes c its.1.bytes (Replied its.0)) same its.1.comes) its.2 its.3
+      run_printed its.1.bytes call.source call.out call.out_after s its.0 read.0 (subst (λ c. Comes c its.1.bytes (Replied its.0)) same its.1.comes) its.2 its.3.0
 
 pub headline : SpelledIsFormed → EveryRun → RunsAreSound → (call : Call) (s : Status) → Happens call s → HeadlineHolds call.asked s call.source call.out call.out_after
 headline formed every sound call s h options found is runs prints = ⊎_elim
@@ -488,7 +521,7 @@ module _ (formed : SpelledIsFormed) (wanted : Command) (single : session_options
         bundle = b;
         spells = comes.spells;
         accepted = record { formed = formed its.1.bytes b comes.spells; no_refusal = unrefused MayNotRun (refusal b) (sym (runs b) ∙ comes.accepted) };
-        printed = subst (λ (r : Reply). Appends call.out.taken call.out_after.taken r.text) replies its.3;
+        printed = subst (λ (r : Reply). Appends call.out.taken call.out_after.taken r.text) replies its.3.0;
         done = its.2 ∙ ap (λ (r : Reply). status_of_end r.end) replies;
       }
 
@@ -518,7 +551,7 @@ module _ (formed : SpelledIsFormed) (wanted : Command) (single : session_options
           bundle = b;
           spells = comes.spells;
           accepted = record { formed = formed its.1.bytes b comes.spells; no_refusal = runs b comes.accepted };
-          printed = subst (λ (r : Reply). Appends call.out.taken call.out_after.taken r.text) replies its.3;
+          printed = subst (λ (r : Reply). Appends call.out.taken call.out_after.taken r.text) replies its.3.0;
           told = its.2 ∙ ap (λ (r : Reply). status_of_end r.end) replies;
         },
         comes.accepted,
@@ -641,7 +674,7 @@ mend_text written mends formed call s h is prints =
       bundle = b;
       spells = comes.spells;
       free = free;
-      printed = subst (λ (r : Reply). Appends call.out.taken call.out_after.taken r.text) comes.replies its.3;
+      printed = subst (λ (r : Reply). Appends call.out.taken call.out_after.taken r.text) comes.replies its.3.0;
       accepted = accepted;
       spelled = written (mended_bundle b) accepted.formed;
       done = its.2 ∙ ap (λ (r : Reply). status_of_end r.end) comes.replies;
@@ -680,7 +713,7 @@ module _ (accepted : MadeAreAccepted) (every : EveryRun) (sound : RunsAreSound) 
       let reply : its.0 ≡ gen_reply number size = ap (reply_in its.0) comes in
       let small = short (command.Gen number size) is in
       gen_printed (accepted number size small.0 small.1) s call.out call.out_after (its.2 ∙ ap (λ (r : Reply). status_of_end r.end) reply)
-      (subst (λ (r : Reply). Appends call.out.taken call.out_after.taken r.text) reply its.3)
+      (subst (λ (r : Reply). Appends call.out.taken call.out_after.taken r.text) reply its.3.0)
 
 -- ---- the text of sessions
 
@@ -735,5 +768,5 @@ sessions_text every sound call s h options is = (
       let same : its.1.command ≡ command.Sessions options = some_same (sym its.1.asked ∙ is) in
       let comes : RepliesToSessions options its.1.bytes its.0 = subst (λ c. Comes c its.1.bytes (Replied its.0)) same its.1.comes in
       let read : CommandReads (command.Sessions options) (Replied its.0) its.1.bytes call.source call.source_after = reads_by call (Replied its.0) its.1 (command.Sessions options) is in
-      sessions_printed every sound options its.1.bytes call.source call.out call.out_after s its.0 read.0 comes its.2 its.3,
+      sessions_printed every sound options its.1.bytes call.source call.out call.out_after s its.0 read.0 comes its.2 its.3.0,
 )

@@ -17,6 +17,7 @@ use Rattle.net_drive.specs.Strays.{DriveStraysAreExact}
 use Rattle.rule_checks.specs.Refusals.{IsAccepted}
 use Rattle.aioc_top.specs.declared.replies.End.TheVariants as end
 use Rattle.aioc_top.specs.declared.status.Status.{Status}
+use Rattle.aioc_top.specs.declared.status.Status.TheVariants as status
 use Rattle.aioc_top.specs.Judging.{is_cut_short}
 use Rattle.aioc_top.specs.Replies.{Reply, drive_history, drive_reply, driven_or_no, driven_reply, is_finished, is_too_long, last_of, no, section_number, trace_stray}
 use Rattle.aioc_top.specs.Serve.{DriveTold, IsDrivenRun}
@@ -39,6 +40,32 @@ long_reply options b long = cond-true (is_too_long options b) (record { end = en
 
 pub short_reply : (options : Options) (b : PlainBundle) → is_too_long options b ≡ false → drive_reply options b ≡ driven_or_no b (trace_stray b)
 short_reply options b short = cond-false (is_too_long options b) (record { end = end.Limit; text = [] }) (driven_or_no b (trace_stray b)) short
+
+no_limit : status.Limit ≡ status.No → ⊥
+no_limit is = cc
+
+done_limit : status.Limit ≡ status.Done → ⊥
+done_limit is = cc
+
+-- only the reply to a trace that is too long tells the limit, and it has no text
+module _ (options : Options) (b : PlainBundle) where
+  cut_goes : (H : List Entry) (cut : Bool) → status.Limit ≡ status_of_end (if cut then no (suc (length b.trace.entries)) else record {
+    end = end.Done;
+    text = run_text true false H (last_of (is_finished b H) (length H));
+  }).end → ⊥
+  cut_goes H true is = no_limit is
+  cut_goes H false is = done_limit is
+
+  short_goes : (o : Option ℕ) → status.Limit ≡ status_of_end (driven_or_no b o).end → ⊥
+  short_goes None is = cut_goes (drive_history b) (is_cut_short b.trace.last (is_finished b (drive_history b))) is
+  short_goes (Some n) is = no_limit is
+
+  silent_by : (long : Bool) → is_too_long options b ≡ long → status.Limit ≡ status_of_end (drive_reply options b).end → (drive_reply options b).text ≡ []
+  silent_by true long is = ap (λ (r : Reply). r.text) (long_reply options b long)
+  silent_by false short is = absurd (short_goes (trace_stray b) (is ∙ ap (λ (r : Reply). status_of_end r.end) (short_reply options b short)))
+
+  pub limit_is_silent : status.Limit ≡ status_of_end (drive_reply options b).end → (drive_reply options b).text ≡ []
+  limit_is_silent is = silent_by (is_too_long options b) refl is
 
 module _ (strays : DriveStraysAreExact) (b : PlainBundle) (sound : IsSound b) where
   -- a driven history is that of the reply

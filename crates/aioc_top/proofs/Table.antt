@@ -57,8 +57,8 @@ module _ (command : Command) (source source_after : SourceState) (out out_after 
   pub stopped : (f : Fault) → out_after ≡ out → Stops command source source_after f → SaysLine err err_after (line_of f) → Happens made (status_of f)
   stopped fault.Usage quiet h said = absurd h
   stopped fault.WriteFault quiet h said = absurd h
-  stopped fault.ReadFault quiet h said = ((command, refl, h.0), h.1, quiet, said)
+  stopped fault.ReadFault quiet h said = ((command, refl, h.0), h.1, h.2, quiet, said)
   stopped fault.TooLong quiet h said = (TooLong, judged TooLong h, refl, quiet, said)
   stopped (fault.Syntax line) quiet h said = (Unspelled h.0, judged (Unspelled h.0) h.1, refl, quiet, subst (SaysLine err err_after) h.2 said)
   stopped (fault.Refused line) quiet h said = (Refused h.0, judged (Refused h.0) h.1, refl, quiet, subst (SaysLine err err_after) h.2 said)
-  stopped fault.Memory quiet h said = (quiet, said, h)
+  stopped fault.Memory quiet h said = (quiet, said, h.0, h.1)

@@ -1,9 +1,10 @@
 -- What a call does with its source and its sinks, status by status.
-use Rattle.std.specs.Prelude.{◌≡◌, ℕ, List, Option, Some, None, IfSome}
+use Rattle.std.specs.Prelude.{◌≡◌, ℕ, ◌+◌, List, [], drop, Option, Some, None, IfSome, IsSome}
 use Rattle.std.specs.Io.KnownBytes.{Appends, IsAtEnd}
 use Rattle.aioc_io.specs.Faults.{Rose}
 use Rattle.aioc_io.specs.Sink.{SaysLine, SinkState, TakesPart}
-use Rattle.aioc_io.specs.Source.{SourceState}
+use Rattle.aioc_io.specs.Source.{GivesAtMost, SourceState}
+use Rattle.limits.specs.Limits.{most_bytes}
 use Rattle.command_words.specs.declared.commands.Command.{Command}
 use Rattle.aioc_top.specs.Messages.{usage_line, read_fault_line, write_fault_line, too_long_line, memory_line, syntax_line, refusal_line}
 use Rattle.aioc_top.specs.Replies.{Reply, unread_reply}
@@ -25,29 +26,47 @@ pub record Call : Type 0 where
 abbrev pub IsRead : SourceState → List ℕ → Type 0
 IsRead source bytes = IfSome source.left (λ told. told ≡ bytes)
 
+-- one byte more than the limit was read, where the source tells its bytes
+abbrev pub ReadsPastLimit : SourceState → SourceState → Type 0
+ReadsPastLimit source source_after =
+    IfSome source.left (λ told. source_after.left ≡ Some (drop (most_bytes + 1) told))
+
+-- no more bytes than the limit were read, where the source tells them
+abbrev pub ReadsWithinLimit : SourceState → SourceState → Type 0
+ReadsWithinLimit source source_after = GivesAtMost most_bytes source.left source_after.left
+
 -- a text that is too long isn't read to its end
-abbrev pub ReadsTo : Verdict → SourceState → Type 0
-ReadsTo TooLong source = Unit {0}
-ReadsTo _ source = IsAtEnd source.left
+abbrev pub ReadsTo : Verdict → SourceState → SourceState → Type 0
+ReadsTo TooLong source source_after = ReadsPastLimit source source_after
+ReadsTo _ source source_after = IsAtEnd source_after.left
 
 -- What was read of the source: its bytes, where it tells them, to their end but where they are too
 -- many; and nothing by a command that has its reply without.
 abbrev pub ReadsBy : Option Reply → Verdict → List ℕ → SourceState → SourceState → Type 0
 ReadsBy (Some reply) verdict bytes source source_after = source_after ≡ source
-ReadsBy None verdict bytes source source_after = IsRead source bytes × ReadsTo verdict source_after
+ReadsBy None verdict bytes source source_after =
+    IsRead source bytes × ReadsTo verdict source source_after
 
 abbrev pub CommandReads : Command → Verdict → List ℕ → SourceState → SourceState → Type 0
 CommandReads asked verdict bytes source source_after =
     ReadsBy (unread_reply asked) verdict bytes source source_after
 
--- a command that has its reply without reading reads nothing
-abbrev pub ReadsNothing : Option Command → SourceState → SourceState → Type 0
-ReadsNothing asked source source_after = (found : Command) (reply : Reply) → asked ≡ Some found
-    → unread_reply found ≡ Some reply → source_after ≡ source
+-- the words ask for no command, or for one that has its reply without reading
+abbrev pub NeedsNoSource : Option Command → Type 0
+NeedsNoSource (Some found) = IsSome (unread_reply found)
+NeedsNoSource None = Unit {0}
 
--- all of a reply's text was written, and nothing else
+-- then nothing is read
+abbrev pub ReadsNothing : Option Command → SourceState → SourceState → Type 0
+ReadsNothing asked source source_after = NeedsNoSource asked → source_after ≡ source
+
+-- all of a text was written, and nothing else; with an empty one the sink isn't called
+abbrev pub WritesText : List ℕ → SinkState → SinkState → Type 0
+WritesText text out out_after =
+    Appends out.taken out_after.taken text × (text ≡ [] → out_after ≡ out)
+
 abbrev pub Writes : Verdict → SinkState → SinkState → Type 0
-Writes (Replied reply) out out_after = Appends out.taken out_after.taken reply.text
+Writes (Replied reply) out out_after = WritesText reply.text out out_after
 Writes _ out out_after = out_after ≡ out
 
 -- the line of a verdict that isn't a reply
@@ -77,8 +96,10 @@ Happens call status.Usage =
 Happens call status.Memory =
     (call.out_after ≡ call.out) × SaysLine call.err call.err_after memory_line
     × ReadsNothing call.asked call.source call.source_after
+    × ReadsWithinLimit call.source call.source_after
 Happens call status.ReadFault =
     ReadsText call.asked × Rose call.source.faults call.source_after.faults
+    × ReadsWithinLimit call.source call.source_after
     × (call.out_after ≡ call.out)
     × SaysLine call.err call.err_after read_fault_line
 Happens call status.WriteFault =
@@ -93,4 +114,4 @@ abbrev pub PrintsReply : Reply → SinkState → SinkState → SinkState → Sin
 PrintsReply reply out out_after err err_after status.WriteFault = Rose out.faults out_after.faults
     × TakesPart out.taken out_after.taken reply.text × SaysLine err err_after write_fault_line
 PrintsReply reply out out_after err err_after result = (result ≡ status_of_end reply.end)
-    × Appends out.taken out_after.taken reply.text × (err_after ≡ err)
+    × WritesText reply.text out out_after × (err_after ≡ err)

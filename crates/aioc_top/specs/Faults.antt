@@ -10,7 +10,7 @@ use Rattle.mend.specs.declared.refusals.MendRefusal.{MendRefusal}
 use Rattle.mend.specs.declared.refusals.MendRefusal.TheVariants as unmended
 use Rattle.command_words.specs.declared.commands.Options.{Options}
 use Rattle.command_words.specs.declared.commands.Command.{Command}
-use Rattle.aioc_top.specs.Calls.{CommandReads, ReadsNothing}
+use Rattle.aioc_top.specs.Calls.{CommandReads, ReadsNothing, ReadsPastLimit, ReadsWithinLimit}
 use Rattle.aioc_top.specs.Messages.{memory_line, read_fault_line, refusal_line, syntax_line, too_long_line, usage_line, write_fault_line}
 use Rattle.aioc_top.specs.Reasons.{Reason, MayNotRun, CannotBeMended}
 use Rattle.aioc_top.specs.Replies.{refusal_of, unread_reply}
@@ -91,16 +91,18 @@ pub record ReadSo (asked : Command) (source source_after : SourceState) (verdict
 
 -- why the bytes of a source aren't had
 abbrev pub StopsReading : SourceState → SourceState → Fault → Type 0
-StopsReading source source_after fault.ReadFault = Rose source.faults source_after.faults
+StopsReading source source_after fault.ReadFault =
+    Rose source.faults source_after.faults × ReadsWithinLimit source source_after
 StopsReading source source_after fault.TooLong =
-    IfSome source.left (λ told. most_bytes < length told)
-StopsReading source source_after fault.Memory = Unit {0}
+    IfSome source.left (λ told. most_bytes < length told) × ReadsPastLimit source source_after
+StopsReading source source_after fault.Memory = ReadsWithinLimit source source_after
 StopsReading source source_after _ = ⊥
 
 -- why a command has no reply to what a source has
 abbrev pub Stops : Command → SourceState → SourceState → Fault → Type 0
 Stops asked source source_after fault.ReadFault =
     (unread_reply asked ≡ None) × Rose source.faults source_after.faults
+    × ReadsWithinLimit source source_after
 Stops asked source source_after fault.TooLong = ReadSo asked source source_after TooLong
 Stops asked source source_after (fault.Syntax line) =
     (byte : ℕ) × ReadSo asked source source_after (Unspelled byte)
@@ -108,6 +110,7 @@ Stops asked source source_after (fault.Syntax line) =
 Stops asked source source_after (fault.Refused line) =
     (why : Reason) × ReadSo asked source source_after (Refused why)
     × (line.items ≡ refusal_line why)
-Stops asked source source_after fault.Memory = ReadsNothing (Some asked) source source_after
+Stops asked source source_after fault.Memory =
+    ReadsNothing (Some asked) source source_after × ReadsWithinLimit source source_after
 Stops asked source source_after fault.Usage = ⊥
 Stops asked source source_after fault.WriteFault = ⊥

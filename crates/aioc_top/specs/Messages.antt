@@ -18,7 +18,7 @@ too_long_line = codes "too long" ++ line_end ∷ []
 abbrev pub memory_line : List ℕ
 memory_line = codes "out of memory" ++ line_end ∷ []
 
--- the byte is one near which the grammar wanted something else
+-- the byte at which the reading of the text ends, counted from 0
 abbrev pub syntax_line : ℕ → List ℕ
 syntax_line byte = codes "syntax: byte " ++ decimal byte ++ line_end ∷ []
 

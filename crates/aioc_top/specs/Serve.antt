@@ -28,12 +28,12 @@ use Rattle.command_words.specs.declared.commands.Verb.TheVariants.{Gen}
 use Rattle.load_gen.specs.Made.{made}
 use Rattle.command_words.specs.declared.commands.Command.{Command}
 use Rattle.command_words.specs.declared.commands.Command.TheVariants as command
-use Rattle.aioc_top.specs.Calls.{IsRead, ReadsNothing}
+use Rattle.aioc_top.specs.Calls.{IsRead, ReadsNothing, ReadsPastLimit, ReadsWithinLimit}
 use Rattle.aioc_top.specs.Judging.{is_cut_short}
 use Rattle.aioc_top.specs.Messages.{usage_line, read_fault_line, write_fault_line, too_long_line, memory_line, syntax_line, refusal_line}
 use Rattle.aioc_top.specs.Reasons.{Reason}
 use Rattle.aioc_top.specs.Replies.{Reply, Replies, drive_history, drive_reply, is_finished, refusal_of, run_reply, step_history, resume_history, resume_reply, resume_stray, line_of_text, check_line, project_text, monitor_reply, replay_reply, trace_stray, upgrade_text, mend_text, session_options, sessions_reply, unread_reply, gen_line, gen_history}
-use Rattle.aioc_top.specs.Verdicts.{Replied, Comes, Cause, Refuses, status_of_end}
+use Rattle.aioc_top.specs.Verdicts.{Unspelled, Replied, Comes, Cause, Refuses, status_of_end}
 use Rattle.aioc_top.specs.declared.status.Status.{Status}
 use Rattle.aioc_top.specs.declared.status.Status.TheVariants as status
 
@@ -319,21 +319,25 @@ abbrev pub AfterEnd : Option Command → SourceState → Type 0
 AfterEnd asked source_after = (found : Command) → asked ≡ Some found → unread_reply found ≡ None
     → IsAtEnd source_after.left
 
-abbrev pub ReadsToEnd : Status → Option Command → SourceState → SourceState → Type 0
-ReadsToEnd status.Usage asked source source_after = source_after ≡ source
-ReadsToEnd status.Done asked source source_after = AfterEnd asked source_after
-ReadsToEnd status.Limit asked source source_after = AfterEnd asked source_after
-ReadsToEnd status.No asked source source_after = AfterEnd asked source_after
-ReadsToEnd status.Syntax asked source source_after = AfterEnd asked source_after
-ReadsToEnd status.Refused asked source source_after = AfterEnd asked source_after
-ReadsToEnd status.WriteFault asked source source_after = AfterEnd asked source_after
-ReadsToEnd _ asked source source_after = Unit {0}
+-- How far a text was read: to its end; of one that is too long one byte more than the limit; and no
+-- more than the limit where the source failed or memory ran out.
+abbrev pub ReadsSoFar : Status → Option Command → SourceState → SourceState → Type 0
+ReadsSoFar status.Usage asked source source_after = source_after ≡ source
+ReadsSoFar status.Done asked source source_after = AfterEnd asked source_after
+ReadsSoFar status.Limit asked source source_after = AfterEnd asked source_after
+ReadsSoFar status.No asked source source_after = AfterEnd asked source_after
+ReadsSoFar status.Syntax asked source source_after = AfterEnd asked source_after
+ReadsSoFar status.Refused asked source source_after = AfterEnd asked source_after
+ReadsSoFar status.WriteFault asked source source_after = AfterEnd asked source_after
+ReadsSoFar status.TooLong asked source source_after = ReadsPastLimit source source_after
+ReadsSoFar status.ReadFault asked source source_after = ReadsWithinLimit source source_after
+ReadsSoFar status.Memory asked source source_after = ReadsWithinLimit source source_after
 
 -- Words that ask for no command, or for one that has its reply without reading, read nothing; a
--- text is read to its end.
+-- text is read so far.
 pub record ReadsAll (result : Status) (asked : Option Command) (source source_after : SourceState) :
     Type 0 where
-  pub to_end : ReadsToEnd result asked source source_after
+  pub so_far : ReadsSoFar result asked source source_after
   pub nothing : ReadsNothing asked source source_after
 
 -- a part of a text that the command may write for the bytes
@@ -347,11 +351,12 @@ pub record PartPrinted (asked : Option Command) (source : SourceState) (out out_
   pub comes : Comes command bytes (Replied reply)
   pub part : TakesPart out.taken out_after.taken reply.text
 
--- `out` isn't called before a refusal; with a fault of `out` it took a part of a text that it might
--- have taken whole
+-- `out` isn't called before a refusal, and not by `drive` at its limit; with a fault of `out` it
+-- took a part of a text that it might have taken whole
 abbrev pub Silent : Status → Option Command → SourceState → SinkState → SinkState → Type 0
 Silent status.Done asked source out out_after = Unit {0}
-Silent status.Limit asked source out out_after = Unit {0}
+Silent status.Limit asked source out out_after =
+    (options : Options) → asked ≡ Some (command.Drive options) → out_after ≡ out
 Silent status.No asked source out out_after = Unit {0}
 Silent status.WriteFault asked source out out_after = PartPrinted asked source out out_after
 Silent _ asked source out out_after = out_after ≡ out
@@ -367,7 +372,9 @@ SaysWhy status.ReadFault asked source err err_after = SaysLine err err_after rea
 SaysWhy status.WriteFault asked source err err_after = SaysLine err err_after write_fault_line
 SaysWhy status.TooLong asked source err err_after = SaysLine err err_after too_long_line
 SaysWhy status.Syntax asked source err err_after =
-    (byte : ℕ) × SaysLine err err_after (syntax_line byte)
+    (found : Command) × (asked ≡ Some found) × ((byte : ℕ)
+    × SaysLine err err_after (syntax_line byte)
+    × IfSome source.left (λ bytes. Comes found bytes (Unspelled byte)))
 SaysWhy status.Refused asked source err err_after =
     (found : Command) × (asked ≡ Some found) × ((why : Reason)
     × SaysLine err err_after (refusal_line why)

@@ -4,7 +4,8 @@ use Rattle.limits.specs.Limits.{most_bytes}
 use Rattle.dioc_terms.specs.Bundles.{IsFormed}
 use Rattle.dioc_terms.specs.Plain.{PlainBundle}
 use Rattle.bundle_text.specs.Grammar.{Spells, SpellsNone}
-use Rattle.bundle_text.specs.Sessions.{SpellsSessions, SpellsNoSessions}
+use Rattle.bundle_text.specs.Sessions.{SessionsEndAtByte, SpellsSessions, SpellsNoSessions}
+use Rattle.bundle_text.specs.Stops.{EndsAtByte}
 use Rattle.command_words.specs.declared.commands.Options.{Options}
 use Rattle.command_words.specs.declared.commands.Command.{Command}
 use Rattle.aioc_top.specs.declared.replies.End.{End}
@@ -17,7 +18,7 @@ use Rattle.aioc_top.specs.Replies.{Reply, Replies, refusal_of, reply_of, session
 
 pub data Verdict : Type 0 where
   TooLong : Verdict
-  -- the bytes spell no bundle; the byte is one near which the grammar wanted something else
+  -- the bytes spell no bundle, or no sessions; the reading of them ends at this byte
   Unspelled : ℕ → Verdict
   Refused : Reason → Verdict
   Replied : Reply → Verdict
@@ -43,7 +44,8 @@ pub record IsReplied (asked : Command) (bundle : PlainBundle) (written : Written
 -- what comes of the bytes of one bundle
 abbrev pub ComesOfText : Command → List ℕ → Verdict → Type 0
 ComesOfText asked bytes TooLong = most_bytes < length bytes
-ComesOfText asked bytes (Unspelled byte) = (length bytes ≤ most_bytes) × SpellsNone bytes
+ComesOfText asked bytes (Unspelled byte) =
+    (length bytes ≤ most_bytes) × SpellsNone bytes × EndsAtByte bytes byte
 ComesOfText asked bytes (Refused why) = Refuses asked bytes why
 ComesOfText asked bytes (Replied reply) = MayReply asked bytes reply
 
@@ -58,7 +60,7 @@ pub record RepliesToSessions (options : Options) (bytes : List ℕ) (reply : Rep
 abbrev pub ComesOfSessions : Options → List ℕ → Verdict → Type 0
 ComesOfSessions options bytes TooLong = most_bytes < length bytes
 ComesOfSessions options bytes (Unspelled byte) =
-    (length bytes ≤ most_bytes) × SpellsNoSessions bytes
+    (length bytes ≤ most_bytes) × SpellsNoSessions bytes × SessionsEndAtByte bytes byte
 ComesOfSessions options bytes (Refused why) = ⊥
 ComesOfSessions options bytes (Replied reply) = RepliesToSessions options bytes reply
 
@@ -86,7 +88,15 @@ status_of (Unspelled byte) = status.Syntax
 status_of (Refused why) = status.Refused
 status_of (Replied reply) = status_of_end reply.end
 
--- what of the bytes makes a status come
+-- the bytes are not too many, and spell nothing that is read: no sessions, or no bundle
+abbrev pub SpellsNothing : Option Options → List ℕ → Type 0
+SpellsNothing (Some options) bytes = (length bytes ≤ most_bytes) × SpellsNoSessions bytes
+SpellsNothing None bytes = (length bytes ≤ most_bytes) × SpellsNone bytes
+
+-- What of the bytes makes a status come: a verdict that comes of them; and of `Syntax`, at whatever
+-- byte the reading ends, that they spell nothing.
 abbrev pub Cause : Command → Status → List ℕ → Type 0
+Cause asked status.Syntax bytes =
+    (unread_reply asked ≡ None) × SpellsNothing (session_options asked) bytes
 Cause asked wanted bytes =
     (verdict : Verdict) × Comes asked bytes verdict × (wanted ≡ status_of verdict)

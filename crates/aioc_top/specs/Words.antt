@@ -1,5 +1,5 @@
 -- Which command words ask for, whether threads do it, and what holds of it.
-use Rattle.std.specs.Prelude.{◌≡◌, ◌≤◌, ℕ, List, [], ◌∷◌, Bool, true, false, ◌||◌, Option, codes}
+use Rattle.std.specs.Prelude.{◌≤◌, ℕ, List, [], ◌∷◌, Bool, true, false, ◌||◌, Option, codes}
 use Rattle.std.specs.Str.{bytes_eq}
 use Rattle.command_words.specs.Commands.{command_of, most_steps}
 use Rattle.command_words.specs.declared.commands.Command.{Command}

@@ -3,7 +3,7 @@
 ghost use Rattle.std.specs.Prelude.{◌≡◌, ◌≤◌, false, length, None, IfErr, IfOk};
 ghost use Rattle.std.specs.Io.KnownBytes.{IsAtEnd};
 ghost use Rattle.limits.specs.Limits.{most_bytes};
-ghost use Rattle.aioc_top.specs.Calls.{IsRead};
+ghost use Rattle.aioc_top.specs.Calls.{IsRead, ReadsWithinLimit};
 ghost use Rattle.aioc_top.specs.Faults.{ReadSo, Stops, StopsReading};
 ghost use Rattle.aioc_top.specs.Replies.{reply_of, unread_reply};
 ghost use Rattle.aioc_top.specs.Verdicts.{Replied};
@@ -103,6 +103,8 @@ fn read_text<S: Source>(alloc: Global, source: &mut S) -> Result<Vec<u8>, Fault>
     ensures bytes { IfOk result (λ bytes. IsRead (S.state source.old) bytes.items) }
     ensures end { IfOk result (λ bytes. IsAtEnd (S.state source.new).left) }
     ensures few { IfOk result (λ bytes. length bytes.items ≤ most_bytes) }
+    ensures within { IfOk result
+        (λ bytes. ReadsWithinLimit (S.state source.old) (S.state source.new)) }
     ensures fault { IfErr result (StopsReading (S.state source.old) (S.state source.new)) }
 {
     match read_all(alloc, source, MOST_BYTES) {

@@ -12,7 +12,7 @@ ghost use Rattle.net_laws.specs.Laws.{AcceptedIsSound, RunsAreSound, SchedulesRe
 ghost use Rattle.net_drive.specs.Laws.{DrivenExactly, DrivenRuns};
 ghost use Rattle.net_drive.specs.Strays.{DriveStraysAreExact};
 ghost use Rattle.net_drive.specs.ResumedLaws.{ResumedRuns, RunStraysAreExact};
-ghost use Rattle.aioc_top.specs.Calls.{Happens, PrintsReply};
+ghost use Rattle.aioc_top.specs.Calls.{Happens, PrintsReply, ReadsText};
 ghost use Rattle.aioc_top.specs.Faults.{line_of, status_of};
 ghost use Rattle.aioc_top.specs.Replies.{reply_of};
 ghost use Rattle.aioc_top.specs.Serve.{CheckText, ComesExactly, Complete, DriveText, GenText, HeadlineHolds, MendText, MonitorText, ProjectText, ReadsAll, ReplayText, ResumeText, RunText, SaysWhy, SessionsText, Silent, StepText, UpgradeText, UsageComes};
@@ -112,8 +112,8 @@ pub fn serve<R: Threads + Wait + Sync, S: Source, O: Sink, E: Sink, G: Gate + Sy
         (S.state source.old) }
     ensures refused { ComesExactly Status.Refused result (asked (word_texts words.now))
         (S.state source.old) }
-    ensures read_fault { result ≡ Status.ReadFault
-        → Rose (S.state source.old).faults (S.state source.new).faults }
+    ensures read_fault { result ≡ Status.ReadFault → ReadsText (asked (word_texts words.now))
+        × Rose (S.state source.old).faults (S.state source.new).faults }
     ensures write_fault { result ≡ Status.WriteFault
         → Rose (O.state out.old).faults (O.state out.new).faults }
     ensures complete { Complete result (asked (word_texts words.now)) (S.state source.old)
@@ -196,8 +196,8 @@ pub fn serve_alone<S: Source, O: Sink, E: Sink>(
         (S.state source.old) }
     ensures refused { ComesExactly Status.Refused result (asked (word_texts words.now))
         (S.state source.old) }
-    ensures read_fault { result ≡ Status.ReadFault
-        → Rose (S.state source.old).faults (S.state source.new).faults }
+    ensures read_fault { result ≡ Status.ReadFault → ReadsText (asked (word_texts words.now))
+        × Rose (S.state source.old).faults (S.state source.new).faults }
     ensures write_fault { result ≡ Status.WriteFault
         → Rose (O.state out.old).faults (O.state out.new).faults }
     ensures complete { Complete result (asked (word_texts words.now)) (S.state source.old)
@@ -386,11 +386,14 @@ fn do_sessions<R: Threads + Wait + Sync, S: Source, O: Sink, E: Sink>(
     }
 }
 
-// Writes the text of a command.
+// Writes the text of a command. Where it is empty, `out` isn't called.
 fn print<O: Sink, E: Sink>(written: &Written, out: &mut O, err: &mut E) -> Status
     ensures { PrintsReply (reply_of written.now) (O.state out.old) (O.state out.new)
         (E.state err.old) (E.state err.new) result }
 {
+    if written.text.is_empty() {
+        return written.end.status();
+    }
     match write_all(out, &written.text) {
         Ok(()) => written.end.status(),
         Err(Failed) => report(&Fault::WriteFault, err),

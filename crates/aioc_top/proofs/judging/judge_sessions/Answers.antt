@@ -1,5 +1,5 @@
 -- The reply to the sessions that the bytes spell, and the fault of bytes that spell none.
-use Rattle.std.proofs.Common.{ap, ◌∙◌}
+use Rattle.std.proofs.Common.{Err, ap, ◌∙◌}
 use Rattle.std.proofs.lemmas.List.Elements.{All-map}
 use Rattle.std.specs.Prelude.{map}
 use Rattle.dioc_terms.specs.Bundles.{IsFormed}
@@ -19,4 +19,5 @@ returns-in-Ok-sessions-clause-reply g c = record {
 pub returns-in-Err-Syntax-clause-fault : goal.returns-in-Err-Syntax-clause-fault
 returns-in-Err-Syntax-clause-fault g c =
     unspelled_sessions c.args.options.now c.args.bytes.now c.in-Err-Syntax.byte c.syntax_fault.result c.requires.small
-    (told_syntax c.in-Err-Syntax.field-0 c.in-Err-Syntax.byte c.in-Err-Syntax.ensures.syntax c.in-Err-Syntax.field-0-is) c.syntax_fault.ensures
+    (told_syntax c.in-Err-Syntax.field-0 c.in-Err-Syntax.byte c.in-Err-Syntax.ensures.syntax c.in-Err-Syntax.field-0-is)
+    (c.in-Err-Syntax.ensures.byte c.in-Err-Syntax.byte (ap Err c.in-Err-Syntax.field-0-is)) c.syntax_fault.ensures

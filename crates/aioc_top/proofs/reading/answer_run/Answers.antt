@@ -16,7 +16,7 @@ returns-in-Ok-clause-fault g c =
     let run = command.Run c.args.options.now in
     let all = c.in-Ok.bytes.items in
     let judged : IfErr c.judge_run.result (IsJudgedSo run all) = subst (λ bs. IfErr c.judge_run.result (IsJudgedSo run bs)) c.deref.ensures.value c.judge_run.ensures.fault in
-    mapped_fault (λ f h. stops run (g.S.Source.state c.args.source.now) (g.S.Source.state c.read_text.new.source) refl refl all c.in-Ok.ensures.bytes c.in-Ok.ensures.end f h)
+    mapped_fault (λ f h. stops run (g.S.Source.state c.args.source.now) (g.S.Source.state c.read_text.new.source) refl refl all c.in-Ok.ensures.bytes c.in-Ok.ensures.end c.in-Ok.ensures.within f h)
     c.judge_run.result judged
 
 pub returns-in-Ok-clause-reply : goal.returns-in-Ok-clause-reply

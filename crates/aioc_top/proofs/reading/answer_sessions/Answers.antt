@@ -15,7 +15,7 @@ returns-in-Ok-clause-fault g c =
     let all = c.in-Ok.bytes.items in
     let options = c.args.options.now in
     let judged : IfErr c.judge_sessions.result (IsUnspelledSo options all) = subst (λ bs. IfErr c.judge_sessions.result (IsUnspelledSo options bs)) c.deref.ensures.value c.judge_sessions.ensures.fault in
-    mapped_fault (λ f h. sessions_stop options (g.S.Source.state c.args.source.now) (g.S.Source.state c.read_text.new.source) all c.in-Ok.ensures.bytes c.in-Ok.ensures.end f h)
+    mapped_fault (λ f h. sessions_stop options (g.S.Source.state c.args.source.now) (g.S.Source.state c.read_text.new.source) all c.in-Ok.ensures.bytes c.in-Ok.ensures.end c.in-Ok.ensures.within f h)
     c.judge_sessions.result judged
 
 pub returns-in-Ok-clause-reply : goal.returns-in-Ok-clause-reply

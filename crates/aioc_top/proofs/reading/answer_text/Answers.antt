@@ -17,7 +17,7 @@ returns-in-Ok-clause-fault g c =
     let all = c.in-Ok.bytes.items in
     let judged : IfErr c.judge.result (IsJudgedSo c.args.command.now all) = subst (λ bs. IfErr c.judge.result (IsJudgedSo c.args.command.now bs)) c.deref.ensures.value c.judge.ensures.fault in
     mapped_fault (λ f h. stops c.args.command.now (g.S.Source.state c.args.source.now) (g.S.Source.state c.read_text.new.source) (alone_single c.args.command.now c.requires.alone) c.requires.reads all
-    c.in-Ok.ensures.bytes c.in-Ok.ensures.end f h) c.judge.result judged
+    c.in-Ok.ensures.bytes c.in-Ok.ensures.end c.in-Ok.ensures.within f h) c.judge.result judged
 
 pub returns-in-Ok-clause-reply : goal.returns-in-Ok-clause-reply
 returns-in-Ok-clause-reply g c =

@@ -1,5 +1,5 @@
 -- The line is that of the run that the schedule takes of the made bundle.
-use Rattle.std.proofs.Common.{◌≡◌, ◌↔◌, length, true, false, None, ap, ◌∙◌, subst, arith}
+use Rattle.std.proofs.Common.{◌≡◌, ◌↔◌, length, true, false, None, ◌∙◌, subst, arith}
 use Rattle.dioc_terms.specs.Plain.{PlainBundle, plain}
 use Rattle.network_steps.specs.Network.{network_ended}
 use Rattle.network_steps.specs.Schedule.{sched_from}

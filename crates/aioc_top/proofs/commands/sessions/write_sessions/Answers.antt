@@ -1,5 +1,5 @@
 -- Each session that is written is the next of those that were left.
-use Rattle.std.proofs.Common.{◌≡◌, ◌+◌, suc, [], ◌∷◌, ◌++◌, append-nil, append_assoc, drop, drop_of_length-le, sym, ap, ◌∙◌, subst, arith}
+use Rattle.std.proofs.Common.{◌≡◌, ◌+◌, suc, [], ◌∷◌, ◌++◌, append-nil, append_assoc, drop, drop_of_length-le, sym, ap, ◌∙◌, arith}
 use Rattle.std.proofs.Math.Seq.{drop-cons}
 use Rattle.std.specs.Prelude.{map}
 use Rattle.session_pool.specs.Answers.{answer_seen}
