@@ -12,6 +12,7 @@ pub mod SeatLemmas
 pub mod MetLemmas
 pub mod HoldLemmas
 pub mod MarkLemmas
+pub mod HeldLemmas
 pub mod SeatingLemmas
 pub mod Crossing
 pub mod Examples

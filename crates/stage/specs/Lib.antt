@@ -9,3 +9,4 @@ pub mod Laws
 pub mod Changes
 pub mod Begins
 pub mod Marks
+pub mod Held

@@ -1,6 +1,6 @@
 //! The script's next change, made in a home.
 
-ghost use Rattle.std.specs.Prelude.{◌≡◌, ◌≢◌, IfErr, OnErr, OnOk, None, Some, length, map, nat_lt, slice_get};
+ghost use Rattle.std.specs.Prelude.{◌≡◌, ◌≢◌, IfErr, IfSome, OnErr, OnOk, None, Some, length, map, nat_lt, slice_get};
 ghost use Rattle.std.specs.List.{list_all};
 ghost use Rattle.std.specs.Option.{option_or};
 ghost use Rattle.dioc_terms.specs.Messages.{visible};
@@ -21,6 +21,7 @@ impl Home {
         ensures changed { OnOk result (IsChanged self.old self.new) }
         ensures first { IfErr result
             (λ f. f ≢ CommitFault.Memory → feeder_fault self.old ≡ Some f) }
+        ensures short { IfErr result (λ f. f ≡ CommitFault.Memory → feeder_fault self.old ≡ None) }
         ensures err { OnErr result (self.new ≡ self.old) }
     {
         if let Some(fault) = self.feeder_fault() {
@@ -46,7 +47,8 @@ impl Home {
 
     /// Why the script's next change may not be made now.
     pub(crate) fn feeder_fault(&self) -> Option<CommitFault>
-        ensures { result ≡ feeder_fault self.now }
+        ensures first { result ≡ feeder_fault self.now }
+        ensures apart { IfSome result (λ f. f ≢ CommitFault.Memory) }
     {
         if let Some(why) = self.stopped {
             return Some(CommitFault::Stopped(why));
@@ -67,8 +69,9 @@ impl Home {
     /// Why the script's next change may not be made in a run that goes on: there is none, the
     /// history is full, or it isn't due.
     fn next_fault(&self) -> Option<CommitFault>
-        ensures { result ≡ next_fault self.now
+        ensures first { result ≡ next_fault self.now
             (slice_get self.now.bundle.script (changes_in self.now.history)) }
+        ensures apart { IfSome result (λ f. f ≢ CommitFault.Memory) }
     {
         match first_after(&self.coming) {
             None => Some(CommitFault::NoMore),
@@ -78,8 +81,9 @@ impl Home {
 
     /// Why a change that is to come after so many visible entries may not be made now.
     fn fault_before(&self, after: u64) -> Option<CommitFault>
-        ensures { result ≡ option_or (full_fault self.now)
+        ensures first { result ≡ option_or (full_fault self.now)
             (fault_if (nat_lt (length (visible self.now.history)) after) CommitFault.NotYet) }
+        ensures apart { IfSome result (λ f. f ≢ CommitFault.Memory) }
     {
         if self.is_full() {
             return Some(CommitFault::Full);

@@ -29,6 +29,7 @@ impl Home {
             (self.new ≡ with_entry self.old (entry.Put key (noted (load payload)))) }
         ensures first { IfErr result
             (λ f. f ≢ CommitFault.Memory → role_fault self.old ≡ Some f) }
+        ensures short { IfErr result (λ f. f ≡ CommitFault.Memory → role_fault self.old ≡ None) }
         ensures err { OnErr result (self.new ≡ self.old) }
     {
         if let Some(fault) = self.role_fault() {
@@ -69,6 +70,8 @@ impl Home {
         ensures added { OnOk result (self.new ≡ with_entry self.old (entry.Take key.now var)) }
         ensures first { IfErr result
             (λ f. f ≢ CommitFault.Memory → take_fault key.now self.old ≡ Some f) }
+        ensures short { IfErr result
+            (λ f. f ≡ CommitFault.Memory → take_fault key.now self.old ≡ None) }
         ensures err { OnErr result (self.new ≡ self.old) }
     {
         if let Some(fault) = self.take_fault(key) {
@@ -106,6 +109,7 @@ impl Home {
         ensures added { OnOk result (self.new ≡ with_entry self.old entry) }
         ensures first { IfErr result
             (λ f. f ≢ CommitFault.Memory → role_fault self.old ≡ Some f) }
+        ensures short { IfErr result (λ f. f ≡ CommitFault.Memory → role_fault self.old ≡ None) }
         ensures err { OnErr result (self.new ≡ self.old) }
     {
         if let Some(fault) = self.role_fault() {

@@ -3,6 +3,7 @@
 ghost use Rattle.std.specs.Prelude.{◌≡◌, IfErr, IfOk, OnOk};
 ghost use Rattle.dioc_terms.specs.KeptStores.{store_of};
 ghost use Rattle.stage.specs.Faults.{feeder_fault, role_fault};
+ghost use Rattle.stage.specs.Held.{AddedOnce, RefusedOnce};
 ghost use Rattle.stage.specs.Holds.{CanCommitScope, CommittedChange, CommittedScope, IsFeeder};
 ghost use Rattle.stage.specs.Seats.{RefusedFor};
 
@@ -16,7 +17,7 @@ use turn_lock::Seat;
 
 impl Stage {
     ghost use Rattle.stage.specs.Stages.{IsSeatIn};
-    ghost use Rattle.turn_lock.specs.Words.{view};
+    ghost use Rattle.turn_lock.specs.Words.{view, known};
 
     /// Begins a scope for its leader, whose store this is. The answer is the rule that the book
     /// chooses in this hold, by its number, and the number of the update; `None` where the book
@@ -35,6 +36,9 @@ impl Stage {
             head.now (store_of store.now) update) }
         ensures refused { IfErr result.1
             (λ f. RefusedFor role_fault (view seat) (view result.0) f) }
+        ensures added { OnOk result.1 (AddedOnce role_fault (known seat) (known result.0)) }
+        ensures judged { IfErr result.1
+            (λ f. RefusedOnce role_fault (known seat) (known result.0) f) }
     {
         deeds_move();
         process_steps::offers_are_steps();
@@ -62,6 +66,9 @@ impl Stage {
         ensures done { OnOk result.1 (CommittedChange (view seat) (view result.0)) }
         ensures refused { IfErr result.1
             (λ f. RefusedFor feeder_fault (view seat) (view result.0) f) }
+        ensures added { OnOk result.1 (AddedOnce feeder_fault (known seat) (known result.0)) }
+        ensures judged { IfErr result.1
+            (λ f. RefusedOnce feeder_fault (known seat) (known result.0) f) }
     {
         let mut turn = self.enter(rt, seat);
         match turn.home().change() {

@@ -1,12 +1,13 @@
 //! What lies under the lock of a stage: all that the roles share.
 
-ghost use Rattle.std.specs.Prelude.{◌≡◌, nat_le, length};
+ghost use Rattle.std.specs.Prelude.{◌≡◌, ◌≢◌, IfSome, nat_le, length};
 ghost use Rattle.dioc_terms.specs.Plain.{plain};
 ghost use Rattle.network_steps.specs.Schedule.{change_is_due};
 ghost use Rattle.stage.specs.Faults.{role_fault, take_fault};
 ghost use Rattle.stage.specs.Homes.{IsSoundHome};
 
 use crate::faults::{CommitFault, Why};
+use crate::marks::Marks;
 use dioc_terms::{Bundle, Entry, Key, Name, Roles};
 use net_core::{Coming, is_first_due};
 use role_mailbox::Mail;
@@ -102,11 +103,14 @@ impl Model for StageBase {
 }
 
 impl Chronicle for Home {
+    ghost use Rattle.stage.specs.Marks.{MarksGrow, marks_go_on, marks_of, marks_stay};
     ghost use Rattle.stage.specs.Owners.{owner_in};
 
     type Item = Entry;
 
     type Base = StageBase;
+
+    type Mark = Marks;
 
     ghost items = { λ home. home.history };
 
@@ -114,9 +118,17 @@ impl Chronicle for Home {
 
     ghost owner = { λ base entry. owner_in base.0.cast entry };
 
+    ghost at = { λ home. marks_of home };
+
+    ghost grows = { MarksGrow };
+
     fn count(&self) -> u64 {
         self.history.len()
     }
+
+    ghost stays = { marks_stay };
+
+    ghost goes_on = { marks_go_on };
 }
 
 impl Home {
@@ -152,7 +164,8 @@ impl Home {
 
     /// Why no role may commit now, whatever it does.
     pub(crate) fn role_fault(&self) -> Option<CommitFault>
-        ensures { result ≡ role_fault self.now }
+        ensures first { result ≡ role_fault self.now }
+        ensures apart { IfSome result (λ f. f ≢ CommitFault.Memory) }
     {
         if let Some(why) = self.stopped {
             return Some(CommitFault::Stopped(why));
@@ -182,7 +195,8 @@ impl Home {
 
     /// Why the take of a role is refused now.
     pub(crate) fn take_fault(&self, key: &Key) -> Option<CommitFault>
-        ensures { result ≡ take_fault key.now self.now }
+        ensures first { result ≡ take_fault key.now self.now }
+        ensures apart { IfSome result (λ f. f ≢ CommitFault.Memory) }
     {
         if let Some(fault) = self.role_fault() {
             return Some(fault);

@@ -36,6 +36,7 @@ impl Home {
             (self.new ≡ with_entry self.old (begin_in self.old head.now (store_of store.now))) }
         ensures first { IfErr result
             (λ f. f ≢ CommitFault.Memory → role_fault self.old ≡ Some f) }
+        ensures short { IfErr result (λ f. f ≡ CommitFault.Memory → role_fault self.old ≡ None) }
         ensures err { OnErr result (self.new ≡ self.old) }
     {
         if let Some(fault) = self.role_fault() {

@@ -1,7 +1,10 @@
 //! The calls of a stage that add no entry: a role has finished, or the stage is to stop.
 
 ghost use Rattle.std.specs.Prelude.{◌≡◌};
+ghost use Rattle.stage.specs.Held.{HeldOnce};
 ghost use Rattle.stage.specs.Holds.{HasFinished, SawHome, SawLimit};
+ghost use Rattle.stage.specs.Homes.{HomeState};
+ghost use Rattle.stage.specs.Marks.{with_finished, with_stop};
 
 use crate::faults::Why;
 use crate::home::Home;
@@ -12,7 +15,7 @@ use turn_lock::Seat;
 
 impl Stage {
     ghost use Rattle.stage.specs.Stages.{IsSeatIn};
-    ghost use Rattle.turn_lock.specs.Words.{view};
+    ghost use Rattle.turn_lock.specs.Words.{view, known};
 
     /// Marks the seat's role, whose process has ended, as finished. Once all are, changes are
     /// refused and nobody waits any more.
@@ -21,6 +24,8 @@ impl Stage {
         requires ended { HasFinished (view seat) role.now }
         ensures of { IsSeatIn self.now result }
         ensures saw { SawHome (view seat) (view result) }
+        ensures marked { (home : HomeState)
+            × HeldOnce (known seat) (known result) home (with_finished home role.now) }
     {
         let mut turn = self.enter(rt, seat);
         let home = turn.home();
@@ -39,6 +44,8 @@ impl Stage {
         requires cut { why ≡ Why.Limit → SawLimit (view seat) }
         ensures of { IsSeatIn self.now result }
         ensures saw { SawHome (view seat) (view result) }
+        ensures marked { (home : HomeState)
+            × HeldOnce (known seat) (known result) home (with_stop home why) }
     {
         let mut turn = self.enter(rt, seat);
         turn.home().stop(why);

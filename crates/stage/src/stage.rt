@@ -1,17 +1,20 @@
 //! The stage: the calls by which threads of roles share one history.
 
-ghost use Rattle.std.specs.Prelude.{◌≡◌, ◌≢◌, ◌<◌, ◌≤◌, All, true, IfErr, IfOk, IfSome, Some, length, map, slice_get};
+ghost use Rattle.std.specs.Prelude.{◌≡◌, ◌≢◌, ◌<◌, ◌≤◌, All, true, IfErr, IfOk, OnOk, Some, length, map};
 ghost use Rattle.dioc_terms.specs.declared.entries.Act.TheVariants as acts;
 ghost use Rattle.dioc_terms.specs.Plain.{plain};
 ghost use Rattle.dioc_terms.specs.Processes.{load};
 ghost use Rattle.marked_laws.specs.Laws.{IsSound};
 ghost use Rattle.process_steps.specs.Steps.{Alone, Got, Puts, Takes};
+ghost use Rattle.stage.specs.declared.marks.Marks.{Marks};
 ghost use Rattle.stage.specs.Faults.{role_fault, take_fault};
-ghost use Rattle.stage.specs.Homes.{IsSoundHome};
+ghost use Rattle.stage.specs.Held.{AddedOnce, IsNewWith, RefusedOnce};
+ghost use Rattle.stage.specs.Homes.{IsSoundHome, opening_home};
+ghost use Rattle.stage.specs.Marks.{MarksGrow, marks_of};
 ghost use Rattle.stage.specs.Roles.{is_input, is_pick, is_assignment};
 ghost use Rattle.stage.specs.Seats.{CanCommit, CanCommitOwn, CanReceive, Committed, CommittedOwn, IsClosed, RefusedFor, StillStands, opening_views};
 ghost use Rattle.turn_lock.specs.Items.{BeginsWith};
-ghost use Rattle.turn_lock.specs.Views.{entered};
+ghost use Rattle.turn_lock.specs.Views.{entered, entered_known};
 
 use crate::faults::CommitFault;
 use crate::home::Home;
@@ -40,7 +43,7 @@ impl Drop for Stage {
 
 impl Stage {
     ghost use Rattle.stage.specs.Stages.{IsSameStage, IsSeatIn};
-    ghost use Rattle.turn_lock.specs.Words.{view, turn_view, claim_of, IsTurnOf};
+    ghost use Rattle.turn_lock.specs.Words.{view, turn_view, known, turn_known, claim_of, FirstIs, IsTurnOf};
 
     /// The stage of a bundle before its first entry, for a history of at most `limit` entries. Its
     /// seats are one for each role, in the cast's order, and the feeder's last; they are numbered
@@ -55,6 +58,9 @@ impl Stage {
         ensures of { IfOk result (λ made. All (λ s. IsSeatIn made.0 s) made.1.items) }
         ensures views { IfOk result (λ made. map view made.1.items
             ≡ opening_views (plain bundle.now, limit) (length bundle.now.cast)) }
+        ensures knows { IfOk result (λ made. All (λ s.
+            IsNewWith (marks_of (opening_home (plain bundle.now) limit)) (known s))
+            made.1.items) }
     {
         let home = Home::start(alloc, bundle, limit)?;
         let Ok((turns, first)) = Turns::new(alloc, home) else {
@@ -70,6 +76,10 @@ impl Stage {
         requires of { IsSeatIn self.now seat }
         ensures of { IsTurnOf self.now.turns result }
         ensures view { turn_view result ≡ entered (view seat) result.home.history }
+        ensures knows { turn_known result
+            ≡ entered_known (known seat) result.home.history (marks_of result.home) }
+        ensures grown { (m : Marks) → (known seat).at ≡ Some m
+            → MarksGrow m (marks_of result.home) }
         ensures base { (view seat).base ≡ Some (result.home.bundle, result.home.limit) }
         ensures sound { IsSoundHome result.home }
         ensures still { StillStands (view seat) result.home.history }
@@ -98,6 +108,9 @@ impl Stage {
             key.from (acts.Put key) Alone (Puts key (load payload))) }
         ensures refused { IfErr result.1
             (λ f. RefusedFor role_fault (view seat) (view result.0) f) }
+        ensures added { OnOk result.1 (AddedOnce role_fault (known seat) (known result.0)) }
+        ensures judged { IfErr result.1
+            (λ f. RefusedOnce role_fault (known seat) (known result.0) f) }
     {
         deeds_move();
         let mut turn = self.enter(rt, seat);
@@ -129,6 +142,10 @@ impl Stage {
             (Takes key.now var (load payload))) }
         ensures refused { IfErr result.1
             (λ f. RefusedFor (take_fault key.now) (view seat) (view result.0) f) }
+        ensures added { OnOk result.1
+            (AddedOnce (take_fault key.now) (known seat) (known result.0)) }
+        ensures judged { IfErr result.1
+            (λ f. RefusedOnce (take_fault key.now) (known seat) (known result.0) f) }
     {
         deeds_move();
         steps_run();
@@ -162,6 +179,9 @@ impl Stage {
             (λ _. CommittedOwn role_fault (view seat) (view result.0) entry) }
         ensures refused { IfErr result.1
             (λ f. RefusedFor role_fault (view seat) (view result.0) f) }
+        ensures added { OnOk result.1 (AddedOnce role_fault (known seat) (known result.0)) }
+        ensures judged { IfErr result.1
+            (λ f. RefusedOnce role_fault (known seat) (known result.0) f) }
     {
         self.commit_own(rt, seat, entry)
     }
@@ -182,6 +202,9 @@ impl Stage {
             (λ _. CommittedOwn role_fault (view seat) (view result.0) entry) }
         ensures refused { IfErr result.1
             (λ f. RefusedFor role_fault (view seat) (view result.0) f) }
+        ensures added { OnOk result.1 (AddedOnce role_fault (known seat) (known result.0)) }
+        ensures judged { IfErr result.1
+            (λ f. RefusedOnce role_fault (known seat) (known result.0) f) }
     {
         self.commit_own(rt, seat, entry)
     }
@@ -202,6 +225,9 @@ impl Stage {
             (λ _. CommittedOwn role_fault (view seat) (view result.0) entry) }
         ensures refused { IfErr result.1
             (λ f. RefusedFor role_fault (view seat) (view result.0) f) }
+        ensures added { OnOk result.1 (AddedOnce role_fault (known seat) (known result.0)) }
+        ensures judged { IfErr result.1
+            (λ f. RefusedOnce role_fault (known seat) (known result.0) f) }
     {
         self.commit_own(rt, seat, entry)
     }
@@ -220,6 +246,9 @@ impl Stage {
             (λ _. CommittedOwn role_fault (view seat) (view result.0) entry) }
         ensures refused { IfErr result.1
             (λ f. RefusedFor role_fault (view seat) (view result.0) f) }
+        ensures added { OnOk result.1 (AddedOnce role_fault (known seat) (known result.0)) }
+        ensures judged { IfErr result.1
+            (λ f. RefusedOnce role_fault (known seat) (known result.0) f) }
     {
         deeds_move();
         process_steps::steps_show_their_acts();
@@ -246,21 +275,17 @@ impl Stage {
         self.pulse.count(rt)
     }
 
-    /// Ends the stage and gives its history, where the seats are all that were made, the first seat
-    /// first. The history begins with what each seat has seen. Else the stage and the seats come
-    /// back.
+    /// Ends the stage and gives its history, where the seats are all that were made, in any order.
+    /// The history begins with what each seat has seen. Else the stage and the seats come back.
     pub fn close(self, seats: Vec<Seat<Home>>) -> Result<History, (Stage, Vec<Seat<Home>>)>
         requires of { All (λ s. IsSeatIn self s) seats.items }
-        requires first { 0 < length seats.items
-            → IfSome (slice_get seats.items 0) (λ s. 0 < (view s).made) }
-        ensures missing { IfErr result (λ back. IfSome (slice_get seats.items 0) (λ s.
-            (view s).made ≢ length seats.items)) }
+        ensures missing { IfErr result (λ back.
+            All (λ s. (view s).made ≢ length seats.items) seats.items) }
         ensures back { IfErr result (λ back.
             IsSameStage back.0 self × (back.1.items ≡ seats.items)) }
         ensures some { IfOk result (λ _. 0 < length seats.items) }
-        ensures closed { IfOk result (λ history. IfSome (slice_get seats.items 0) (λ s.
-            ((view s).made ≡ length seats.items)
-            × IsClosed (view s) history.entries (map claim_of seats.items))) }
+        ensures closed { IfOk result (λ history.
+            FirstIs (λ v. IsClosed v history.entries (map claim_of seats.items)) seats.items) }
         ensures begins { IfOk result (λ history.
             All (λ s. BeginsWith history.entries (view s).seen) seats.items) }
     {

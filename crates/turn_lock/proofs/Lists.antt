@@ -5,9 +5,11 @@ use mathlib.Core.Logic.{dite}
 use native.Mathlib.Decide.{ℕ_discrete}
 use lib.ListN.{get_elem?}
 use Rattle.std.proofs.lemmas.List.Elements.{filter-append, All-nil, All-cons}
+use Rattle.std.specs.Prelude.{fold, IsPermutation}
+use Rattle.std.proofs.lemmas.List.Sorted.{All-permutation, length_permutation, sum_by-IsPermutation}
 use Rattle.atomic_table.proofs.Lists.{at_set}
 use Rattle.turn_lock.specs.declared.views.Claim.{Claim}
-use Rattle.turn_lock.specs.Items.{total, items_of, BeginsWith, claim, Each, IsOwn, IsOwnOfOne, IsAllOf, one_if, times}
+use Rattle.turn_lock.specs.Items.{total, items_of, BeginsWith, claim, Each, IsOwn, IsOwnOfOne, IsAllOf, Shares, one_if, times}
 
 -- numbers
 
@@ -193,3 +195,35 @@ below_times (c ∷ cs) k past =
 
 pub each_once : {I : Type 0} (cs : List (Claim I)) → ((n : ℕ) → length cs ≤ n → times n cs ≡ 0) → ((n : ℕ) → n < length cs → times n cs ≤ 1) → (n : ℕ) → n < length cs → times n cs ≡ 1
 each_once cs past most = below_full (λ n. times n cs) (length cs) most (below_times cs (length cs) past)
+
+-- the claims in another order
+
+module _ {A : Type 0} where
+  total_fold : (f : A → ℕ) (xs : List A) (a : ℕ) → fold (λ b x. b + f x) a xs ≡ a + total f xs
+  total_fold f [] a = omega arith
+  total_fold f (x ∷ xs) a = let t = total_fold f xs (a + f x) in omega arith
+
+  total_permuted : (f : A → ℕ) (xs ys : List A) → IsPermutation xs ys → total f ys ≡ total f xs
+  total_permuted f xs ys p =
+      let s = total_fold f xs 0 in
+      let t = total_fold f ys 0 in
+      let e : fold (λ b x. b + f x) 0 ys ≡ fold (λ b x. b + f x) 0 xs = sum_by-IsPermutation f xs ys p in
+      omega arith
+
+  each_of_all : (P : A → Type 0) (xs : List A) → All P xs → Each P xs
+  each_of_all P [] all = tt
+  each_of_all P (x ∷ xs) all = (all 0 x (omega arith), each_of_all P xs (λ k d lt. all (suc k) d (omega arith)))
+
+  all_of_each : (P : A → Type 0) (xs : List A) → Each P xs → All P xs
+  all_of_each P [] each = All-nil P
+  all_of_each P (x ∷ xs) each = All-cons P x xs each.0 (all_of_each P xs each.1)
+
+module _ {I : Type 0} where
+  pub shares_permuted : (owner : I → ℕ) (items : List I) (cs ds : List (Claim I)) → IsPermutation cs ds → Shares owner items cs → Shares owner items ds
+  shares_permuted owner items cs ds p s =
+      let long : length ds ≡ length cs = length_permutation cs ds p in
+      record {
+        each = each_of_all (IsOwn owner items) ds (All-permutation (IsOwn owner items) cs ds p (all_of_each (IsOwn owner items) cs s.each));
+        once = λ n lt. total_permuted (λ (c : Claim I). one_if c.number n) cs ds p ∙ s.once n (omega arith);
+        none = λ n le. s.none n (omega arith);
+      }

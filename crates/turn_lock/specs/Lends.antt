@@ -4,10 +4,11 @@ use Rattle.turn_lock.specs.declared.chronicle.Chronicle.{Ghosts}
 use Rattle.turn_lock.specs.declared.turns.Turn.{Turn}
 use Rattle.turn_lock.specs.contracts.turns.Turn.{the_row}
 
-abbrev pub with_home : {H I B : Type 0} {g : Ghosts H I B} → Turn H I B g → H → Turn H I B g
+abbrev pub with_home : {H I B M : Type 0} {g : Ghosts H I B M} → Turn H I B M g → H
+    → Turn H I B M g
 with_home turn home = record turn { home = home }
 
-module _ (H I B : RattleType) (g : Ghosts H.Denot I.Denot B.Denot) where
+module _ (H I B M : RattleType) (g : Ghosts H.Denot I.Denot B.Denot M.Denot) where
   -- the turn has the value that is written last
-  abbrev pub LendsHome : MutBor (Turn H.Denot I.Denot B.Denot g) → MutBor H.Denot → Fml
-  LendsHome turn home = Lends (the_row H I B g) H turn home (with_home turn.now)
+  abbrev pub LendsHome : MutBor (Turn H.Denot I.Denot B.Denot M.Denot g) → MutBor H.Denot → Fml
+  LendsHome turn home = Lends (the_row H I B M g) H turn home (with_home turn.now)

@@ -2,6 +2,7 @@
 use Rattle.std.specs.Prelude.{◌≡◌, ℕ, ◌+◌, List, [], ◌∷◌, ◌++◌, true, false, Some, None}
 use Rattle.turn_lock.specs.declared.views.Claim.{Claim}
 use Rattle.turn_lock.specs.declared.views.View.{View}
+use Rattle.turn_lock.specs.declared.views.Known.{Known}
 use Rattle.turn_lock.specs.Items.{BeginsWith, Each, claim}
 
 module _ {I : Type 0} where
@@ -88,3 +89,38 @@ module _ {I B : Type 0} where
         made = 0;
         others_seen = [];
       }
+
+-- The same of what a seat knows, with the mark.
+module _ {I B M : Type 0} where
+  -- of a new lock's seat, where the value has this mark
+  abbrev pub first_known : B → M → Known I B M
+  first_known b m = record { view = first_view b; at = Some m; found = Some m; turns = 0 }
+
+  -- of the seat that has made one more
+  abbrev pub split_known : Known I B M → Known I B M
+  split_known k = record k { view = split_view k.view }
+
+  -- of the seat that it made
+  abbrev pub new_known : Known I B M → Known I B M
+  new_known k = record k { view = new_view k.view; turns = 0 }
+
+  -- of a seat that has the turn, where the list and the mark are these
+  abbrev pub entered_known : Known I B M → List I → M → Known I B M
+  entered_known k items m =
+      record k { view = entered k.view items; found = Some m; turns = k.turns + 1 }
+
+  -- of a seat that has left the list as it found it, with this mark
+  abbrev pub left_known : Known I B M → M → Known I B M
+  left_known k m = record k { view = left k.view; at = Some m }
+
+  -- of a seat that has left, with these items more and this mark
+  abbrev pub left_with_known : Known I B M → List I → M → Known I B M
+  left_with_known k more m = record k { view = left_with k.view more; at = Some m }
+
+  -- of two seats that were joined into the first
+  abbrev pub joined_known : Known I B M → Known I B M → Known I B M
+  joined_known k l = record k { view = joined k.view l.view }
+
+  -- of the second of them
+  abbrev pub spent_known : Known I B M
+  spent_known = record { view = spent; at = None; found = None; turns = 0 }

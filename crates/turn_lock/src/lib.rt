@@ -8,4 +8,4 @@ mod views;
 
 pub use chronicle::Chronicle;
 pub use turns::{Memory, Missing, Seat, Turn, Turns};
-pub use views::{Claim, View};
+pub use views::{Claim, Known, View};

@@ -1,12 +1,12 @@
 //! The lock, its seats and their turns.
-ghost use Rattle.std.specs.Prelude.{◌≡◌, ◌≢◌, ◌+◌, ◌*◌, ◌^◌, ◌<◌, ◌≤◌, List, [], ◌∷◌, ◌++◌, length, map, All, slice_get, IfOk, IfErr, IfSome, true, false, Some, None};
+ghost use Rattle.std.specs.Prelude.{◌≡◌, ◌≢◌, ℕ, ◌+◌, ◌*◌, ◌^◌, ◌<◌, ◌≤◌, List, [], ◌∷◌, ◌++◌, length, map, All, slice_get, IfOk, IfErr, IfSome, IfNone, true, false, Some, None};
 ghost use Rattle.turn_lock.specs.Items.{items_of, BeginsWith, IsAllOf, Shares};
-ghost use Rattle.turn_lock.specs.Views.{number, mine, BeginsWithAll, IsSingle, first_view, split_view, new_view, entered, left, left_with};
+ghost use Rattle.turn_lock.specs.Views.{number, mine, BeginsWithAll, IsSingle, first_view, split_view, new_view, entered, left, left_with, first_known, split_known, new_known, entered_known, left_known, left_with_known};
 ghost use Rattle.turn_lock.specs.Rule.{Fits};
 
 use crate::chronicle::Chronicle;
 use crate::law::{AllSeats, EndsTurn, Law, NewSeat, TakesTurn};
-use crate::views::View;
+use crate::views::Known;
 use atomic_table::{Refused, Table};
 use std::alloc::Global;
 use std::snapshot::Snapshot;
@@ -16,11 +16,14 @@ use std::sync::Wait;
 #[derive(Clone, Copy, Debug, PartialEq, Eq)]
 pub struct Memory;
 
-type Token<H> = atomic_table::Seat<Option<H>, View<<H as Chronicle>::Item, <H as Chronicle>::Base>>;
+type Token<H> = atomic_table::Seat<
+    Option<H>,
+    Known<<H as Chronicle>::Item, <H as Chronicle>::Base, <H as Chronicle>::Mark>,
+>;
 
 type Words<H> = Table<
     Option<H>,
-    View<<H as Chronicle>::Item, <H as Chronicle>::Base>,
+    Known<<H as Chronicle>::Item, <H as Chronicle>::Base, <H as Chronicle>::Mark>,
     Snapshot<H>,
     Law<H>,
     Global,
@@ -39,9 +42,9 @@ pub struct Seat<H: Chronicle> {
     token: Token<H>,
     seen: u64,
     made: u64,
-    ghost waits: { (token.me.1 ≡ []) × (token.me.0.holds ≡ false) },
-    ghost single: { IsSingle token.me.0 },
-    ghost counts: { (seen ≡ length token.me.0.seen) × (made ≡ token.me.0.made) },
+    ghost waits: { (token.me.1 ≡ []) × (token.me.0.view.holds ≡ false) },
+    ghost single: { IsSingle token.me.0.view },
+    ghost counts: { (seen ≡ length token.me.0.view.seen) × (made ≡ token.me.0.view.made) },
 }
 
 // The turn, while the value is out.
@@ -49,9 +52,9 @@ struct Hold<H: Chronicle> {
     token: Token<H>,
     seen: u64,
     made: u64,
-    ghost holds: { (token.me.1 ≡ (0, None) ∷ []) × (token.me.0.holds ≡ true) },
-    ghost single: { IsSingle token.me.0 },
-    ghost counts: { (seen ≡ length token.me.0.seen) × (made ≡ token.me.0.made) },
+    ghost holds: { (token.me.1 ≡ (0, None) ∷ []) × (token.me.0.view.holds ≡ true) },
+    ghost single: { IsSingle token.me.0.view },
+    ghost counts: { (seen ≡ length token.me.0.view.seen) × (made ≡ token.me.0.view.made) },
     ghost fits: { seen < 2 ^ 63 },
 }
 
@@ -70,16 +73,17 @@ pub struct Missing<H: Chronicle> {
 }
 
 impl<H: Chronicle> Turns<H> {
-    ghost use Rattle.turn_lock.specs.Words.{view, turn_view, IsSeatOf, IsTurnOf, claim_of};
+    ghost use Rattle.turn_lock.specs.Words.{view, turn_view, known, turn_known, IsSeatOf, IsTurnOf, claim_of};
 
     /// A lock over a value with an empty list, and the first seat. It has the number 0, and it
-    /// alone can make seats. `Err` is want of memory, and drops the value.
+    /// alone can make seats. `Err` says that memory ran out, and drops the value.
     pub fn new(alloc: Global, home: H) -> Result<(Turns<H>, Seat<H>), Memory>
     where
         H: Drop,
         requires empty { H.items home ≡ [] }
         ensures of { IfOk result (λ made. IsSeatOf made.0 made.1) }
         ensures view { IfOk result (λ made. view made.1 ≡ first_view (H.base home)) }
+        ensures known { IfOk result (λ made. known made.1 ≡ first_known (H.base home) (H.at home)) }
     {
         let about = Snapshot::of(&home);
         let Ok(mut slots) = Vec::with_capacity(alloc, 1) else {
@@ -106,6 +110,8 @@ impl<H: Chronicle> Turns<H> {
         requires made { (0 < (view seat).made) × ((view seat).made < 2 ^ 62) }
         ensures first { IsSeatOf self.now result.0 × (view result.0 ≡ split_view (view seat)) }
         ensures second { IsSeatOf self.now result.1 × (view result.1 ≡ new_view (view seat)) }
+        ensures first_known { known result.0 ≡ split_known (known seat) }
+        ensures second_known { known result.1 ≡ new_known (known seat) }
     {
         let Seat {
             mut token,
@@ -128,11 +134,15 @@ impl<H: Chronicle> Turns<H> {
     }
 
     /// Sleeps until no other seat has the turn, and takes it. The list begins with what the seat
-    /// has seen, and the items of the seat's number are those that it has left there, in order.
+    /// has seen, and the items of the seat's number are those that it has left there, in order. The
+    /// mark is what turns may have made of the mark that the seat knows.
     pub fn enter<R: Wait>(&self, rt: &R, seat: Seat<H>) -> Turn<H>
         requires { IsSeatOf self.now seat }
         ensures of { IsTurnOf self.now result }
         ensures view { turn_view result ≡ entered (view seat) (H.items result.home) }
+        ensures known { turn_known result
+            ≡ entered_known (known seat) (H.items result.home) (H.at result.home) }
+        ensures grown { (m : H.Mark) → (known seat).at ≡ Some m → H.grows m (H.at result.home) }
         ensures base { (view seat).base ≡ Some (H.base result.home) }
         ensures begins { BeginsWith (H.items result.home) (view seat).seen }
         ensures own { items_of (H.owner (H.base result.home)) (number (view seat))
@@ -159,11 +169,13 @@ impl<H: Chronicle> Turns<H> {
     // The word as it was, which is twice the number of items.
     fn take_turn<R: Wait>(&self, rt: &R, token: &mut Token<H>) -> u64
         requires of { token.old.table_id ≡ self.now.table.shared.table_id }
-        requires waits { (token.old.me.1 ≡ []) × IsSingle token.old.me.0 }
+        requires waits { (token.old.me.1 ≡ []) × IsSingle token.old.me.0.view }
         ensures of { token.new.table_id ≡ token.old.table_id }
         ensures took { (h : H)
-            × (token.new.me ≡ (entered token.old.me.0 (H.items h), (0, Some h) ∷ []))
-            × Fits H.items H.base H.owner token.old.me.0 h × (result ≡ 2 * length (H.items h)) }
+            × (token.new.me
+            ≡ (entered_known token.old.me.0 (H.items h) (H.at h), (0, Some h) ∷ []))
+            × Fits H.items H.base H.owner H.at H.grows token.old.me.0 h
+            × (result ≡ 2 * length (H.items h)) }
     {
         let shared = &self.table.shared;
         for _ in rt.forever() {
@@ -177,13 +189,17 @@ impl<H: Chronicle> Turns<H> {
         unreachable!()
     }
 
-    /// Gives the turn back, with the list as it was.
+    /// Gives the turn back, with the list as it was. The seat knows the mark as it found it, and as
+    /// it leaves it.
     pub fn leave(&self, turn: Turn<H>) -> Seat<H>
         requires of { IsTurnOf self.now turn }
         requires base { (turn_view turn).base ≡ Some (H.base turn.home) }
         requires same { H.items turn.home ≡ (turn_view turn).seen }
+        requires kept { (m : H.Mark) → (turn_known turn).found ≡ Some m
+            → H.grows m (H.at turn.home) }
         ensures of { IsSeatOf self.now result }
         ensures view { view result ≡ left (turn_view turn) }
+        ensures known { known result ≡ left_known (turn_known turn) (H.at turn.home) }
         ensures met { items_of (H.owner (H.base turn.home)) (number (turn_view turn))
             (turn_view turn).seen ≡ mine (turn_view turn) }
     {
@@ -197,16 +213,21 @@ impl<H: Chronicle> Turns<H> {
         Seat { token, seen, made }
     }
 
-    /// Gives the turn back, with one item more, which is the seat's.
+    /// Gives the turn back, with one item more, which is the seat's. The seat knows the mark as it
+    /// found it, and as it leaves it.
     pub fn leave_with(&self, turn: Turn<H>) -> Seat<H>
         requires of { IsTurnOf self.now turn }
         requires base { (turn_view turn).base ≡ Some (H.base turn.home) }
         requires item { (x : H.Item) × (H.items turn.home ≡ (turn_view turn).seen ++ x ∷ [])
             × (H.owner (H.base turn.home) x ≡ number (turn_view turn)) }
         requires most { length (H.items turn.home) ≤ 2 ^ 62 }
+        requires kept { (m : H.Mark) → (turn_known turn).found ≡ Some m
+            → H.grows m (H.at turn.home) }
         ensures of { IsSeatOf self.now result }
         ensures view { (x : H.Item) → H.items turn.home ≡ (turn_view turn).seen ++ x ∷ []
             → view result ≡ left_with (turn_view turn) (x ∷ []) }
+        ensures known { (x : H.Item) → H.items turn.home ≡ (turn_view turn).seen ++ x ∷ []
+            → known result ≡ left_with_known (turn_known turn) (x ∷ []) (H.at turn.home) }
         ensures met { items_of (H.owner (H.base turn.home)) (number (view result))
             (H.items turn.home) ≡ mine (view result) }
     {
@@ -224,18 +245,19 @@ impl<H: Chronicle> Turns<H> {
     // Puts the value back, says in the word how many items it has, and wakes one that waits.
     fn bring_home(&self, token: &mut Token<H>, home: H, count: u64)
         requires of { token.old.table_id ≡ self.now.table.shared.table_id }
-        requires holds { (token.old.me.1 ≡ (0, None) ∷ []) × (token.old.me.0.holds ≡ true) }
-        requires single { IsSingle token.old.me.0 }
-        requires base { token.old.me.0.base ≡ Some (H.base home) }
-        requires items { (more : List H.Item) × (H.items home ≡ token.old.me.0.seen ++ more)
-            × IsAllOf (H.owner (H.base home)) (number token.old.me.0) more }
+        requires holds { (token.old.me.1 ≡ (0, None) ∷ []) × (token.old.me.0.view.holds ≡ true) }
+        requires single { IsSingle token.old.me.0.view }
+        requires base { token.old.me.0.view.base ≡ Some (H.base home) }
+        requires items { (more : List H.Item) × (H.items home ≡ token.old.me.0.view.seen ++ more)
+            × IsAllOf (H.owner (H.base home)) (number token.old.me.0.view) more }
+        requires kept { (m : H.Mark) → token.old.me.0.found ≡ Some m → H.grows m (H.at home) }
         requires count { (count ≡ length (H.items home)) × (count < 2 ^ 63) }
         ensures of { token.new.table_id ≡ token.old.table_id }
-        ensures view { (more : List H.Item) → H.items home ≡ token.old.me.0.seen ++ more
-            → token.new.me ≡ (left_with token.old.me.0 more, []) }
-        ensures met { (more : List H.Item) → H.items home ≡ token.old.me.0.seen ++ more
-            → items_of (H.owner (H.base home)) (number token.old.me.0) (H.items home)
-            ≡ mine token.old.me.0 ++ more }
+        ensures view { (more : List H.Item) → H.items home ≡ token.old.me.0.view.seen ++ more
+            → token.new.me ≡ (left_with_known token.old.me.0 more (H.at home), []) }
+        ensures met { (more : List H.Item) → H.items home ≡ token.old.me.0.view.seen ++ more
+            → items_of (H.owner (H.base home)) (number token.old.me.0.view) (H.items home)
+            ≡ mine token.old.me.0.view ++ more }
     {
         let before = self.table.shared.exchange(token, 0, Some(home));
         let None = before else { unreachable!() };
@@ -245,34 +267,47 @@ impl<H: Chronicle> Turns<H> {
 }
 
 impl<H: Chronicle> Turns<H> {
-    ghost use Rattle.turn_lock.specs.Words.{view, IsSeatOf, claim_of};
+    ghost use Rattle.turn_lock.specs.Words.{view, IsSeatOf, claim_of, FirstIs};
 
-    /// Ends the lock and gives the value, where the seats are all that were made, the first seat
-    /// first. Each item of the list is then an own item of just one seat, in order, and the list
-    /// begins with what each seat has seen. Else the lock and the seats come back.
-    pub fn close(self, seats: Vec<Seat<H>>) -> Result<H, Missing<H>>
+    /// Ends the lock and gives the value, where the seats are all that were made, in any order.
+    /// Each item of the list is then an own item of just one seat, in order, and the list begins
+    /// with what each seat has seen. Else the lock and the seats come back.
+    pub fn close(self, mut seats: Vec<Seat<H>>) -> Result<H, Missing<H>>
     where
         H: Drop,
         requires of { All (λ s. IsSeatOf self s) seats.items }
-        requires first { 0 < length seats.items
-            → IfSome (slice_get seats.items 0) (λ s. 0 < (view s).made) }
-        ensures missing { IfErr result (λ m. IfSome (slice_get seats.items 0) (λ s.
-            (view s).made ≢ length seats.items)) }
+        ensures missing { IfErr result (λ m.
+            All (λ s. (view s).made ≢ length seats.items) seats.items) }
         ensures back { IfErr result (λ m. (m.turns ≡ self) × (m.seats.items ≡ seats.items)) }
-        ensures all { IfOk result (λ h. IfSome (slice_get seats.items 0) (λ s.
-            ((view s).made ≡ length seats.items) × ((view s).base ≡ Some (H.base h)))) }
+        ensures all { IfOk result (λ h.
+            FirstIs (λ v. v.base ≡ Some (H.base h)) seats.items) }
         ensures some { IfOk result (λ _. 0 < length seats.items) }
         ensures shares { IfOk result (λ h. Shares (H.owner (H.base h)) (H.items h)
             (map claim_of seats.items)) }
         ensures begins { IfOk result (λ h.
             All (λ s. BeginsWith (H.items h) (view s).seen) seats.items) }
     {
-        let has_all = !seats.is_empty() && seats[0].made == seats.len() as u64;
-        if !has_all {
+        let Some(place) = Self::first_place(seats.as_slice()) else {
             return Err(Missing { turns: self, seats });
-        }
+        };
+        seats.swap(0, place);
         let token = self.join_all(seats);
         Ok(self.take_home(token))
+    }
+
+    // The place of the first seat, where it has made as many seats as there are here.
+    fn first_place(seats: &[Seat<H>]) -> Option<usize>
+        ensures some { IfSome result (λ place. (place < length seats.now)
+            × IfSome (slice_get seats.now place) (λ s. (view s).made ≡ length seats.now)) }
+        ensures none { IfNone result (All (λ s. (view s).made ≢ length seats.now) seats.now) }
+    {
+        let count = seats.len() as u64;
+        for place in 0..seats.len() {
+            if seats[place].made == count {
+                return Some(place);
+            }
+        }
+        None
     }
 
     // The first seat's token, which knows what all the seats know of their items.
@@ -282,12 +317,13 @@ impl<H: Chronicle> Turns<H> {
         requires of { All (λ s. IsSeatOf self.now s) seats.items }
         requires some { 0 < length seats.items }
         ensures of { result.table_id ≡ self.now.table.shared.table_id }
-        ensures waits { (result.me.1 ≡ []) × (result.me.0.holds ≡ false) }
-        ensures claims { result.me.0.claims ≡ map claim_of seats.items }
-        ensures seen { (items : List H.Item) → BeginsWithAll items result.me.0
+        ensures waits { (result.me.1 ≡ []) × (result.me.0.view.holds ≡ false) }
+        ensures claims { result.me.0.view.claims ≡ map claim_of seats.items }
+        ensures seen { (items : List H.Item) → BeginsWithAll items result.me.0.view
             → All (λ s. BeginsWith items (view s).seen) seats.items }
         ensures first { IfSome (slice_get seats.items 0) (λ s.
-            (result.me.0.made ≡ (view s).made) × (result.me.0.base ≡ (view s).base)) }
+            (result.me.0.view.made ≡ (view s).made)
+            × (result.me.0.view.base ≡ (view s).base)) }
     {
         let first = seats.remove(0);
         let Seat {
@@ -309,11 +345,14 @@ impl<H: Chronicle> Turns<H> {
     // The value, where one token has every claim.
     fn take_home(self, token: Token<H>) -> H
         requires of { token.table_id ≡ self.table.shared.table_id }
-        requires waits { (token.me.1 ≡ []) × (token.me.0.holds ≡ false) }
-        requires all { (length token.me.0.claims ≡ token.me.0.made) × (0 < token.me.0.made) }
-        ensures base { 0 < length token.me.0.claims → token.me.0.base ≡ Some (H.base result) }
-        ensures shares { Shares (H.owner (H.base result)) (H.items result) token.me.0.claims }
-        ensures begins { BeginsWithAll (H.items result) token.me.0 }
+        requires waits { (token.me.1 ≡ []) × (token.me.0.view.holds ≡ false) }
+        requires all { (length token.me.0.view.claims ≡ token.me.0.view.made)
+            × (0 < token.me.0.view.made) }
+        ensures base { 0 < length token.me.0.view.claims
+            → token.me.0.view.base ≡ Some (H.base result) }
+        ensures shares { Shares (H.owner (H.base result)) (H.items result)
+            token.me.0.view.claims }
+        ensures begins { BeginsWithAll (H.items result) token.me.0.view }
     {
         let mut closed = self.table.close_with(token);
         let home = closed.take(0);
@@ -329,8 +368,8 @@ impl<H: Chronicle> Turn<H> {
 
     /// The value under the lock.
     pub fn home(&mut self) -> &mut H
-        ensures* writes_back { sem 𝓛 (LendsHome H.row H.Item.row H.Base.row H.Chronicle self.entry
-            result) }
+        ensures* writes_back { sem 𝓛 (LendsHome H.row H.Item.row H.Base.row H.Mark.row
+            H.Chronicle self.entry result) }
         ensures value { result.now ≡ self.old.home }
     {
         &mut self.home

@@ -24,3 +24,16 @@ pub struct View<I, B> {
     /// How the list began when each seat that was joined into this one last looked.
     pub others_seen: LinkedList<LinkedList<I>>,
 }
+
+/// What a seat knows of the lock, and of the mark of the value under it.
+pub struct Known<I, B, M> {
+    pub view: View<I, B>,
+    /// The mark as the seat's last turn left it. A seat that had no turn knows what its maker knew,
+    /// and the first seat the mark that the value began with. A seat that was joined into another
+    /// knows none.
+    pub at: Option<M>,
+    /// The same of the mark as the seat's last turn found it.
+    pub found: Option<M>,
+    /// How many turns the seat has had.
+    pub turns: u64,
+}

@@ -7,8 +7,12 @@ use Rattle.stage.proofs.stage.Stage.close.Goals as goal
 
 pub returns-in-Ok-clause-closed : goal.returns-in-Ok-clause-closed
 returns-in-Ok-clause-closed c =
-    if_some _ _ (slice_get c.args.seats.items 0) c.in-Ok.ensures.all
-    (λ s h. (h.0, closed (view s) c.in-Ok.home c.into_history.result.entries (map claim_of c.args.seats.items) h.1 c.into_history.ensures.entries c.into_history.ensures.sound c.in-Ok.ensures.shares))
+    let first = c.in-Ok.ensures.all in (
+      first.0,
+      first.1,
+      if_some _ _ (slice_get c.args.seats.items first.0) first.2
+          (λ s h. (h.0, closed (view s) c.in-Ok.home c.into_history.result.entries (map claim_of c.args.seats.items) h.1 c.into_history.ensures.entries c.into_history.ensures.sound c.in-Ok.ensures.shares)),
+    )
 
 pub returns-in-Ok-clause-begins : goal.returns-in-Ok-clause-begins
 returns-in-Ok-clause-begins c =

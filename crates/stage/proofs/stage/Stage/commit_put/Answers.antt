@@ -1,15 +1,17 @@
 -- A put that its role can do, done in a hold.
-use Rattle.std.proofs.Common.{◌≡◌, None, refl, sym, ◌∙◌, subst}
+use Rattle.std.proofs.Common.{◌≡◌, None, refl, sym, ◌∙◌, subst, ap}
 use Rattle.dioc_terms.specs.declared.entries.Act.TheVariants as acts
 use Rattle.dioc_terms.specs.declared.entries.Entry.TheVariants as entry
 use Rattle.dioc_terms.specs.Processes.{load, noted}
 use Rattle.process_steps.specs.Steps.{Alone, Puts}
+use Rattle.stage.proofs.HeldLemmas.{Entered, added_once, kept, refused_once}
 use Rattle.stage.proofs.HoldLemmas.{did_alone, grown_by, own_item, place_of, refused_hold}
 use Rattle.stage.proofs.SeatLemmas.{can_now}
 use Rattle.stage.specs.Faults.{role_fault}
-use Rattle.stage.specs.Homes.{HomeState}
+use Rattle.stage.specs.Homes.{HomeState, with_entry}
+use Rattle.stage.specs.Marks.{marks_of, marks_stay}
 use Rattle.stage.specs.Roles.{CanDo}
-use Rattle.turn_lock.specs.Words.{view, turn_view}
+use Rattle.turn_lock.specs.Words.{known, turn_known, turn_view, view}
 use Rattle.stage.proofs.stage.Stage.commit_put.Goals as goal
 
 pub put-requires : goal.put-requires
@@ -53,3 +55,32 @@ returns-in-Err-clause-refused g c =
     refused_hold (view c.args.seat) (turn_view c.enter-turn.result) (view c.leave.result) c.enter-turn.result.home c.home.result.now
     c.enter-turn.ensures.base c.enter-turn.ensures.still c.enter-turn.ensures.sound c.enter-turn.ensures.view c.home.ensures.value c.leave.ensures.view
     role_fault c.in-Err.fault c.in-Err.ensures.first
+
+pub leave_with-seat-requires-clause-kept : goal.leave_with-seat-requires-clause-kept
+leave_with-seat-requires-clause-kept g c =
+    let home = c.enter-turn.result.home in
+    let here : Entered (known c.args.seat) (turn_known c.enter-turn.result) home = record { base = c.enter-turn.ensures.base; sound = c.enter-turn.ensures.sound; grown = c.enter-turn.ensures.grown; knows = c.enter-turn.ensures.knows } in
+    let e = entry.Put c.args.key (noted (load c.args.payload)) in
+    kept (known c.args.seat) (turn_known c.enter-turn.result) home here c.home-in-Ok.result.now (with_entry home e)
+    (c.home-in-Ok.ensures.value ∙ c.in-Ok.ensures.added ∙ ap (λ (h : HomeState). with_entry h e) c.home.ensures.value) (marks_stay (marks_of home))
+
+pub leave-requires-clause-kept : goal.leave-requires-clause-kept
+leave-requires-clause-kept g c =
+    let home = c.enter-turn.result.home in
+    let here : Entered (known c.args.seat) (turn_known c.enter-turn.result) home = record { base = c.enter-turn.ensures.base; sound = c.enter-turn.ensures.sound; grown = c.enter-turn.ensures.grown; knows = c.enter-turn.ensures.knows } in
+    kept (known c.args.seat) (turn_known c.enter-turn.result) home here _ home (c.in-Err.ensures.err ∙ c.home.ensures.value) (marks_stay (marks_of home))
+
+pub returns-in-Ok-clause-added : goal.returns-in-Ok-clause-added
+returns-in-Ok-clause-added g c =
+    let home = c.enter-turn.result.home in
+    let here : Entered (known c.args.seat) (turn_known c.enter-turn.result) home = record { base = c.enter-turn.ensures.base; sound = c.enter-turn.ensures.sound; grown = c.enter-turn.ensures.grown; knows = c.enter-turn.ensures.knows } in
+    let e = entry.Put c.args.key (noted (load c.args.payload)) in
+    added_once (known c.args.seat) (turn_known c.enter-turn.result) home here (known c.leave_with-seat.result) c.home-in-Ok.result.now role_fault c.home.result.now c.home.ensures.value
+    c.in-Ok.ensures.free e (c.home-in-Ok.ensures.value ∙ c.in-Ok.ensures.added ∙ ap (λ (h : HomeState). with_entry h e) c.home.ensures.value) c.leave_with-seat.ensures.known
+
+pub returns-in-Err-clause-judged : goal.returns-in-Err-clause-judged
+returns-in-Err-clause-judged g c =
+    let home = c.enter-turn.result.home in
+    let here : Entered (known c.args.seat) (turn_known c.enter-turn.result) home = record { base = c.enter-turn.ensures.base; sound = c.enter-turn.ensures.sound; grown = c.enter-turn.ensures.grown; knows = c.enter-turn.ensures.knows } in
+    refused_once (known c.args.seat) (turn_known c.enter-turn.result) home here (known c.leave.result) _ role_fault c.home.result.now c.home.ensures.value
+    c.in-Err.ensures.err c.leave.ensures.known c.in-Err.fault c.in-Err.ensures.first c.in-Err.ensures.short

@@ -14,18 +14,18 @@ use Rattle.turn_lock.proofs.turns.Turns.join_all.Goals as goal
 pub join_seat-requires : goal.join_seat-requires
 join_seat-requires g c =
     let first = some_claim c.remove-first.result.token.me.0 c.remove-first.result.single in
-    let some = subst (λ l. 0 < length l) (sym c.loop-seat.invariant.7) (omega (arith, first, length-append c.remove-first.result.token.me.0.claims (map claim_of c.loop-seat.yielded))) in (
+    let some = subst (λ l. 0 < length l) (sym c.loop-seat.invariant.7) (omega (arith, first, length-append c.remove-first.result.token.me.0.view.claims (map claim_of c.loop-seat.yielded))) in (
       search rules,
       (subst (AllByRecursion (λ s. s.token.table_id ≡ c.args.self.now.table.shared.table_id)) c.in-Some.ensures.steps.0 c.loop-seat.invariant.8).0,
       c.in-Some.seat.waits.0,
       omega (arith, c.args.self.now.sized.0),
-      joins g.H.Chronicle.items g.H.Chronicle.base g.H.Chronicle.owner _ _ _ c.loop-seat.token.me.0 c.in-Some.seat.token.me.0 some
+      joins g.H.Chronicle.items g.H.Chronicle.base g.H.Chronicle.owner g.H.Chronicle.at g.H.Chronicle.grows g.met.H.Chronicle.stays g.met.H.Chronicle.goes_on _ _ _ c.loop-seat.token.me.0 c.in-Some.seat.token.me.0 some
           (some_claim c.in-Some.seat.token.me.0 c.in-Some.seat.single) c.loop-seat.invariant.2 c.in-Some.seat.waits.1,
     )
 
 pub loop-seat-init : goal.loop-seat-init
 loop-seat-init g c =
-    let IsOf = λ (s : Seat g.row.H.Denot g.row.H-Item.Denot g.row.H-Base.Denot g.H.Chronicle). s.token.table_id ≡ c.args.self.now.table.shared.table_id in
+    let IsOf = λ (s : Seat g.row.H.Denot g.row.H-Item.Denot g.row.H-Base.Denot g.row.H-Mark.Denot g.H.Chronicle). s.token.table_id ≡ c.args.self.now.table.shared.table_id in
     let left : c.into_iter-seat-iterator.result.rest.items ≡ drop 1 c.args.seats.items = c.into_iter-seat-iterator.ensures.into_iter_gives.0 ∙ c.remove-first.ensures.items in
     let others = recursion_from_All IsOf (drop 1 c.args.seats.items) (All-drop IsOf 1 c.args.seats.items c.requires.of) in
     (refl, search rules, search rules, refl, refl, refl, search rules, search rules, subst (AllByRecursion IsOf) (sym left) others)
@@ -33,7 +33,7 @@ loop-seat-init g c =
 -- what the first has seen, and what the others have, in their order
 pub returns-clause-seen : goal.returns-clause-seen
 returns-clause-seen g c = λ items begins.
-    let Begins = λ (s : Seat g.row.H.Denot g.row.H-Item.Denot g.row.H-Base.Denot g.H.Chronicle). BeginsWith items (view s).seen in
+    let Begins = λ (s : Seat g.row.H.Denot g.row.H-Item.Denot g.row.H-Base.Denot g.row.H-Mark.Denot g.H.Chronicle). BeginsWith items (view s).seen in
     let first = c.remove-first.result in
     let left : c.into_iter-seat-iterator.result.rest.items ≡ drop 1 c.args.seats.items = c.into_iter-seat-iterator.ensures.into_iter_gives.0 ∙ c.remove-first.ensures.items in
     let many : c.into_iter-seat-iterator.result.rest.len ≡ length (drop 1 c.args.seats.items) = search (rules, ap length left) in

@@ -6,7 +6,7 @@ pub split_seat-second-requires : goal.split_seat-second-requires
 split_seat-second-requires g c = (
   c.requires.of,
   omega (arith, c.args.self.now.sized.0),
-  splits g.H.Chronicle.items g.H.Chronicle.base g.H.Chronicle.owner _ _ c.args.seat.token.me.0 c.requires.made.0 c.args.seat.single c.args.seat.waits.1,
+  splits g.H.Chronicle.items g.H.Chronicle.base g.H.Chronicle.owner g.H.Chronicle.at g.H.Chronicle.grows g.met.H.Chronicle.stays g.met.H.Chronicle.goes_on _ _ c.args.seat.token.me.0 c.requires.made.0 c.args.seat.single c.args.seat.waits.1,
 )
 
 pub invariant_of-result-2 : goal.invariant_of-result-2

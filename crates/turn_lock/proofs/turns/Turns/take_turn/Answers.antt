@@ -8,6 +8,6 @@ compare_exchange-requires g c =
     let same = c.loop.invariant.1 in (
       search rules,
       search rules,
-      takes_turn_as g.H.Chronicle.items g.H.Chronicle.base g.H.Chronicle.owner _ _ _ _ c.loop.token.me c.args.self.now.sized.1 (ap (λ m. m.1) same ∙ c.requires.waits.0) (omega (arith, c.if-word-eq1.false))
-          (subst (λ m. IsSingle m.0) (sym same) c.requires.waits.1),
+      takes_turn_as g.H.Chronicle.items g.H.Chronicle.base g.H.Chronicle.owner g.H.Chronicle.at g.H.Chronicle.grows g.met.H.Chronicle.stays g.met.H.Chronicle.goes_on _ _ _ _ c.loop.token.me c.args.self.now.sized.1 (ap (λ m. m.1) same ∙ c.requires.waits.0) (omega (arith, c.if-word-eq1.false))
+          (subst (λ m. IsSingle m.0.view) (sym same) c.requires.waits.1),
     )
