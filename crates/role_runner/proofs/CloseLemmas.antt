@@ -21,7 +21,7 @@ use Rattle.stage.specs.Seats.{Base, IsClosed, opening_views}
 use Rattle.turn_lock.specs.declared.views.View.{View}
 use Rattle.turn_lock.specs.Items.{BeginsWith, Each, IsOwn, items_of}
 use Rattle.turn_lock.specs.Views.{number, mine}
-use Rattle.turn_lock.specs.Words.{claim_of, view}
+use Rattle.turn_lock.specs.Words.{FirstIs, claim_of, view}
 
 pub distinct_cast : CastsAreRoles → (b : PlainBundle) → IsSound b → distinct_roles b.cast ≡ true
 distinct_cast casts b sound = ap distinct_roles sound.formed.cast ∙ casts.distinct b.choreo
@@ -45,21 +45,20 @@ module _ (bundle : PlainBundle) (limit : ℕ) (seats : List HomeSeat) (went : Al
       (from.2).made ∙ ap (λ (v : View Entry Base). v.made) (some_same (sym from.1))
 
   -- so nothing is missing where the stage is closed
-  pub first_knows : IfSome (slice_get seats 0) (λ s. 0 < (view s).made)
-  first_knows = subst (λ o. IfSome o (λ s. 0 < (view s).made)) (sym first.1) (let made = first_made first.0 first.1 in omega (arith, made))
+  pub none_missing : All (λ s. (view s).made ≢ length seats) seats → ⊥
+  none_missing missing = all_at (λ s. (view s).made ≢ length seats) seats 0 first.0 missing first.1 (first_made first.0 first.1 ∙ sym seats_many)
 
-  pub none_missing : IfSome (slice_get seats 0) (λ s. (view s).made ≢ length seats) → ⊥
-  none_missing missing = if_some_at (λ s. (view s).made ≢ length seats) (slice_get seats 0) first.0 missing first.1 (first_made first.0 first.1 ∙ sym seats_many)
+  module _ (sound : IsSound bundle) (H : List Entry) (closes : FirstIs (λ v. IsClosed v H (map claim_of seats)) seats) (begins : All (λ s. BeginsWith H (view s).seen) seats) where
+    knowing : (s : HomeSeat) × (slice_get seats closes.0 ≡ Some s)
+    knowing = at_within seats closes.0 closes.1
 
-  module _ (sound : IsSound bundle) (H : List Entry) (closes : IfSome (slice_get seats 0) (λ s. ((view s).made ≡ length seats) × IsClosed (view s) H (map claim_of seats)))
-      (begins : All (λ s. BeginsWith H (view s).seen) seats) where
-    abbrev closing : IsClosed (view first.0) H (map claim_of seats)
-    closing = (if_some_at (λ s. ((view s).made ≡ length seats) × IsClosed (view s) H (map claim_of seats)) (slice_get seats 0) first.0 closes first.1).1
+    abbrev closing : IsClosed (view knowing.0) H (map claim_of seats)
+    closing = (if_some_at (λ s. ((view s).made ≡ length seats) × IsClosed (view s) H (map claim_of seats)) (slice_get seats closes.0) knowing.0 closes.2 knowing.1).1
 
     based : ◌≡◌ {A = Base} (closing.home.bundle, closing.home.limit) (bundle, limit)
     based =
-        let from = went_at (opening_views (bundle, limit) (length bundle.cast)) (map view seats) 0 (view first.0) went (slice_get-map view seats 0 ∙ ap (option_map view) first.1) in
-        let opened = opening_at (bundle, limit) (length bundle.cast) 0 from.0 from.1 in
+        let from = went_at (opening_views (bundle, limit) (length bundle.cast)) (map view seats) closes.0 (view knowing.0) went (slice_get-map view seats closes.0 ∙ ap (option_map view) knowing.1) in
+        let opened = opening_at (bundle, limit) (length bundle.cast) closes.0 from.0 from.1 in
         some_same (sym closing.found.base ∙ (from.2).base ∙ opened.based)
 
     pub closed_is : Closed bundle limit (map view seats) H

@@ -20,6 +20,7 @@ use Rattle.role_runner.specs.Jobs.{EndsJob, IsOfRole, OpensJob}
 use Rattle.role_runner.specs.Ties.{IsSeated, IsTied, WentOn}
 use Rattle.stage.specs.contracts.home.HomeChronicle.TheImpl.{ghosts}
 use Rattle.stage.specs.declared.stage.Stage.{Stage}
+use Rattle.stage.specs.declared.marks.Marks.{Marks}
 use Rattle.stage.specs.Homes.{HomeState}
 use Rattle.stage.specs.Holds.{IsFeeder}
 use Rattle.stage.specs.Owners.{cast_place, owner_in}
@@ -32,7 +33,7 @@ use Rattle.turn_lock.specs.Views.{number}
 use Rattle.turn_lock.specs.Words.{view}
 
 abbrev pub HomeSeat : Type 0
-HomeSeat = Seat HomeState Entry Base ghosts
+HomeSeat = Seat HomeState Entry Base Marks ghosts
 
 abbrev seat_in : Job → Option HomeSeat
 seat_in job = job.seat

@@ -1,5 +1,6 @@
 pub mod StepLemmas
 pub mod TieLemmas
+pub mod TurnLemmas
 pub mod ActLemmas
 pub mod ScopeLemmas
 pub mod EndLemmas

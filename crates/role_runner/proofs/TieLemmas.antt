@@ -6,6 +6,7 @@ use Rattle.std.specs.List.{list_all}
 use Rattle.std.specs.Option.{option_or}
 use Rattle.std.specs.Prelude.{Err, IfErr, IfOk, Ok, Result, is_none, nat_le}
 use Rattle.dioc_terms.specs.declared.entries.Act.{Act}
+use Rattle.dioc_terms.specs.declared.entries.Act.TheVariants as act
 use Rattle.dioc_terms.specs.declared.entries.Entry.{Entry}
 use Rattle.dioc_terms.specs.declared.names.Role.{Role}
 use Rattle.dioc_terms.specs.declared.processes.Key.{Key}
@@ -23,7 +24,8 @@ use Rattle.net_core.specs.Nets.{network_at}
 use Rattle.role_runner.proofs.StepLemmas.{deed_same, left_same}
 use Rattle.role_runner.specs.declared.acting.Tried.{Tried}
 use Rattle.role_runner.specs.declared.acting.Tried.TheVariants as tried
-use Rattle.role_runner.specs.Ties.{IsSeated, IsTied, Leaves, WentOn}
+use Rattle.role_runner.specs.Acts.{act_fault, is_alone}
+use Rattle.role_runner.specs.Ties.{IfRefused, IsRefusedTry, IsSeated, IsTied, Leaves, WentOn, is_not_yet}
 use Rattle.stage.specs.declared.faults.CommitFault.{CommitFault}
 use Rattle.stage.specs.declared.faults.CommitFault.TheVariants as fault
 use Rattle.stage.specs.declared.faults.Why.{Why}
@@ -266,3 +268,43 @@ done_not_behind is behind = apart (sym is ∙ behind)
   where
     apart : tried.Done ≡ tried.Behind → ⊥
     apart e = cc
+
+-- which answers say that an act may come later
+pub not_yet_is : (t : Tried) → is_not_yet t ≡ true → t ≡ tried.Refused fault.NotYet
+not_yet_is tried.Done h = cc
+not_yet_is tried.Behind h = cc
+not_yet_is (tried.Refused (fault.Stopped why)) h = cc
+not_yet_is (tried.Refused fault.Ended) h = cc
+not_yet_is (tried.Refused fault.NoMore) h = cc
+not_yet_is (tried.Refused fault.Full) h = cc
+not_yet_is (tried.Refused fault.NotYet) h = refl
+not_yet_is (tried.Refused fault.Memory) h = cc
+
+-- what holds of the fault of a refused try
+pub if_refused_at : (P : CommitFault → Type 0) (t : Tried) (f : CommitFault) → IfRefused t P → t ≡ tried.Refused f → P f
+if_refused_at P t f holds is = subst (λ u. IfRefused u P) is holds
+
+-- what an act keeps from its commit where a role does it alone
+pub alone_fault : (a : Act) → is_alone a ≡ true → act_fault a ≡ role_fault
+alone_fault (act.Set i) h = refl
+alone_fault (act.Input i) h = refl
+alone_fault (act.Pick i) h = refl
+alone_fault (act.Put k) h = refl
+alone_fault (act.Take k) h = cc
+alone_fault (act.Scope i) h = refl
+
+-- a try that a commit refused
+pub refused_try : (a : Act) (fault_of : HomeState → Option CommitFault) (v w : View Entry Base) (s : LocalState) (f : CommitFault) → act_fault a ≡ fault_of → RefusedFor fault_of v w f
+    → IsRefusedTry a v w s s f
+refused_try a fault_of v w s f is refused = record {
+  same = refl;
+  held = λ enough. subst (λ g. RefusedFor g v w f) (sym is) refused;
+}
+
+-- one for which there was no memory
+pub scarce_try : (a : Act) (v : View Entry Base) (s t : LocalState) → t ≡ s → IsRefusedTry a v v s t fault.Memory
+scarce_try a v s t same = record { same = same; held = λ enough. absurd (enough refl) }
+
+-- the same of the state before the act was prepared
+pub prepared_try : (a : Act) (v w : View Entry Base) (s t u : LocalState) (o : Tried) → t ≡ s → IfRefused o (IsRefusedTry a v w t u) → IfRefused o (IsRefusedTry a v w s u)
+prepared_try a v w s t u o same refused = subst (λ x. IfRefused o (IsRefusedTry a v w x u)) same refused

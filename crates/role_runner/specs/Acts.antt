@@ -1,5 +1,6 @@
--- Which acts a role does alone, and what the book says to the begin of a scope.
-use Rattle.std.specs.Prelude.{ℕ, Bool, true, false}
+-- Which acts a role does alone, which faults keep an act from its commit, and what the book says to
+-- the begin of a scope.
+use Rattle.std.specs.Prelude.{ℕ, Bool, true, false, Option}
 use Rattle.dioc_terms.specs.declared.entries.Act.{Act}
 use Rattle.dioc_terms.specs.declared.entries.Act.TheVariants as act
 use Rattle.dioc_terms.specs.Plain.{PlainBundle}
@@ -8,6 +9,9 @@ use Rattle.dioc_terms.specs.Stores.{Store}
 use Rattle.global_steps.specs.Follow.{book_choice}
 use Rattle.network_steps.specs.Network.{decision}
 use Rattle.process_steps.specs.Steps.{Given, FromBook}
+use Rattle.stage.specs.declared.faults.CommitFault.{CommitFault}
+use Rattle.stage.specs.Faults.{role_fault, take_fault}
+use Rattle.stage.specs.Homes.{HomeState}
 
 -- it sets a variable, reads an input or picks a branch
 abbrev pub is_alone : Act → Bool
@@ -15,6 +19,11 @@ is_alone (act.Set i) = true
 is_alone (act.Input i) = true
 is_alone (act.Pick i) = true
 is_alone _ = false
+
+-- the fault for which a commit of the act is refused, by the home that is found
+abbrev pub act_fault : Act → HomeState → Option CommitFault
+act_fault (act.Take k) = take_fault k
+act_fault _ = role_fault
 
 -- what this book says, after so many updates, to a leader with this store
 abbrev pub book_given : PlainBundle → Book → ℕ → Store → Given

@@ -1,17 +1,21 @@
 -- What ties a role's own state, outside the lock, to its seat, and what a call leaves of both.
-use Rattle.std.specs.Prelude.{◌≡◌, ◌≢◌, ℕ, true, Some}
+use Rattle.std.specs.Prelude.{◌≡◌, ◌≢◌, ℕ, Bool, true, false, Option, Some}
+use Rattle.dioc_terms.specs.declared.entries.Act.{Act}
 use Rattle.dioc_terms.specs.declared.entries.Entry.{Entry}
 use Rattle.dioc_terms.specs.declared.names.Role.{Role}
 use Rattle.dioc_terms.specs.Equality.{member}
 use Rattle.dioc_terms.specs.Plain.{PlainBundle}
 use Rattle.dpoc_process.specs.LocalStates.{LocalState}
+use Rattle.role_runner.specs.Acts.{act_fault}
 use Rattle.role_runner.specs.declared.acting.Tried.{Tried}
 use Rattle.role_runner.specs.declared.acting.Tried.TheVariants.{Behind, Refused}
-use Rattle.stage.specs.declared.faults.CommitFault.TheVariants.{Full}
+use Rattle.stage.specs.declared.faults.CommitFault.{CommitFault}
+use Rattle.stage.specs.declared.faults.CommitFault.TheVariants.{Full, Memory, NotYet}
 use Rattle.stage.specs.Holds.{SawLimit}
+use Rattle.stage.specs.Homes.{HomeState}
 use Rattle.stage.specs.Owners.{cast_place}
 use Rattle.stage.specs.Roles.{RoleStandsAt}
-use Rattle.stage.specs.Seats.{Base, HasMet}
+use Rattle.stage.specs.Seats.{Base, HasMet, LookedOn, RefusedFor}
 use Rattle.turn_lock.specs.declared.views.View.{View}
 use Rattle.turn_lock.specs.Views.{number}
 
@@ -50,3 +54,37 @@ pub record Leaves (bundle : PlainBundle) (q : Role) (v w : View Entry Base) (tri
   pub went : WentOn v w
   pub tied : tried ≢ Behind → IsTied bundle q w local
   pub full : tried ≡ Refused Full → SawLimit w
+
+-- of a try that was refused, what holds of the fault
+abbrev pub IfRefused : Tried → (CommitFault → Type 0) → Type 0
+IfRefused (Refused f) P = P f
+IfRefused _ P = Unit {0}
+
+-- a refused try left the role as it was; if memory wasn't wanting, the act was refused in one hold
+pub record IsRefusedTry (a : Act) (v w : View Entry Base) (old new : LocalState) (f : CommitFault)
+    : Type 0 where
+  pub same : new ≡ old
+  pub held : f ≢ Memory → RefusedFor (act_fault a) v w f
+
+-- the act may come later, and nothing else is amiss
+abbrev pub is_not_yet : Tried → Bool
+is_not_yet (Refused NotYet) = true
+is_not_yet _ = false
+
+-- the seat was refused for this fault in a hold, and has only looked on before it and since
+pub record RefusedIn (fault_of : HomeState → Option CommitFault) (v w : View Entry Base)
+    (f : CommitFault) : Type 0 where
+  pub before : View Entry Base
+  pub after : View Entry Base
+  pub came : LookedOn v before
+  pub refused : RefusedFor fault_of before after f
+  pub left : LookedOn after w
+
+-- the seat went on until it was refused for this fault in a hold, and has only looked on since
+pub record LeftFor (fault_of : HomeState → Option CommitFault) (v w : View Entry Base)
+    (f : CommitFault) : Type 0 where
+  pub before : View Entry Base
+  pub after : View Entry Base
+  pub came : WentOn v before
+  pub refused : RefusedFor fault_of before after f
+  pub left : LookedOn after w

@@ -12,7 +12,7 @@ ghost use Rattle.flat_role.specs.FlatStates.{local_of, IsReady};
 ghost use Rattle.dpoc_process.specs.RoleSteps.{IsPrepared};
 ghost use Rattle.marked_laws.specs.Laws.{IsSound};
 ghost use Rattle.role_runner.specs.Acts.{is_alone};
-ghost use Rattle.role_runner.specs.Ties.{IsTied, Leaves};
+ghost use Rattle.role_runner.specs.Ties.{IfRefused, IsRefusedTry, IsTied, Leaves, is_not_yet};
 ghost use Rattle.stage.specs.Seats.{CanCommitOwn, CommittedOwn, RefusedFor};
 ghost use Rattle.stage.specs.Faults.{role_fault};
 ghost use Rattle.stage.specs.Stages.{IsSeatIn};
@@ -39,6 +39,15 @@ pub(crate) enum Tried {
     Behind,
 }
 
+impl Tried {
+    /// Whether the act was refused since it may not come yet.
+    pub(crate) fn is_not_yet(&self) -> bool
+        ensures { result ≡ is_not_yet self.now }
+    {
+        matches!(self, Tried::Refused(CommitFault::NotYet))
+    }
+}
+
 /// Puts the message of a put for which the role is ready.
 pub(crate) fn put<R: Wait, G: Gate>(
     rt: &R,
@@ -60,6 +69,8 @@ pub(crate) fn put<R: Wait, G: Gate>(
     ensures of { IsSeatIn stage.now result.0 }
     ensures leaves { Leaves (plain bundle.now) role.now (view seat) (view result.0) result.1
         (local_of state.new) }
+    ensures refused { IfRefused result.1 (IsRefusedTry act.now (view seat) (view result.0)
+        (local_of state.old) (local_of state.new)) }
 {
     known();
     process_steps::offers_are_steps();
@@ -113,6 +124,8 @@ pub(crate) fn take<R: Wait, G: Gate>(
     ensures of { IsSeatIn stage.now result.0 }
     ensures leaves { Leaves (plain bundle.now) role.now (view seat) (view result.0) result.1
         (local_of state.new) }
+    ensures refused { IfRefused result.1 (IsRefusedTry act.now (view seat) (view result.0)
+        (local_of state.old) (local_of state.new)) }
 {
     known();
     process_steps::offers_are_steps();
@@ -167,6 +180,8 @@ pub(crate) fn alone<R: Wait, G: Gate>(
     ensures of { IsSeatIn stage.now result.0 }
     ensures leaves { Leaves (plain bundle.now) role.now (view seat) (view result.0) result.1
         (local_of state.new) }
+    ensures refused { IfRefused result.1 (IsRefusedTry act.now (view seat) (view result.0)
+        (local_of state.old) (local_of state.new)) }
 {
     known();
     process_steps::offers_are_steps();

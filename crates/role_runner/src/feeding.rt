@@ -1,7 +1,8 @@
 //! The feeder: it makes the changes of the script.
 
-ghost use Rattle.std.specs.Prelude.{◌≡◌};
-ghost use Rattle.role_runner.specs.Ties.{WentOn};
+ghost use Rattle.std.specs.Prelude.{◌≡◌, ◌≢◌};
+ghost use Rattle.role_runner.specs.Ties.{LeftFor, WentOn};
+ghost use Rattle.stage.specs.Faults.{feeder_fault};
 ghost use Rattle.stage.specs.Holds.{IsFeeder};
 ghost use Rattle.stage.specs.Seats.{HasMet};
 ghost use Rattle.stage.specs.Stages.{IsSeatIn};
@@ -13,18 +14,21 @@ use std::sync::Wait;
 use turn_lock::Seat;
 
 /// Makes the changes of the script, each once it is due, until none is left, the history is full,
-/// every role has finished, memory runs out or the stage was stopped. The seat comes back.
+/// every role has finished, memory runs out or the stage was stopped. The seat comes back, with the
+/// fault for which the last change was refused.
 pub(crate) fn feed<R: Wait, G: Gate>(
     rt: &R,
     stage: &Stage,
     gate: &G,
     seat: Seat<Home>,
-) -> Seat<Home>
+) -> (Seat<Home>, CommitFault)
     requires of { IsSeatIn stage.now seat }
     requires feeder { IsFeeder (view seat) }
     requires met { HasMet (view seat) }
-    ensures of { IsSeatIn stage.now result }
-    ensures went { WentOn (view seat) (view result) }
+    ensures of { IsSeatIn stage.now result.0 }
+    ensures went { WentOn (view seat) (view result.0) }
+    ensures over { result.1 ≢ CommitFault.NotYet }
+    ensures left { LeftFor feeder_fault (view seat) (view result.0) result.1 }
 {
     let mut seat = seat;
     for _ in rt.forever() {
@@ -33,9 +37,11 @@ pub(crate) fn feed<R: Wait, G: Gate>(
         seat = next;
         match made {
             Ok(()) => gate.pass(rt, Place::AfterChange),
-            Err(CommitFault::NotYet) => stage.wait_past(rt, count),
-            Err(CommitFault::Memory) => return stage.stop(rt, seat, Why::Memory(0)),
-            Err(_) => return seat,
+            Err(fault) => match fault {
+                CommitFault::NotYet => stage.wait_past(rt, count),
+                CommitFault::Memory => return (stage.stop(rt, seat, Why::Memory(0)), fault),
+                _ => return (seat, fault),
+            },
         }
     }
     unreachable!()

@@ -1,11 +1,14 @@
 //! A role that runs in its thread.
 
-ghost use Rattle.std.specs.Prelude.{◌≡◌, [], true, None, IfSome};
+ghost use Rattle.std.specs.Prelude.{◌≡◌, [], All, true, None, IfSome};
 ghost use Rattle.dioc_terms.specs.Equality.{member};
 ghost use Rattle.dioc_terms.specs.Plain.{plain};
+ghost use Rattle.dpoc_process.specs.LocalStates.{offered};
 ghost use Rattle.flat_role.specs.FlatStates.{local_of};
 ghost use Rattle.marked_laws.specs.Laws.{IsSound};
-ghost use Rattle.role_runner.specs.Ties.{IsSeated, IsTied, Leaves, WentOn};
+ghost use Rattle.process_steps.specs.Steps.{is_offered};
+ghost use Rattle.role_runner.specs.Acts.{act_fault};
+ghost use Rattle.role_runner.specs.Ties.{IfRefused, IsRefusedTry, IsSeated, IsTied, Leaves, RefusedIn, WentOn, is_not_yet};
 ghost use Rattle.stage.specs.Owners.{cast_place};
 ghost use Rattle.stage.specs.Stages.{IsSeatIn};
 ghost use Rattle.turn_lock.specs.Words.{view};
@@ -109,7 +112,7 @@ fn given_up(state: FlatRole) -> Option<FlatRole>
 }
 
 /// Tries the acts of the role's process, in their order, until one is done or refused for more than
-/// that it may not come yet.
+/// that it may not come yet. Where none may come yet each was tried.
 fn take_turn<R: Wait, G: Gate>(
     rt: &R,
     alloc: Global,
@@ -126,6 +129,9 @@ fn take_turn<R: Wait, G: Gate>(
     ensures of { IsSeatIn stage.now result.0 }
     ensures leaves { Leaves (plain bundle.now) role.now (view seat) (view result.0) result.1
         (local_of state.new) }
+    ensures tried { is_not_yet result.1 ≡ true → All
+        (λ act. RefusedIn (act_fault act) (view seat) (view result.0) CommitFault.NotYet)
+        (offered (local_of state.old)) }
 {
     let Ok(acts) = state.acts(alloc) else {
         return (seat, Tried::Refused(CommitFault::Memory));
@@ -134,16 +140,15 @@ fn take_turn<R: Wait, G: Gate>(
     for act in acts.as_slice() {
         let (next, tried) = try_act(rt, alloc, stage, bundle, gate, role, seat, state, act);
         seat = next;
-        match tried {
-            Tried::Refused(CommitFault::NotYet) => {}
-            other => return (seat, other),
+        if !tried.is_not_yet() {
+            return (seat, tried);
         }
     }
     (seat, Tried::Refused(CommitFault::NotYet))
 }
 
 /// One try of an act: it is prepared outside the lock, committed inside it, and then done by the
-/// role's own state. An act that the process doesn't offer may not come yet.
+/// role's own state.
 fn try_act<R: Wait, G: Gate>(
     rt: &R,
     alloc: Global,
@@ -158,13 +163,16 @@ fn try_act<R: Wait, G: Gate>(
     requires sound { IsSound (plain bundle.now) }
     requires of { IsSeatIn stage.now seat }
     requires tied { IsTied (plain bundle.now) role.now (view seat) (local_of state.old) }
+    requires offered { is_offered act.now (offered (local_of state.old)) ≡ true }
     ensures of { IsSeatIn stage.now result.0 }
     ensures leaves { Leaves (plain bundle.now) role.now (view seat) (view result.0) result.1
         (local_of state.new) }
+    ensures refused { IfRefused result.1 (IsRefusedTry act.now (view seat) (view result.0)
+        (local_of state.old) (local_of state.new)) }
 {
     let prepared = match state.prepare(alloc, act) {
         Ok(prepared) => prepared,
-        Err(PrepareFault::NoAct) => return (seat, Tried::Refused(CommitFault::NotYet)),
+        Err(PrepareFault::NoAct) => unreachable!(),
         Err(PrepareFault::Memory) => return (seat, Tried::Refused(CommitFault::Memory)),
     };
     gate.pass(rt, Place::BeforeStep(role));

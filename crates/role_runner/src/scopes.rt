@@ -13,7 +13,7 @@ ghost use Rattle.dpoc_process.specs.RoleSteps.{IsPrepared, IsStep};
 ghost use Rattle.marked_laws.specs.Laws.{IsSound};
 ghost use Rattle.net_core.specs.Scopes.{Tells};
 ghost use Rattle.role_runner.specs.Acts.{book_given};
-ghost use Rattle.role_runner.specs.Ties.{IsTied, Leaves};
+ghost use Rattle.role_runner.specs.Ties.{IfRefused, IsRefusedTry, IsTied, Leaves};
 ghost use Rattle.stage.specs.Begins.{update_of};
 ghost use Rattle.stage.specs.Stages.{IsSeatIn};
 ghost use Rattle.turn_lock.specs.Words.{view};
@@ -51,6 +51,8 @@ pub(crate) fn begin<R: Wait, G: Gate>(
     ensures of { IsSeatIn stage.now result.0 }
     ensures leaves { Leaves (plain bundle.now) role.now (view seat) (view result.0) result.1
         (local_of state.new) }
+    ensures refused { IfRefused result.1 (IsRefusedTry act.now (view seat) (view result.0)
+        (local_of state.old) (local_of state.new)) }
 {
     scope_leader::leaders_tell();
     process_steps::offers_are_steps();

@@ -170,7 +170,10 @@ fn run_place<R: Wait, G: Gate>(
             let number = place as u32;
             play(rt, alloc, stage, bundle, gate, role, number, seat)
         }
-        None => (feed(rt, stage, gate, seat), None),
+        None => {
+            let (seat, _fault) = feed(rt, stage, gate, seat);
+            (seat, None)
+        }
     }
 }
 

@@ -5,7 +5,7 @@ use Rattle.flat_role.specs.FlatStates.{local_of}
 use Rattle.role_runner.proofs.ActLemmas.{alone_can, alone_entry, alone_leaves}
 use Rattle.process_steps.specs.Steps.{Alone}
 use Rattle.role_runner.proofs.StepLemmas.{goes_on}
-use Rattle.role_runner.proofs.TieLemmas.{if_err_at, if_ok_at, refused_leaves, role_full}
+use Rattle.role_runner.proofs.TieLemmas.{alone_fault, if_err_at, if_ok_at, refused_leaves, refused_try, role_full}
 use Rattle.stage.specs.Faults.{role_fault}
 use Rattle.stage.specs.Seats.{CommittedOwn, RefusedFor}
 use Rattle.turn_lock.specs.Words.{view}
@@ -40,4 +40,10 @@ returns-in-Err-clause-leaves g c =
     let w = view c.commit_alone-seat.result.0 in
     refused_leaves (plain c.args.bundle.now) c.args.role.now (view c.args.seat) (local_of c.args.state.now) c.requires.tied role_fault w c.in-Err.fault
     (goes_on c.offers_are_steps.ensures (local_of c.args.state.now) c.args.act.now c.requires.shown.can_act) role_full
+    (if_err_at (RefusedFor role_fault (view c.args.seat) w) c.commit_alone-seat.result.1 c.in-Err.fault c.commit_alone-seat.ensures.refused c.in-Err.is)
+
+pub returns-in-Err-clause-refused : goal.returns-in-Err-clause-refused
+returns-in-Err-clause-refused g c =
+    let w = view c.commit_alone-seat.result.0 in
+    refused_try c.args.act.now role_fault (view c.args.seat) w (local_of c.args.state.now) c.in-Err.fault (alone_fault c.args.act.now c.requires.alone)
     (if_err_at (RefusedFor role_fault (view c.args.seat) w) c.commit_alone-seat.result.1 c.in-Err.fault c.commit_alone-seat.ensures.refused c.in-Err.is)

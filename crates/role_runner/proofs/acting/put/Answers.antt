@@ -1,5 +1,5 @@
 -- The put that was prepared, committed and done.
-use Rattle.std.proofs.Common.{◌≡◌, refl, sym, ◌∙◌, subst}
+use Rattle.std.proofs.Common.{◌≡◌, refl, sym, ap, ◌∙◌, subst}
 use Rattle.dioc_terms.specs.Plain.{plain}
 use Rattle.dioc_terms.specs.declared.entries.Act.TheVariants as act
 use Rattle.dioc_terms.specs.Processes.{load}
@@ -8,7 +8,8 @@ use Rattle.dpoc_process.specs.RoleSteps.{IsPrepared, IsStep}
 use Rattle.process_steps.specs.Steps.{Alone, Puts}
 use Rattle.role_runner.proofs.ActLemmas.{put_can, put_leaves, put_sends}
 use Rattle.role_runner.proofs.StepLemmas.{goes_on}
-use Rattle.role_runner.proofs.TieLemmas.{if_err_at, if_ok_at, refused_leaves, role_full}
+use Rattle.role_runner.proofs.TieLemmas.{if_err_at, if_ok_at, refused_leaves, refused_try, role_full}
+use Rattle.role_runner.specs.Acts.{act_fault}
 use Rattle.stage.specs.Faults.{role_fault}
 use Rattle.stage.specs.Seats.{Committed, RefusedFor}
 use Rattle.turn_lock.specs.Words.{view}
@@ -47,4 +48,11 @@ returns-in-Err-clause-leaves g c =
     let w = view c.commit_put-seat.result.0 in
     refused_leaves (plain c.args.bundle.now) c.args.role.now (view c.args.seat) (local_of c.args.state.now) c.requires.tied role_fault w c.in-Err.fault
     (goes_on c.offers_are_steps.ensures (local_of c.args.state.now) c.args.act.now c.requires.shown.can_act) role_full
+    (if_err_at (RefusedFor role_fault (view c.args.seat) w) c.commit_put-seat.result.1 c.in-Err.fault c.commit_put-seat.ensures.refused c.in-Err.is)
+
+pub returns-in-Err-clause-refused : goal.returns-in-Err-clause-refused
+returns-in-Err-clause-refused g c =
+    let w = view c.commit_put-seat.result.0 in
+    let is : c.args.act.now ≡ act.Put c.in-Put.key = sym c.requires.shown.act ∙ c.in-Put.is in
+    refused_try c.args.act.now role_fault (view c.args.seat) w (local_of c.args.state.now) c.in-Err.fault (ap act_fault is)
     (if_err_at (RefusedFor role_fault (view c.args.seat) w) c.commit_put-seat.result.1 c.in-Err.fault c.commit_put-seat.ensures.refused c.in-Err.is)

@@ -1,5 +1,5 @@
 -- The take that was prepared, committed and done.
-use Rattle.std.proofs.Common.{◌≡◌, refl, sym, subst}
+use Rattle.std.proofs.Common.{◌≡◌, refl, sym, ap, subst}
 use Rattle.dioc_terms.specs.Plain.{plain}
 use Rattle.dioc_terms.specs.declared.entries.Act.TheVariants as act
 use Rattle.dioc_terms.specs.Processes.{load}
@@ -9,7 +9,8 @@ use Rattle.dpoc_process.specs.RoleSteps.{IsPrepared, IsStep}
 use Rattle.process_steps.specs.Steps.{Got, Takes}
 use Rattle.role_runner.proofs.ActLemmas.{take_can, take_enabled, take_leaves}
 use Rattle.role_runner.proofs.StepLemmas.{goes_on, take_key, take_shown}
-use Rattle.role_runner.proofs.TieLemmas.{if_err_at, if_ok_at, refused_leaves, take_full}
+use Rattle.role_runner.proofs.TieLemmas.{if_err_at, if_ok_at, refused_leaves, refused_try, take_full}
+use Rattle.role_runner.specs.Acts.{act_fault}
 use Rattle.stage.specs.Faults.{take_fault}
 use Rattle.stage.specs.Seats.{Committed, RefusedFor}
 use Rattle.turn_lock.specs.Words.{view}
@@ -67,4 +68,13 @@ returns-in-Err-clause-leaves g c =
     let w = view c.commit_take-seat.result.0 in
     refused_leaves (plain c.args.bundle.now) c.args.role.now (view c.args.seat) (local_of c.args.state.now) c.requires.tied (take_fault key) w c.in-Err.fault
     (goes_on c.offers_are_steps.ensures (local_of c.args.state.now) c.args.act.now c.requires.shown.can_act) (take_full key)
+    (if_err_at (RefusedFor (take_fault key) (view c.args.seat) w) c.commit_take-seat.result.1 c.in-Err.fault c.commit_take-seat.ensures.refused c.in-Err.is)
+
+pub returns-in-Err-clause-refused : goal.returns-in-Err-clause-refused
+returns-in-Err-clause-refused g c =
+    let key = c.taken-key.result.0 in
+    let w = view c.commit_take-seat.result.0 in
+    let is : c.args.act.now ≡ act.Take key =
+    take_key c.offers_are_steps.ensures c.steps_show_their_acts.ensures (local_of c.args.state.now) c.args.act.now c.args.prepared c.requires.shown c.requires.take.0 c.requires.take.1 key c.taken-key.result.1 c.taken-key.ensures in
+    refused_try c.args.act.now (take_fault key) (view c.args.seat) w (local_of c.args.state.now) c.in-Err.fault (ap act_fault is)
     (if_err_at (RefusedFor (take_fault key) (view c.args.seat) w) c.commit_take-seat.result.1 c.in-Err.fault c.commit_take-seat.ensures.refused c.in-Err.is)

@@ -1,26 +1,34 @@
--- An act that isn't prepared leaves all as it was.
-use Rattle.std.proofs.Common.{◌≡◌, sym, subst}
+-- An act for which there is no memory leaves all as it was.
+use Rattle.std.proofs.Common.{◌≡◌, Err, sym, ap, ◌∙◌, subst}
+use Rattle.std.proofs.lemmas.Bool.{both_ways}
 use Rattle.dioc_terms.specs.Plain.{plain}
 use Rattle.flat_role.specs.FlatStates.{local_of}
-use Rattle.role_runner.proofs.TieLemmas.{stays_leaves}
+use Rattle.process_steps.specs.Steps.{is_offered}
+use Rattle.dpoc_process.specs.LocalStates.{offered}
+use Rattle.role_runner.proofs.TieLemmas.{prepared_try, scarce_try, stays_leaves}
 use Rattle.role_runner.specs.declared.acting.Tried.TheVariants as tried
 use Rattle.role_runner.specs.Ties.{Leaves}
 use Rattle.stage.specs.declared.faults.CommitFault.TheVariants as fault
 use Rattle.turn_lock.specs.Words.{view}
 use Rattle.role_runner.proofs.playing.try_act.Goals as goal
 
-not_yet : fault.NotYet ≡ fault.Full → ⊥
-not_yet is = cc
-
 no_memory : fault.Memory ≡ fault.Full → ⊥
 no_memory is = cc
 
-pub returns-in-Err-NoAct-clause-leaves : goal.returns-in-Err-NoAct-clause-leaves
-returns-in-Err-NoAct-clause-leaves g c =
-    subst (λ s. Leaves (plain c.args.bundle.now) c.args.role.now (view c.args.seat) (view c.args.seat) (tried.Refused fault.NotYet) s) (sym c.prepare.ensures.same)
-    (stays_leaves (plain c.args.bundle.now) c.args.role.now (view c.args.seat) (local_of c.args.state.now) fault.NotYet not_yet c.requires.tied)
+-- an act that is offered is prepared, but where memory is wanting
+pub unreachable-requires : goal.unreachable-requires
+unreachable-requires g c =
+    both_ways (is_offered c.args.act.now (offered (local_of c.args.state.now))) (c.prepare.ensures.no_act.0 (c.in-Err-NoAct.is ∙ ap Err c.in-Err-NoAct.field-0-is)) c.requires.offered
 
 pub returns-in-Err-Memory-clause-leaves : goal.returns-in-Err-Memory-clause-leaves
 returns-in-Err-Memory-clause-leaves g c =
     subst (λ s. Leaves (plain c.args.bundle.now) c.args.role.now (view c.args.seat) (view c.args.seat) (tried.Refused fault.Memory) s) (sym c.prepare.ensures.same)
     (stays_leaves (plain c.args.bundle.now) c.args.role.now (view c.args.seat) (local_of c.args.state.now) fault.Memory no_memory c.requires.tied)
+
+pub returns-in-Err-Memory-clause-refused : goal.returns-in-Err-Memory-clause-refused
+returns-in-Err-Memory-clause-refused g c =
+    scarce_try c.args.act.now (view c.args.seat) (local_of c.args.state.now) (local_of c.prepare.new.self) c.prepare.ensures.same
+
+pub returns-in-Put-clause-refused : goal.returns-in-Put-clause-refused
+returns-in-Put-clause-refused g c =
+    prepared_try c.args.act.now (view c.args.seat) (view c.put.result.0) (local_of c.args.state.now) (local_of c.prepare.new.self) (local_of c.put.new.state) c.put.result.1 c.prepare.ensures.same c.put.ensures.refused

@@ -1,22 +1,17 @@
 -- The seats came back, so the stage closes, and its history is what the seats say of it.
-use Rattle.std.proofs.Common.{◌≢◌, IfSome, length, map, slice_get, subst, sym}
+use Rattle.std.proofs.Common.{◌≢◌, All, length, map, subst, sym}
 use Rattle.dioc_terms.specs.Plain.{plain}
-use Rattle.role_runner.proofs.CloseLemmas.{closed_is, closed_prompt, closed_run, distinct_cast, first_knows, none_missing}
+use Rattle.role_runner.proofs.CloseLemmas.{closed_is, closed_prompt, closed_run, distinct_cast, none_missing}
 use Rattle.role_runner.proofs.RunLemmas.{run_ended, run_full, run_goes}
 use Rattle.role_runner.proofs.TieLemmas.{if_err_at}
 use Rattle.role_runner.specs.Endings.{AllWent}
 use Rattle.turn_lock.specs.Words.{view}
 use Rattle.role_runner.proofs.runs.run.Goals as goal
 
-pub close-requires-clause-first : goal.close-requires-clause-first
-close-requires-clause-first g c =
-    let went = subst (λ vs. AllWent vs (map view c.run_roles-seats.result.0.items)) c.in_ok-stage.ensures.views c.run_roles-seats.ensures.went in
-    λ _. first_knows (plain c.args.bundle.now) c.args.limit c.run_roles-seats.result.0.items went
-
 pub unreachable-requires : goal.unreachable-requires
 unreachable-requires g c =
     let went = subst (λ vs. AllWent vs (map view c.run_roles-seats.result.0.items)) c.in_ok-stage.ensures.views c.run_roles-seats.ensures.went in
-    none_missing (plain c.args.bundle.now) c.args.limit c.run_roles-seats.result.0.items went (if_err_at (λ _. IfSome (slice_get c.run_roles-seats.result.0.items 0) (λ s. (view s).made ≢ length c.run_roles-seats.result.0.items)) c.close.result c.in_default.field-0 c.close.ensures.missing c.in_default.is)
+    none_missing (plain c.args.bundle.now) c.args.limit c.run_roles-seats.result.0.items went (if_err_at (λ _. All (λ s. (view s).made ≢ length c.run_roles-seats.result.0.items) c.run_roles-seats.result.0.items) c.close.result c.in_default.field-0 c.close.ensures.missing c.in_default.is)
 
 pub returns-in-Ended-clause-run : goal.returns-in-Ended-clause-run
 returns-in-Ended-clause-run g c =

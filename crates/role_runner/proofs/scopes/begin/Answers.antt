@@ -8,8 +8,8 @@ use Rattle.dpoc_process.specs.RoleSteps.{IsPrepared, IsStep}
 use Rattle.net_core.specs.Scopes.{Tells}
 use Rattle.role_runner.proofs.ScopeLemmas.{begin_can, begin_leaves, chosen, head_there, heads, led, tells}
 use Rattle.role_runner.proofs.StepLemmas.{goes_on}
-use Rattle.role_runner.proofs.TieLemmas.{if_err_at, if_ok_at, refused_leaves, role_full}
-use Rattle.role_runner.specs.Acts.{book_given}
+use Rattle.role_runner.proofs.TieLemmas.{if_err_at, if_ok_at, refused_leaves, refused_try, role_full}
+use Rattle.role_runner.specs.Acts.{act_fault, book_given}
 use Rattle.stage.specs.Faults.{role_fault}
 use Rattle.stage.specs.Holds.{CommittedScope}
 use Rattle.stage.specs.Seats.{RefusedFor}
@@ -58,4 +58,10 @@ returns-clause-leaves g c =
     let w = view c.commit_scope-seat.result.0 in
     refused_leaves (plain c.args.bundle.now) c.args.role.now (view c.args.seat) (local_of c.args.state.now) c.requires.tied role_fault w c.in-Err.fault
     (goes_on c.offers_are_steps.ensures (local_of c.args.state.now) c.args.act.now c.requires.shown.can_act) role_full
+    (if_err_at (RefusedFor role_fault (view c.args.seat) w) c.commit_scope-seat.result.1 c.in-Err.fault c.commit_scope-seat.ensures.refused c.in-Err.is)
+
+pub returns-clause-refused : goal.returns-clause-refused
+returns-clause-refused g c =
+    let w = view c.commit_scope-seat.result.0 in
+    refused_try c.args.act.now role_fault (view c.args.seat) w (local_of c.args.state.now) c.in-Err.fault (ap act_fault c.requires.scope.1)
     (if_err_at (RefusedFor role_fault (view c.args.seat) w) c.commit_scope-seat.result.1 c.in-Err.fault c.commit_scope-seat.ensures.refused c.in-Err.is)
