@@ -1,6 +1,7 @@
 """A limit on the address space: a call ends with its whole text, or it is refused, with status 10 and nothing on standard output.
 
-`run` isn't among the commands here: where the memory of a thread is refused, a role that waits for another may wait for ever.
+`run` isn't among the commands here: it asks for memory in no fixed order, and under a limit its trace may be another one. The tests
+of threads.py judge it.
 """
 # Limits in KiB: what is surely enough, how near the least one is found, and what a process may need more at another time; and how
 # many limits are tried.

@@ -13,9 +13,10 @@ use Rattle.marked_laws.specs.Laws.{IsSound}
 use Rattle.network_steps.specs.Network.{network_run}
 use Rattle.network_steps.specs.Schedule.{IsPrompt}
 use Rattle.role_runner.proofs.EndLemmas.{at_within, if_some_at, went_at, went_lengths}
-use Rattle.role_runner.proofs.JobLemmas.{HomeSeat, mapped_at}
+use Rattle.role_runner.proofs.JobLemmas.{mapped_at}
 use Rattle.role_runner.proofs.RunLemmas.{Closed, opening_at, opening_length}
 use Rattle.role_runner.specs.Endings.{AllWent, IsRun}
+use Rattle.role_runner.specs.Jobs.{HomeSeat}
 use Rattle.stage.specs.Owners.{owner_in}
 use Rattle.stage.specs.Seats.{Base, IsClosed, opening_views}
 use Rattle.turn_lock.specs.declared.views.View.{View}

@@ -1,4 +1,4 @@
--- A job may go to another thread, and a bundle may be borrowed by several. Both are shown a field at a time, since so many fields are too much for one search.
+-- A job may go to another thread, and a bundle and the sign may be borrowed by several. They are shown a field at a time, since so many fields are too much for one search.
 use denote.Param.Send.{IsSend, IsSync, sendable}
 use denote.Param.SendFields.{declared_send, declared_sync}
 use Rattle.std.proofs.Crossing.{crosses}
@@ -11,6 +11,7 @@ use Rattle.dioc_terms.specs.contracts.bundles.Bundle as bundle
 use Rattle.flat_role.proofs.Crossing.{flat_sends}
 use Rattle.turn_lock.proofs.turns.Seat.TheSendSync as seat_sends
 use Rattle.stage.proofs.Crossing.{home_sends}
+use Rattle.role_runner.specs.contracts.sign.Sign as sign
 use Rattle.role_runner.specs.contracts.threads.Job as job
 
 ruleset parts = (crosses, choreo_knot.crosses, expr_knot.crosses, messages_knot.crosses, sendable)
@@ -19,6 +20,12 @@ pub job_sends : IsSend job.the_row
 job_sends = declared_send job.the_type (
   search (home_sends, seat_sends.the_send, crosses, sendable) depth 60 fits 20000,
   (search (flat_sends, parts) depth 60 fits 20000, tt),
+)
+
+pub sign_syncs : IsSync sign.the_row
+sign_syncs = declared_sync sign.the_type (
+  search (crosses, sendable) depth 60 fits 20000,
+  (search (crosses, sendable) depth 60 fits 20000, tt),
 )
 
 ruleset names = (name_sends.the_sync, role_sends.the_field_sync, role_sends.the_sync, parts)

@@ -4,7 +4,6 @@ use Rattle.std.proofs.lemmas.Bool.{and_parts, or_cases, both_ways, not-true}
 use Rattle.std.proofs.lemmas.List.Elements.{All-nil, All-cons}
 use Rattle.std.proofs.lemmas.Option.{slice_get_within}
 use Rattle.std.specs.List.{list_all, list_any}
-use Rattle.std.specs.Option.{option_map_or}
 use Rattle.std.specs.Prelude.{if◌then◌else◌}
 use Rattle.dioc_terms.specs.declared.entries.Entry.{Entry}
 use Rattle.dioc_terms.specs.Plain.{PlainBundle}
@@ -17,7 +16,7 @@ use Rattle.role_runner.specs.declared.threads.Ending.{Ending}
 use Rattle.role_runner.specs.declared.threads.Ending.TheVariants as ending
 use Rattle.role_runner.specs.declared.threads.Job.{Job}
 use Rattle.role_runner.specs.Endings.{AllEnded, AllWent, SomeCut}
-use Rattle.role_runner.specs.Jobs.{EndsJob, IsOfRole, ending_in, has_seen, is_cut, has_done_state, is_done_state, is_going}
+use Rattle.role_runner.specs.Jobs.{EndsJob, HomeSeat, IsOfRole, ending_in, has_seen, is_cut, has_done_state, is_done_state, is_going}
 use Rattle.role_runner.specs.Ties.{WentOn}
 use Rattle.stage.specs.declared.stage.Stage.{Stage}
 use Rattle.stage.specs.Homes.{HasEnded}
@@ -126,10 +125,8 @@ going_state None h = absurd (both_ways false refl h)
 going_state (Some st) h = (st, refl, not-true (ended (local_of st).process) h)
 
 -- a role's state at its end, by its job
-role_end : (stage : Stage) (bundle : PlainBundle) (i : ℕ) (old new : Job) → EndsJob stage bundle i old new → (s : _) → new.seat ≡ Some s → (st : FlatRole) → new.state ≡ Some st
-    → IsOfRole bundle i (view s) st
-role_end stage bundle i old new ends s seat st state =
-    if_some_at (IsOfRole bundle i (view s)) new.state st (if_some_at (λ t. IfSome new.state (IsOfRole bundle i (view t))) new.seat s ends.tied seat) state
+role_end : (stage : Stage) (bundle : PlainBundle) (i : ℕ) (seat : HomeSeat) (job : Job) → EndsJob stage bundle i seat job → (st : FlatRole) → job.state ≡ Some st → IsOfRole bundle i (view job.seat) st
+role_end stage bundle i seat job ends st state = if_some_at (IsOfRole bundle i (view job.seat)) job.state st ends.tied state
 
 -- no role was cut where each has ended
 pub never_both : (b : PlainBundle) (limit : ℕ) (views : List (View Entry Base)) → AllEnded b views → SomeCut b limit views → ⊥
@@ -149,10 +146,10 @@ limit_rest ending.Ended all memory = absurd (all refl)
 limit_rest ending.Limit all memory = refl
 limit_rest ending.Memory all memory = absurd (memory refl)
 
--- The jobs as they were left: each seat is there, and is the one that comes back.
+-- The jobs as they were left: the seat of each is the one that comes back.
 pub record WereLeft (stage : Stage) (bundle : PlainBundle) (jobs : List Job) (views : List (View Entry Base)) : Type 0 where
-  pub ends : (i : ℕ) (job : Job) → slice_get jobs i ≡ Some job → (old : Job) × EndsJob stage bundle i old job
-  pub seats : (i : ℕ) (job : Job) (v : View Entry Base) → slice_get jobs i ≡ Some job → slice_get views i ≡ Some v → (s : _) × (job.seat ≡ Some s) × (view s ≡ v)
+  pub ends : (i : ℕ) (job : Job) → slice_get jobs i ≡ Some job → (seat : HomeSeat) × EndsJob stage bundle i seat job
+  pub seats : (i : ℕ) (job : Job) (v : View Entry Base) → slice_get jobs i ≡ Some job → slice_get views i ≡ Some v → view job.seat ≡ v
   pub all : length views ≡ length jobs
   pub roles : length bundle.cast ≤ length jobs
 
@@ -165,13 +162,13 @@ module _ (stage : Stage) (bundle : PlainBundle) (limit : ℕ) (jobs : List Job) 
       let below = slice_get_within bundle.cast i q at in
       let job = at_within jobs i (let enough = left.roles in omega (arith, below, enough)) in
       let done = done_state (job.0).state (test_at has_done_state roles i job.0 (ended_all limit roles h) (taken_at (length bundle.cast) jobs i job.0 below job.1)) in
-      let seat = left.seats i job.0 v job.1 here in
-      let end = role_end stage bundle i (left.ends i job.0 job.1).0 job.0 (left.ends i job.0 job.1).1 seat.0 seat.1 done.0 done.1 in
+      let same_view : view (job.0).seat ≡ v = left.seats i job.0 v job.1 here in
+      let end = role_end stage bundle i (left.ends i job.0 job.1).0 job.0 (left.ends i job.0 job.1).1 done.0 done.1 in
       let same : end.role ≡ q = some_same (sym end.at ∙ at) in
-      subst (λ (u : View Entry Base). HasEnded bundle u.seen q) seat.2 (record {
+      subst (λ (u : View Entry Base). HasEnded bundle u.seen q) same_view (record {
         process = (local_of done.0).process;
         store = (local_of done.0).store;
-        stands = subst (λ r. RoleStandsAt bundle (view seat.0).seen r (local_of done.0).process (local_of done.0).store) same end.tied.stands;
+        stands = subst (λ r. RoleStandsAt bundle (view (job.0).seat).seen r (local_of done.0).process (local_of done.0).store) same end.tied.stands;
         done = done.2;
       })
 
@@ -182,19 +179,18 @@ module _ (stage : Stage) (bundle : PlainBundle) (limit : ℕ) (jobs : List Job) 
       let parts = and_parts (is_going (found.1).state) (has_seen limit found.1) found.3 in
       let going = going_state (found.1).state parts.0 in
       let v = at_within views found.0 (let below = from.0 in let enough = left.roles in let same = left.all in omega (arith, below, enough, same)) in
-      let seat = left.seats found.0 found.1 v.0 from.1 v.1 in
-      let end = role_end stage bundle found.0 (left.ends found.0 found.1 from.1).0 found.1 (left.ends found.0 found.1 from.1).1 seat.0 seat.1 going.0 going.1 in
+      let same_view : view (found.1).seat ≡ v.0 = left.seats found.0 found.1 v.0 from.1 v.1 in
+      let end = role_end stage bundle found.0 (left.ends found.0 found.1 from.1).0 found.1 (left.ends found.0 found.1 from.1).1 going.0 going.1 in
       record {
         place = found.0;
         role = end.role;
         view = v.0;
         at = end.at;
         here = v.1;
-        full = subst (λ (u : View Entry Base). length u.seen ≡ limit) seat.2 (eqb-true (length (view seat.0).seen) limit
-            (subst (λ o. option_map_or (λ s. length (view s).seen == limit) o false ≡ true) seat.1 parts.1));
+        full = subst (λ (u : View Entry Base). length u.seen ≡ limit) same_view (eqb-true (length (view (found.1).seat).seen) limit parts.1);
         process = (local_of going.0).process;
         store = (local_of going.0).store;
-        stands = subst (λ (u : View Entry Base). RoleStandsAt bundle u.seen end.role (local_of going.0).process (local_of going.0).store) seat.2 end.tied.stands;
+        stands = subst (λ (u : View Entry Base). RoleStandsAt bundle u.seen end.role (local_of going.0).process (local_of going.0).store) same_view end.tied.stands;
         goes = going.2;
       }
 
@@ -207,3 +203,8 @@ module _ (stage : Stage) (bundle : PlainBundle) (limit : ℕ) (jobs : List Job) 
     pub limit_exactly : (e ≡ ending.Limit) ↔ SomeCut bundle limit views
     limit_exactly =
         (λ h. some_cut (sym is ∙ h), λ cut. limit_rest e (λ h. never_both bundle limit views (all_ended (sym is ∙ h)) cut) enough)
+
+-- what holds of the ending, where one is told
+pub told_if : (P : Ending → Type 0) (are_whole : Bool) (o : Option Ending) (e : Ending) → o ≡ (if are_whole then Some e else None) → P e → IfSome o P
+told_if P true o e is holds = subst (λ x. IfSome x P) (sym is) holds
+told_if P false o e is holds = subst (λ x. IfSome x P) (sym is) tt

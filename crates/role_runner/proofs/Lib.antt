@@ -7,4 +7,5 @@ pub mod EndLemmas
 pub mod RunLemmas
 pub mod JobLemmas
 pub mod CloseLemmas
+pub mod AloneLemmas
 pub mod Crossing

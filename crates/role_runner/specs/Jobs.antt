@@ -1,7 +1,6 @@
--- What the thread of a job begins with, what it leaves, and how the jobs of all roles end.
-use Rattle.std.specs.Prelude.{◌≡◌, ◌≤◌, ℕ, ◌==◌, List, [], Bool, false, ◌&&◌, not, Option, Some, None, IfSome, IsSome, if◌then◌else◌, length, slice_get}
+-- What the thread of a seat begins with, what it leaves, and how the jobs of all roles end.
+use Rattle.std.specs.Prelude.{◌≡◌, ◌≤◌, ℕ, ◌==◌, List, [], Bool, false, ◌&&◌, not, Option, Some, None, IfSome, if◌then◌else◌, length, slice_get}
 use Rattle.std.specs.List.{list_all, list_any}
-use Rattle.std.specs.Option.{option_map_or}
 use Rattle.dioc_terms.specs.declared.entries.Entry.{Entry}
 use Rattle.dioc_terms.specs.declared.names.Role.{Role}
 use Rattle.dioc_terms.specs.Plain.{PlainBundle}
@@ -12,19 +11,27 @@ use Rattle.role_runner.specs.declared.threads.Ending.{Ending}
 use Rattle.role_runner.specs.declared.threads.Ending.TheVariants as ending
 use Rattle.role_runner.specs.declared.threads.Job.{Job}
 use Rattle.role_runner.specs.Ties.{IsSeated, IsTied, WentOn}
+use Rattle.stage.specs.contracts.home.HomeChronicle.TheImpl.{ghosts}
 use Rattle.stage.specs.declared.stage.Stage.{Stage}
+use Rattle.stage.specs.declared.marks.Marks.{Marks}
+use Rattle.stage.specs.Homes.{HomeState}
 use Rattle.stage.specs.Seats.{Base}
+use Rattle.turn_lock.specs.declared.turns.Seat.{Seat}
 use Rattle.turn_lock.specs.declared.views.View.{View}
 use Rattle.stage.specs.Stages.{IsSeatIn}
 use Rattle.turn_lock.specs.Words.{view}
 
--- The job has a seat that has seen nothing, of the stage and under the number of the place: that of
--- a role, or the feeder's behind them
-pub record OpensJob (stage : Stage) (bundle : PlainBundle) (place : ℕ) (job : Job) : Type 0 where
-  pub seated : IfSome job.seat (λ s.
-      IsSeatIn stage s × IsSeated bundle place (view s) × ((view s).seen ≡ []))
-  pub here : IsSome job.seat
-  pub within : place ≤ length bundle.cast
+abbrev pub HomeSeat : Type 0
+HomeSeat = Seat HomeState Entry Base Marks ghosts
+
+-- The seat has seen nothing, and is of the stage and under the number of the place: that of a role,
+-- or the feeder's behind them
+pub record OpensJob (stage : Stage) (bundle : PlainBundle) (place : ℕ) (seat : HomeSeat) : Type 0
+  where
+    pub of : IsSeatIn stage seat
+    pub seated : IsSeated bundle place (view seat)
+    pub fresh : (view seat).seen ≡ []
+    pub within : place ≤ length bundle.cast
 
 -- the state is that of the role at the place, and tied to the view
 pub record IsOfRole (bundle : PlainBundle) (place : ℕ) (v : View Entry Base) (state : FlatRole)
@@ -33,12 +40,17 @@ pub record IsOfRole (bundle : PlainBundle) (place : ℕ) (v : View Entry Base) (
   pub at : slice_get bundle.cast place ≡ Some role
   pub tied : IsTied bundle role v (local_of state)
 
--- the job's seat went on, and is there; its state, where there is one, is tied to it
-pub record EndsJob (stage : Stage) (bundle : PlainBundle) (place : ℕ) (old new : Job) : Type 0 where
-  pub here : IsSome new.seat
-  pub of : IfSome new.seat (λ t. IsSeatIn stage t)
-  pub went : IfSome old.seat (λ s. IfSome new.seat (λ t. WentOn (view s) (view t)))
-  pub tied : IfSome new.seat (λ t. IfSome new.state (IsOfRole bundle place (view t)))
+-- the seat went on, and a state, where there is one, is tied to it
+pub record EndsJob (stage : Stage) (bundle : PlainBundle) (place : ℕ) (seat : HomeSeat) (job : Job)
+    : Type 0 where
+  pub of : IsSeatIn stage job.seat
+  pub went : WentOn (view seat) (view job.seat)
+  pub tied : IfSome job.state (IsOfRole bundle place (view job.seat))
+
+-- the elements of two lists at each place
+abbrev pub EachAt : {A B : Type 0} → (ℕ → A → B → Type 0) → List A → List B → Type 0
+EachAt {A = A} {B = B} P xs ys =
+    (i : ℕ) (x : A) (y : B) → slice_get xs i ≡ Some x → slice_get ys i ≡ Some y → P i x y
 
 abbrev pub is_done_state : Option FlatRole → Bool
 is_done_state None = false
@@ -47,9 +59,9 @@ is_done_state (Some state) = ended (local_of state).process
 abbrev pub has_done_state : Job → Bool
 has_done_state job = is_done_state job.state
 
--- how many entries the seat of a job has seen, where it has one
+-- the seat of a job has seen so many entries
 abbrev pub has_seen : ℕ → Job → Bool
-has_seen limit job = option_map_or (λ s. length (view s).seen == limit) job.seat false
+has_seen limit job = length (view job.seat).seen == limit
 
 abbrev pub is_going : Option FlatRole → Bool
 is_going None = false

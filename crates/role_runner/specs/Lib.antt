@@ -2,3 +2,4 @@ pub mod Acts
 pub mod Ties
 pub mod Endings
 pub mod Jobs
+pub mod Starts

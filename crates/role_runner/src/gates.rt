@@ -16,7 +16,8 @@ pub enum Place<'a> {
     AfterChange,
 }
 
-/// What a run passes at each place. It has no effect on the run: a test may hold a thread there.
+/// What a thread of a run passes at each place. It has no effect on the run: a test may hold a
+/// thread there. A run for which a thread could not be started comes to no place.
 pub trait Gate {
     /// The thread that calls it is at this place. It returns once the thread may go on.
     fn pass<R: Wait>(&self, rt: &R, place: Place<'_>);

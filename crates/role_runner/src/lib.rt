@@ -8,6 +8,8 @@ mod known;
 mod playing;
 mod runs;
 mod scopes;
+mod sign;
+mod starting;
 mod threads;
 
 pub use gates::{Gate, OpenGate, Place};
