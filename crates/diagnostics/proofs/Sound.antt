@@ -1,0 +1,18 @@
+-- A text of which something is told is not sound.
+use Rattle.std.proofs.Common.{◌≡◌, ℕ, List, Some, None, ap, sym, ◌∙◌}
+use Rattle.dioc_terms.specs.Plain.{PlainBundle}
+use Rattle.bundle_text.specs.Grammar.{Spells, SpellsNone}
+use Rattle.bundle_text.specs.Laws.{OneBundle}
+use Rattle.rule_checks.specs.declared.refusals.Refusal.{Refusal}
+use Rattle.rule_checks.specs.Refusals.{refusal}
+use Rattle.diagnostics.specs.Verdicts.{IsSound}
+
+pub spells_none : (bytes : List ℕ) → SpellsNone bytes → IsSound bytes → ⊥
+spells_none bytes none sound = none sound.bundle sound.spells
+
+pub refused : (bytes : List ℕ) (b : PlainBundle) (why : Refusal) → OneBundle → Spells bytes b → refusal b ≡ Some why → IsSound bytes → ⊥
+refused bytes b why one spells is sound =
+    let same : sound.bundle ≡ b = one bytes sound.bundle b sound.spells spells in
+    let none = sound.accepted.no_refusal in
+    let told = ap refusal same ∙ is in
+    cc (sym none ∙ told)
