@@ -5,7 +5,12 @@ use Rattle.bundle_text.specs.Grammar.{Spells, SpellsNone}
 use Rattle.bundle_text.specs.Laws.{OneBundle}
 use Rattle.rule_checks.specs.declared.refusals.Refusal.{Refusal}
 use Rattle.rule_checks.specs.Refusals.{refusal}
+use Rattle.text_places.specs.Laws.{HasTokens}
 use Rattle.diagnostics.specs.Verdicts.{IsSound}
+
+-- each byte of a text that spells a bundle is in a token, a space or a comment
+pub spelled_tokens : (bytes : List ℕ) (b : PlainBundle) → Spells bytes b → HasTokens bytes
+spelled_tokens bytes b spells = (spells.reads.lexemes.tokens, spells.reads.lexemes.lexes)
 
 pub spells_none : (bytes : List ℕ) → SpellsNone bytes → IsSound bytes → ⊥
 spells_none bytes none sound = none sound.bundle sound.spells

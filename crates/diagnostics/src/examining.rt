@@ -25,6 +25,7 @@ fn told(made: Result<Diagnostic, Memory>) -> Result<Option<Diagnostic>, Memory>
 }
 
 /// What is wrong with a bundle that the bytes spell.
+#[tactic(auto, using(crate::proofs::Sound::refused, crate::proofs::Sound::spelled_tokens))]
 fn of_bundle(alloc: Global, bytes: &[u8], bundle: &Bundle) -> Result<Option<Diagnostic>, Memory>
     requires formed { IsFormed (plain bundle.now) }
     requires spells { Spells bytes.now (plain bundle.now) }

@@ -2,19 +2,20 @@
 
 ghost use Rattle.dioc_terms.specs.Bundles.{IsFormed};
 ghost use Rattle.dioc_terms.specs.Plain.{plain};
+ghost use Rattle.text_places.specs.Laws.{HasTokens};
 
 use crate::crowds::crowded;
 use crate::diagnostic::{Code, Diagnostic, Span};
 use crate::mending::write_mended;
 use crate::places::{construct_at, name_at, part_at, span_at};
 use crate::wording::{Piece, line_of, write_pieces, write_roles};
-use aioc_tokens::{Lexed, Token, TokenFault, sorts, tokens};
+use aioc_tokens::{Lexed, Token, sorts};
 use dioc_terms::{Bundle, Index, Memory, Role, give_up};
 use index_marks::{depth, nodes};
 use limits::{MOST_BODY_DEPTH, MOST_BODY_NODES, MOST_CHANGES, MOST_NODES, MOST_ROLES, MOST_RULES};
 use rule_checks::{Refusal, Where, Which};
 use std::alloc::Global;
-use text_places::{Mark, find_mark, position_at};
+use text_places::{Mark, find_mark, position_at, tokens_of};
 
 /// A text with its tokens, and the bundle that it spells.
 #[derive(Drop)]
@@ -32,12 +33,10 @@ pub fn of_refusal(
     bundle: &Bundle,
     refusal: &Refusal,
 ) -> Result<Diagnostic, Memory>
-    requires { IsFormed (plain bundle.now) }
+    requires formed { IsFormed (plain bundle.now) }
+    requires tokens { HasTokens bytes.now }
 {
-    let found = match tokens(alloc, bytes) {
-        Ok(found) => found,
-        Err(_) => return Err(Memory),
-    };
+    let found = tokens_of(alloc, bytes)?;
     let known = sorts(alloc, bytes, &found)?;
     let text = Lexed::with_sorts(bytes, &found, &known);
     let spelled = Spelled {
@@ -161,7 +160,7 @@ fn counted(
             Piece::Bytes(b" may be"),
         ],
     )?;
-    let help: &[u8] = b"docs/FORMATS.md has all limits of a bundle";
+    let help: &[u8] = b"docs/LANGUAGE.md has all limits of a bundle";
     made(alloc, Code::TooMany, span, message, &[Piece::Bytes(help)])
 }
 

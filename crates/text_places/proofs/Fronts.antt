@@ -139,7 +139,7 @@ token_kept front back tail kind count within token = record {
         let one : length front ≡ 1 = omega (arith, size.0) in
         let second : get_or (front ++ 10 ∷ tail) 1 0 ≡ 10 = ap (λ at. get_or (front ++ 10 ∷ tail) at 0) (sym one) ∙ get_or-append_seam front 10 tail 0 in
         let slash : get_or (front ++ 10 ∷ tail) 1 0 ≡ 47 = sym (get_or-take 2 (front ++ 10 ∷ tail) 1 0 (omega arith)) ∙ ap (λ word. get_or word 1 0) begins in
-        cc
+        omega arith
 
 -- ---- the front up to a token
 

@@ -5,6 +5,10 @@ use Rattle.aioc_tokens.specs.Lexing.{Lexes, place_of}
 use Rattle.aioc_tokens.specs.Lexemes.{Lexeme, lexemes, HasLexemes, HasSpelling}
 use Rattle.aioc_tokens.specs.Spelling.{spelling}
 
+-- each byte of the text is in a token, a space or a comment
+abbrev pub HasTokens : List ℕ → Type 0
+HasTokens text = (tokens : List Token) × Lexes 0 text tokens
+
 -- the text up to a token, and a line feed
 abbrev pub up_to : List ℕ → List Token → ℕ → List ℕ
 up_to text tokens at = take (place_of text tokens at) text ++ 10 ∷ []

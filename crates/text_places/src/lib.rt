@@ -2,9 +2,11 @@
 //! choreography, a rule, a change, a role or a construct begins.
 #![tactic(auto)]
 
+mod known;
 pub mod laws;
 mod marks;
 mod positions;
 
+pub use known::tokens_of;
 pub use marks::{Mark, find_mark};
 pub use positions::{Position, line_at, position_at};
