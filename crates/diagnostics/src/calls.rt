@@ -104,7 +104,7 @@ fn is_text(bytes: &[u8]) -> bool {
 }
 
 /// Tells one line about a file that can't be taken.
-fn refuse<E: Sink>(alloc: Global, file: &[u8], why: &[u8], err: &mut E) -> Status {
+fn refuse<'a, E: Sink>(alloc: Global, file: &'a [u8], why: &'a [u8], err: &mut E) -> Status {
     tell(
         alloc,
         &[

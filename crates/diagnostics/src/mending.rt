@@ -19,10 +19,10 @@ fn is_added(op: &Name) -> bool {
 }
 
 /// Appends an added message, the one with this number, and answers the next number.
-fn write_message(
+fn write_message<'a>(
     number: usize,
-    from: &Role,
-    to: &Role,
+    from: &'a Role,
+    to: &'a Role,
     out: &mut Vec<u8>,
 ) -> Result<usize, Memory> {
     if number > 0 && number < MOST_MESSAGES {

@@ -164,51 +164,52 @@ fn counted(
     made(alloc, Code::TooMany, span, message, &[Piece::Bytes(help)])
 }
 
+/// More roles than may be: the place is that of the first role that is one too many.
+fn too_many_roles(alloc: Global, spelled: &Spelled<'_>) -> Result<Diagnostic, Memory> {
+    let cast = spelled.bundle.cast.as_slice();
+    let at = match cast.get(MOST_ROLES) {
+        Some(role) => spelled.role(Where::Program, role),
+        None => None,
+    };
+    let span = spelled.span(at);
+    counted(
+        alloc,
+        span,
+        cast.len(),
+        b"roles of the choreography",
+        MOST_ROLES,
+    )
+}
+
+/// More rules at once than may be: the place is that of the first rule that is one too many.
+fn too_many_rules(alloc: Global, spelled: &Spelled<'_>) -> Result<Diagnostic, Memory> {
+    let crowd = crowded(alloc, spelled.bundle)?;
+    let at = match crowd.first {
+        Some(number) => spelled.part(Where::Rule(number)),
+        None => None,
+    };
+    let span = spelled.span(at);
+    counted(
+        alloc,
+        span,
+        crowd.count,
+        b"rules in the book at once",
+        MOST_RULES,
+    )
+}
+
 fn too_many(alloc: Global, spelled: &Spelled<'_>, which: Which) -> Result<Diagnostic, Memory> {
-    let bundle = spelled.bundle;
     match which {
         Which::Nodes => {
             let span = spelled.span(spelled.part(Where::Program));
-            counted(
-                alloc,
-                span,
-                nodes(&bundle.choreo),
-                b"nodes of the choreography",
-                MOST_NODES,
-            )
+            let count = nodes(&spelled.bundle.choreo);
+            counted(alloc, span, count, b"nodes of the choreography", MOST_NODES)
         }
-        Which::Roles => {
-            let at = match bundle.cast.as_slice().get(MOST_ROLES) {
-                Some(role) => spelled.role(Where::Program, role),
-                None => None,
-            };
-            let count = bundle.cast.len();
-            counted(
-                alloc,
-                spelled.span(at),
-                count,
-                b"roles of the choreography",
-                MOST_ROLES,
-            )
-        }
-        Which::Rules => {
-            let crowd = crowded(alloc, bundle)?;
-            let at = match crowd.first {
-                Some(number) => spelled.part(Where::Rule(number)),
-                None => None,
-            };
-            let span = spelled.span(at);
-            counted(
-                alloc,
-                span,
-                crowd.count,
-                b"rules in the book at once",
-                MOST_RULES,
-            )
-        }
+        Which::Roles => too_many_roles(alloc, spelled),
+        Which::Rules => too_many_rules(alloc, spelled),
         Which::Changes => {
             let span = spelled.span(find_mark(spelled.text, Mark::Change, 0, MOST_CHANGES));
-            let count = bundle.script.len();
+            let count = spelled.bundle.script.len();
             counted(alloc, span, count, b"changes of the script", MOST_CHANGES)
         }
     }
@@ -314,9 +315,8 @@ fn unlinked(
         &[
             Piece::Bytes(b"'"),
             Piece::Bytes(role.0.bytes()),
-            Piece::Bytes(
-                b"' begins this part of a sequence, but has no part in an end of what comes before it, from ",
-            ),
+            Piece::Bytes(b"' begins this part of a sequence, but has no part in an end of what"),
+            Piece::Bytes(b" comes before it, from "),
         ],
         &mut message,
     )?;

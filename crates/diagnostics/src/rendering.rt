@@ -20,10 +20,10 @@ const MOST_SHOWN: usize = 160;
 const MOST_BEFORE: usize = 100;
 
 /// Appends the first line: file, place and message.
-fn write_head(
-    file: &[u8],
+fn write_head<'a>(
+    file: &'a [u8],
     position: Position,
-    message: &[u8],
+    message: &'a [u8],
     out: &mut Vec<u8>,
 ) -> Result<(), Memory>
     ensures { OnOk result (out.new.items ≡ out.old.items ++ head_text file.now position
@@ -118,21 +118,17 @@ pub fn write_text(
     let before = position.column.saturating_sub(1);
     let from = shown_from(line, before);
     let shown = shown_of(line, from);
-    write_pieces(&[Piece::Bytes(shown), Piece::Bytes(b"\n")], out)?;
+    write_bytes(shown, out)?;
+    write_bytes(b"\n", out)?;
     write_carets(
         shown,
         before.saturating_sub(from),
         width(diagnostic.span),
         out,
     )?;
-    write_pieces(
-        &[
-            Piece::Bytes(b"help: "),
-            Piece::Bytes(&diagnostic.help),
-            Piece::Bytes(b"\n"),
-        ],
-        out,
-    )
+    write_bytes(b"help: ", out)?;
+    write_bytes(&diagnostic.help, out)?;
+    write_bytes(b"\n", out)
 }
 
 /// Puts a value at a key.

@@ -87,9 +87,15 @@ fn bad_byte(alloc: Global, bytes: &[u8], at: usize) -> Result<Diagnostic, Memory
             alloc,
             &[Piece::Bytes(b"a text in quotes begins here and doesn't end")],
         )?;
-        let help: &[u8] =
-            b"a text ends on its line; it has printable ASCII, and '\"' and '\\' behind a '\\'";
-        return made(alloc, Code::BadByte, span, message, &[Piece::Bytes(help)]);
+        let line: &[u8] = b"a text ends on its line; it has printable ASCII, ";
+        let pairs: &[u8] = b"and '\"' and '\\' behind a '\\'";
+        return made(
+            alloc,
+            Code::BadByte,
+            span,
+            message,
+            &[Piece::Bytes(line), Piece::Bytes(pairs)],
+        );
     }
     if byte > 0x20 && byte < 0x7f {
         let shown = [byte];
@@ -101,9 +107,15 @@ fn bad_byte(alloc: Global, bytes: &[u8], at: usize) -> Result<Diagnostic, Memory
                 Piece::Bytes(b"', which is in no token"),
             ],
         )?;
-        let help: &[u8] =
-            b"a name has letters, digits and '_', and begins with a letter; comments begin with '//'";
-        return made(alloc, Code::BadByte, span, message, &[Piece::Bytes(help)]);
+        let name: &[u8] = b"a name has letters, digits and '_', and begins with a letter; ";
+        let comment: &[u8] = b"comments begin with '//'";
+        return made(
+            alloc,
+            Code::BadByte,
+            span,
+            message,
+            &[Piece::Bytes(name), Piece::Bytes(comment)],
+        );
     }
     let message = line_of(
         alloc,
@@ -197,9 +209,15 @@ fn great_number(alloc: Global, span: Span, token: &[u8]) -> Result<Diagnostic, M
             Piece::Bytes(b" is too great here"),
         ],
     )?;
-    let help: &[u8] =
-        b"a value is at most 9223372036854775807, a place or an epoch 4294967295, a priority 1000000";
-    made(alloc, Code::Number, span, message, &[Piece::Bytes(help)])
+    let value: &[u8] = b"a value is at most 9223372036854775807, ";
+    let others: &[u8] = b"a place or an epoch 4294967295, a priority 1000000";
+    made(
+        alloc,
+        Code::Number,
+        span,
+        message,
+        &[Piece::Bytes(value), Piece::Bytes(others)],
+    )
 }
 
 /// The place of the first bracket that is open with as many others as may be, if any.
@@ -267,7 +285,14 @@ fn too_deep(alloc: Global, byte: usize) -> Result<Diagnostic, Memory> {
         start: byte,
         end: byte,
     };
-    let help: &[u8] =
-        b"a step behind ';' and a part behind '|' lie one deeper than the one before it: put some into brackets";
-    made(alloc, Code::Depth, span, message, &[Piece::Bytes(help)])
+    let why: &[u8] =
+        b"a step behind ';' and a part behind '|' lie one deeper than the one before it";
+    let help: &[u8] = b": put some into brackets";
+    made(
+        alloc,
+        Code::Depth,
+        span,
+        message,
+        &[Piece::Bytes(why), Piece::Bytes(help)],
+    )
 }

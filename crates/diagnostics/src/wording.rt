@@ -100,7 +100,7 @@ const COMPARISON: [Item; 6] = [
 ];
 
 /// The groups, each before those that are a part of it.
-fn group(number: usize) -> Option<Group> {
+fn group_at(number: usize) -> Option<Group> {
     match number {
         0 => Some(Group {
             name: b"an expression",
@@ -136,7 +136,7 @@ fn are_among(some: &[Item], items: &[Item]) -> bool {
 /// The number of the group that stands for an item in a list of items.
 fn group_of(item: Item, items: &[Item]) -> Option<usize> {
     for number in 0..GROUPS {
-        if let Some(group) = group(number) {
+        if let Some(group) = group_at(number) {
             if group.items.contains(&item) && are_among(group.items, items) {
                 return Some(number);
             }
@@ -182,7 +182,7 @@ fn names_of(alloc: Global, items: &[Item], may_end: bool) -> Result<Vec<Vec<u8>>
             Some(number) if number < GROUPS => {
                 if !told[number] {
                     told[number] = true;
-                    if let Some(group) = group(number) {
+                    if let Some(group) = group_at(number) {
                         names.push(Vec::from_slice(alloc, group.name)?)?;
                     }
                 }
