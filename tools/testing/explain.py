@@ -9,7 +9,7 @@ from pages.shown import blocks_of_markdown
 from testing.runner import Failed, Test
 
 CRATE, PAGE = "crates/aioc_tool", "docs/EXPLAIN.md"
-USAGE = ["usage: aioc-tool explain [FILE] [--json]"]
+USAGE = ["usage: aioc-tool explain [FILE] [--json]", "       aioc-tool format [FILE..] [--check] [--write]"]
 SOUND, FAULTY = "aioc { x@a = 1 }\n", "aioc {\n\tx@a = 1;\n\ty@@a = 2\n}\n"
 PLACE = "bad.aioc:3:4: error: expected a name, found '@'"
 

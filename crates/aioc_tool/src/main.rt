@@ -1,9 +1,12 @@
-//! The program `aioc_tool`: its words, and the file or standard input, go to the call that tells
-//! what is wrong with the text of a bundle; standard error gets what it tells.
+//! The program `aioc_tool`: its words, and the files or standard input, go to the call that tells
+//! what is wrong with the text of a bundle, or to the one that lays it out.
 #![tactic(auto)]
+
+mod format;
 
 use aioc_io::{Sink, StdSink, StdSource};
 use diagnostics::{Command, Piece, Request, Status, explain, read_request, tell};
+use format::{format_files, read_wanted};
 use std::process::ExitCode;
 use std::{env, fs, io};
 
@@ -27,8 +30,13 @@ fn bytes_of(rt: &HostRuntime, words: &[String]) -> io::Result<Vec<Vec<u8>>> {
 
 // Tells how to use the program.
 fn tell_usage<E: Sink>(rt: &HostRuntime, err: &mut E) -> Status {
-    let usage: &[u8] = b"usage: aioc-tool explain [FILE] [--json]\n";
-    tell(rt.alloc(), &[Piece::Bytes(usage)], err);
+    let explain: &[u8] = b"usage: aioc-tool explain [FILE] [--json]\n";
+    let format: &[u8] = b"       aioc-tool format [FILE..] [--check] [--write]\n";
+    tell(
+        rt.alloc(),
+        &[Piece::Bytes(explain), Piece::Bytes(format)],
+        err,
+    );
     Status::Unusable
 }
 
@@ -69,16 +77,40 @@ fn answer<E: Sink>(rt: &HostRuntime, words: &[String], request: Request, err: &m
     }
 }
 
+// Whether the words ask for a layout.
+fn asks_for_layout(words: &[String]) -> bool {
+    match words.first() {
+        Some(word) => word.as_str() == "format",
+        None => false,
+    }
+}
+
+// Lays out what the words name.
+fn lay_out<E: Sink>(rt: &HostRuntime, words: &[String], err: &mut E) -> Status {
+    let mut out = StdSink::new(rt.stdout());
+    match read_wanted(rt.alloc(), words) {
+        Ok(Some(wanted)) => format_files(rt, &wanted, &mut out, err),
+        Ok(None) => tell_usage(rt, err),
+        Err(_) => Status::Memory,
+    }
+}
+
+// Tells what the words ask for.
+fn explain_words<E: Sink>(rt: &HostRuntime, words: &[String], err: &mut E) -> Status {
+    match bytes_of(rt, words) {
+        Ok(bytes) => match read_request(&bytes) {
+            Some(request) => answer(rt, words, request, err),
+            None => tell_usage(rt, err),
+        },
+        Err(_) => Status::Memory,
+    }
+}
+
 fn main(rt: HostRuntime) -> ExitCode {
     let mut err = StdSink::new(rt.stderr());
     let status = match read_words(&rt) {
-        Ok(words) => match bytes_of(&rt, &words) {
-            Ok(bytes) => match read_request(&bytes) {
-                Some(request) => answer(&rt, &words, request, &mut err),
-                None => tell_usage(&rt, &mut err),
-            },
-            Err(_) => Status::Memory,
-        },
+        Ok(words) if asks_for_layout(&words) => lay_out(&rt, &words, &mut err),
+        Ok(words) => explain_words(&rt, &words, &mut err),
         Err(error) if error.kind() == io::ErrorKind::InvalidData => tell_usage(&rt, &mut err),
         Err(_) => Status::Memory,
     };
