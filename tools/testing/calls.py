@@ -16,10 +16,11 @@ SHORT = 300
 
 
 class Programs:
-    """The two programs, and a folder for the texts of commands."""
+    """The programs, and a folder for the texts of commands. The tool is None where there is none."""
 
-    def __init__(self, aioc, diagram):
-        self.aioc, self.diagram, self.folder, self.texts, self.lock = aioc, diagram, None, 0, threading.Lock()
+    def __init__(self, aioc, diagram, tool):
+        self.aioc, self.diagram, self.tool = aioc, diagram, tool
+        self.folder, self.texts, self.lock = None, 0, threading.Lock()
 
     def room(self):
         """A folder for files of the tests. It goes where it is empty at the end."""

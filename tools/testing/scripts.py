@@ -1,4 +1,5 @@
-"""The scripts around the programs: what ./aioc and ./aioc-diagram run and what they refuse, tools/install, and ./test itself."""
+"""The scripts around the programs: what ./aioc, ./aioc-diagram and ./aioc-tool run and what they refuse, tools/install, and ./test
+itself."""
 import hashlib
 import os
 import shutil
@@ -6,7 +7,7 @@ import tempfile
 
 from testing.runner import Failed, Test
 
-NAMES = ("aioc", "aioc-diagram")
+NAMES = ("aioc", "aioc-diagram", "aioc-tool")
 HELLO, GREETED = "aioc { hi: a(1) -> b(x) }", ["put a -> b hi#0.0 = 1", "take a -> b hi#0.0 x", "ended 2"]
 WRONG_SUM = "{0}: release/{0} is not run: its sum is not the one in release/SHA256SUMS"
 INSTALLED = {"bin/aioc", "bin/aioc-diagram", "share/man/man1/aioc.1", "share/bash-completion/completions/aioc",
@@ -22,17 +23,22 @@ class Copy:
             os.makedirs(f"{self.top}/{each}")
         for each in ("tools", "completions"):
             shutil.copytree(each, f"{self.top}/{each}")
-        for file in ("aioc", "aioc-diagram", "test", "VERSION", "crates.txt"):
+        for file in (*NAMES, "test", "VERSION", "crates.txt"):
             shutil.copy(file, f"{self.top}/{file}")
         os.mkdir(f"{self.top}/docs")
         shutil.copy("docs/aioc.1", f"{self.top}/docs/aioc.1")
-        for name, program in zip(NAMES, (programs.aioc, programs.diagram)):
+        for name, program in self.released():
             shutil.copy(program, f"{self.top}/release/{name}")
         self.write_sums()
 
+    def released(self):
+        """The programs that there are."""
+        found = zip(NAMES, (self.programs.aioc, self.programs.diagram, self.programs.tool))
+        return [(name, program) for name, program in found if program]
+
     def write_sums(self):
         with open(f"{self.top}/release/SHA256SUMS", "w", encoding="utf-8") as sums:
-            for name in NAMES:
+            for name, _ in self.released():
                 with open(f"{self.top}/release/{name}", "rb") as it:
                     sums.write(f"{hashlib.sha256(it.read()).hexdigest()}  {name}\n")
 
@@ -101,11 +107,12 @@ def tells_missing_kit(copy):
 def compiles_where_asked(copy):
     """A stand-in for the kit's `rt try`: of what it says the program's lines and its status are passed on."""
     said = r'echo "$PWD $*"; echo "checked: all" >&2; echo "read fault" >&2; echo "run=ended status=3 seconds=1" >&2'
-    copy.shell("mkdir bin crates/aioc_main crates/aioc_diagram").expect(0)
+    copy.shell("mkdir bin crates/aioc_main crates/aioc_diagram crates/aioc_tool").expect(0)
     with open(f"{copy.top}/bin/rt", "w", encoding="utf-8") as it:
         it.write(f"#!/bin/sh\n{said}\n")
     os.chmod(f"{copy.top}/bin/rt", 0o755)
-    for call, crate in (("./aioc", "aioc_main"), ("./aioc-diagram", "aioc_diagram"), ("tools/try aioc", "aioc_main")):
+    for call, crate in (("./aioc", "aioc_main"), ("./aioc-diagram", "aioc_diagram"), ("./aioc-tool", "aioc_tool"),
+                        ("tools/try aioc", "aioc_main")):
         line = f"{os.path.realpath(copy.top)}/crates/{crate} try --seconds 300 -- step --aux"
         copy.shell(f'PATH="$1/bin:$PATH" AIOC_FROM_SOURCE=1 {call} step --aux').expect(3, [line], ["read fault"])
     copy.shell("echo 'echo broken >&2; exit 1' > bin/rt").expect(0)
@@ -119,8 +126,9 @@ def installed_files(folder):
 def installs(copy):
     copy.shell('DESTDIR="$1/to" tools/install /usr > /dev/null').expect(0, b"", b"")
     found = installed_files(f"{copy.top}/to/usr")
-    if found != INSTALLED:
-        raise Failed(f"tools/install left {sorted(found ^ INSTALLED)} otherwise than it says")
+    wanted = INSTALLED | ({"bin/aioc-tool"} if copy.programs.tool else set())
+    if found != wanted:
+        raise Failed(f"tools/install left {sorted(found ^ wanted)} otherwise than it says")
     copy.shell("to/usr/bin/aioc step").expect(0, GREETED, b"")
     copy.shell("to/usr/bin/aioc step | to/usr/bin/aioc-diagram").expect(0, None, b"")
     copy.shell('echo kept > to/usr/bin/other && DESTDIR="$1/to" tools/install --uninstall /usr > /dev/null').expect(0, b"", b"")

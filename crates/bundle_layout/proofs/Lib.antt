@@ -1,0 +1,5 @@
+pub mod Fronts
+pub mod Ready
+pub mod Cutting
+pub mod Unique
+pub mod Readings

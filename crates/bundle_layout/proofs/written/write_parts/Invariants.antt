@@ -1,0 +1,6 @@
+use Rattle.std.proofs.Common.{take}
+use Rattle.bundle_layout.specs.Parts.{pieces_of, IsReady}
+use Rattle.bundle_layout.proofs.written.write_parts.Given as goal
+
+abbrev pub invariant-loop-place : goal.invariant-loop-place
+invariant-loop-place l = IsReady l.kind l.out.items (pieces_of l.bytes (take l.place l.parts))

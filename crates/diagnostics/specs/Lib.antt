@@ -1,0 +1,5 @@
+pub mod Wording
+pub mod Places
+pub mod Verdicts
+pub mod Rendering
+pub mod Calls

@@ -1,0 +1,19 @@
+//! What is wrong with the text of a bundle, as a person is told: where it is, why, and what helps.
+#![tactic(auto)]
+
+mod calls;
+mod crowds;
+mod diagnostic;
+mod examining;
+mod mending;
+mod places;
+mod refusals;
+mod rendering;
+mod syntax;
+mod wording;
+
+pub use calls::{Command, Request, Status, explain, read_request, tell};
+pub use diagnostic::{Code, Diagnostic, Span};
+pub use examining::examine;
+pub use rendering::{write_json, write_text};
+pub use wording::Piece;

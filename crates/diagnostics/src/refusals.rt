@@ -1,0 +1,372 @@
+//! Bundles that may not run.
+
+ghost use Rattle.dioc_terms.specs.Bundles.{IsFormed};
+ghost use Rattle.dioc_terms.specs.Plain.{plain};
+ghost use Rattle.text_places.specs.Laws.{HasTokens};
+
+use crate::crowds::crowded;
+use crate::diagnostic::{Code, Diagnostic, Span};
+use crate::mending::write_mended;
+use crate::places::{construct_at, name_at, part_at, span_at};
+use crate::wording::{Piece, line_of, write_pieces, write_roles};
+use aioc_tokens::{Lexed, Token, sorts};
+use dioc_terms::{Bundle, Index, Memory, Role, give_up};
+use index_marks::{depth, nodes};
+use limits::{MOST_BODY_DEPTH, MOST_BODY_NODES, MOST_CHANGES, MOST_NODES, MOST_ROLES, MOST_RULES};
+use rule_checks::{Refusal, Where, Which};
+use std::alloc::Global;
+use text_places::{Mark, find_mark, position_at, tokens_of};
+
+/// A text with its tokens, and the bundle that it spells.
+#[derive(Drop)]
+struct Spelled<'a> {
+    bytes: &'a [u8],
+    tokens: &'a [Token],
+    text: &'a Lexed<'a>,
+    bundle: &'a Bundle,
+}
+
+/// What is told of a bundle that is refused, by its text.
+pub fn of_refusal(
+    alloc: Global,
+    bytes: &[u8],
+    bundle: &Bundle,
+    refusal: &Refusal,
+) -> Result<Diagnostic, Memory>
+    requires formed { IsFormed (plain bundle.now) }
+    requires tokens { HasTokens bytes.now }
+{
+    let found = tokens_of(alloc, bytes)?;
+    let known = sorts(alloc, bytes, &found)?;
+    let text = Lexed::with_sorts(bytes, &found, &known);
+    let spelled = Spelled {
+        bytes,
+        tokens: &found,
+        text: &text,
+        bundle,
+    };
+    told(alloc, &spelled, refusal)
+}
+
+fn told(alloc: Global, spelled: &Spelled<'_>, refusal: &Refusal) -> Result<Diagnostic, Memory>
+    requires { IsFormed (plain spelled.now.bundle.now) }
+{
+    match refusal {
+        Refusal::TooMany(which) => too_many(alloc, spelled, *which),
+        Refusal::UnknownRole(part, role) => unknown_role(alloc, spelled, *part, role),
+        Refusal::SelfMessage(part, index) => self_message(alloc, spelled, *part, *index),
+        Refusal::Unlinked(part, first, second, role) => {
+            unlinked(alloc, spelled, *part, [*first, *second], role)
+        }
+        Refusal::BodyTooBig(number) => body_too_big(alloc, spelled, *number),
+        Refusal::Memory => Err(Memory),
+    }
+}
+
+impl<'a> Spelled<'a> {
+    /// The bytes of the token at a place, or the front of the text where no place is known.
+    fn span(&self, at: Option<usize>) -> Span {
+        match at {
+            Some(at) => span_at(self.bytes, self.tokens, at),
+            None => Span { start: 0, end: 0 },
+        }
+    }
+
+    /// The token at which a part of the bundle begins.
+    fn part(&self, part: Where) -> Option<usize> {
+        match (part_at(self.text, self.bundle.opening, part), part) {
+            (Some(at), Where::Rule(_)) => Some(at.saturating_add(1)),
+            (found, _) => found,
+        }
+    }
+
+    /// The first token of a construct.
+    fn construct(&self, part: Where, index: Index) -> Option<usize> {
+        construct_at(self.text, self.bundle.opening, part, index.place)
+    }
+
+    /// The first token that names a role in a part of the bundle.
+    fn role(&self, part: Where, role: &Role) -> Option<usize> {
+        let from = match part_at(self.text, self.bundle.opening, part) {
+            Some(from) => from,
+            None => return None,
+        };
+        match find_mark(self.text, Mark::Role(role.0.bytes()), from, 0) {
+            Some(at) => Some(at.saturating_add(1)),
+            None => None,
+        }
+    }
+
+    /// The name of a rule, or one that says that there is none.
+    fn rule_name(&self, number: u32) -> &'a [u8] {
+        match self.bundle.rules.as_slice().get(number as usize) {
+            Some(rule) => rule.name.bytes(),
+            None => b"?",
+        }
+    }
+}
+
+/// Appends which part of the bundle is spoken of.
+fn write_part(spelled: &Spelled<'_>, part: Where, out: &mut Vec<u8>) -> Result<(), Memory> {
+    match part {
+        Where::Program => Ok(()),
+        Where::Rule(number) => write_pieces(
+            &[
+                Piece::Bytes(b"in rule '"),
+                Piece::Bytes(spelled.rule_name(number)),
+                Piece::Bytes(b"': "),
+            ],
+            out,
+        ),
+    }
+}
+
+/// A diagnostic whose help is a line of pieces.
+fn made(
+    alloc: Global,
+    code: Code,
+    span: Span,
+    message: Vec<u8>,
+    help: &[Piece<'_>],
+) -> Result<Diagnostic, Memory> {
+    match line_of(alloc, help) {
+        Ok(help) => Ok(Diagnostic {
+            code,
+            span,
+            message,
+            help,
+        }),
+        Err(fault) => give_up(message, fault),
+    }
+}
+
+/// A diagnostic that says how many there are and how many may be.
+fn counted(
+    alloc: Global,
+    span: Span,
+    count: usize,
+    what: &[u8],
+    most: usize,
+) -> Result<Diagnostic, Memory> {
+    let message = line_of(
+        alloc,
+        &[
+            Piece::Bytes(b"there are "),
+            Piece::Number(count as u64),
+            Piece::Bytes(b" "),
+            Piece::Bytes(what),
+            Piece::Bytes(b", and at most "),
+            Piece::Number(most as u64),
+            Piece::Bytes(b" may be"),
+        ],
+    )?;
+    let help: &[u8] = b"docs/LANGUAGE.md has all limits of a bundle";
+    made(alloc, Code::TooMany, span, message, &[Piece::Bytes(help)])
+}
+
+/// More roles than may be: the place is that of the first role that is one too many.
+fn too_many_roles(alloc: Global, spelled: &Spelled<'_>) -> Result<Diagnostic, Memory> {
+    let cast = spelled.bundle.cast.as_slice();
+    let at = match cast.get(MOST_ROLES) {
+        Some(role) => spelled.role(Where::Program, role),
+        None => None,
+    };
+    let span = spelled.span(at);
+    counted(
+        alloc,
+        span,
+        cast.len(),
+        b"roles of the choreography",
+        MOST_ROLES,
+    )
+}
+
+/// More rules at once than may be: the place is that of the first rule that is one too many.
+fn too_many_rules(alloc: Global, spelled: &Spelled<'_>) -> Result<Diagnostic, Memory> {
+    let crowd = crowded(alloc, spelled.bundle)?;
+    let at = match crowd.first {
+        Some(number) => spelled.part(Where::Rule(number)),
+        None => None,
+    };
+    let span = spelled.span(at);
+    counted(
+        alloc,
+        span,
+        crowd.count,
+        b"rules in the book at once",
+        MOST_RULES,
+    )
+}
+
+fn too_many(alloc: Global, spelled: &Spelled<'_>, which: Which) -> Result<Diagnostic, Memory> {
+    match which {
+        Which::Nodes => {
+            let span = spelled.span(spelled.part(Where::Program));
+            let count = nodes(&spelled.bundle.choreo);
+            counted(alloc, span, count, b"nodes of the choreography", MOST_NODES)
+        }
+        Which::Roles => too_many_roles(alloc, spelled),
+        Which::Rules => too_many_rules(alloc, spelled),
+        Which::Changes => {
+            let span = spelled.span(find_mark(spelled.text, Mark::Change, 0, MOST_CHANGES));
+            let count = spelled.bundle.script.len();
+            counted(alloc, span, count, b"changes of the script", MOST_CHANGES)
+        }
+    }
+}
+
+fn unknown_role(
+    alloc: Global,
+    spelled: &Spelled<'_>,
+    part: Where,
+    role: &Role,
+) -> Result<Diagnostic, Memory> {
+    let at = match part {
+        Where::Program => find_mark(spelled.text, Mark::Input(role.0.bytes()), 0, 0),
+        Where::Rule(_) => spelled.role(part, role),
+    };
+    let mut message = Vec::new(alloc);
+    write_part(spelled, part, &mut message)?;
+    write_pieces(
+        &[
+            Piece::Bytes(b"'"),
+            Piece::Bytes(role.0.bytes()),
+            Piece::Bytes(b"' is no role of the choreography"),
+        ],
+        &mut message,
+    )?;
+    let mut help = line_of(
+        alloc,
+        &[Piece::Bytes(b"the roles of the choreography are: ")],
+    )?;
+    write_roles(spelled.bundle.cast.as_slice(), &mut help)?;
+    Ok(Diagnostic {
+        code: Code::UnknownRole,
+        span: spelled.span(at),
+        message,
+        help,
+    })
+}
+
+fn self_message(
+    alloc: Global,
+    spelled: &Spelled<'_>,
+    part: Where,
+    index: Index,
+) -> Result<Diagnostic, Memory> {
+    let at = spelled.construct(part, index);
+    let role = match at {
+        Some(at) => name_at(spelled.text, at.saturating_add(2)),
+        None => b"?",
+    };
+    let mut message = Vec::new(alloc);
+    write_part(spelled, part, &mut message)?;
+    write_pieces(
+        &[
+            Piece::Bytes(b"'"),
+            Piece::Bytes(role),
+            Piece::Bytes(b"' sends to itself"),
+        ],
+        &mut message,
+    )?;
+    made(
+        alloc,
+        Code::SelfMessage,
+        spelled.span(at),
+        message,
+        &[
+            Piece::Bytes(b"a role sets a variable of its own by an assignment: x@"),
+            Piece::Bytes(role),
+            Piece::Bytes(b" = .."),
+        ],
+    )
+}
+
+/// Appends where a token of the text stands.
+fn write_position(
+    spelled: &Spelled<'_>,
+    at: Option<usize>,
+    out: &mut Vec<u8>,
+) -> Result<(), Memory> {
+    let start = spelled.span(at).start.min(spelled.bytes.len());
+    let position = position_at(spelled.bytes, start);
+    write_pieces(
+        &[
+            Piece::Number(position.line as u64),
+            Piece::Bytes(b":"),
+            Piece::Number(position.column as u64),
+        ],
+        out,
+    )
+}
+
+fn unlinked(
+    alloc: Global,
+    spelled: &Spelled<'_>,
+    part: Where,
+    indices: [Index; 2],
+    role: &Role,
+) -> Result<Diagnostic, Memory>
+    requires { IsFormed (plain spelled.now.bundle.now) }
+{
+    let mut message = Vec::new(alloc);
+    write_part(spelled, part, &mut message)?;
+    write_pieces(
+        &[
+            Piece::Bytes(b"'"),
+            Piece::Bytes(role.0.bytes()),
+            Piece::Bytes(b"' begins this part of a sequence, but has no part in an end of what"),
+            Piece::Bytes(b" comes before it, from "),
+        ],
+        &mut message,
+    )?;
+    write_position(spelled, spelled.construct(part, indices[0]), &mut message)?;
+    write_pieces(
+        &[
+            Piece::Bytes(b" on: so '"),
+            Piece::Bytes(role.0.bytes()),
+            Piece::Bytes(b"' can't know when to begin"),
+        ],
+        &mut message,
+    )?;
+    let mut help = Vec::new(alloc);
+    write_mended(alloc, spelled.bundle, part, &mut help)?;
+    Ok(Diagnostic {
+        code: Code::Unlinked,
+        span: spelled.span(spelled.construct(part, indices[1])),
+        message,
+        help,
+    })
+}
+
+fn body_too_big(alloc: Global, spelled: &Spelled<'_>, number: u32) -> Result<Diagnostic, Memory> {
+    let (count, levels) = match spelled.bundle.rules.as_slice().get(number as usize) {
+        Some(rule) => (nodes(&rule.body), depth(&rule.body)),
+        None => (0, 0),
+    };
+    let message = line_of(
+        alloc,
+        &[
+            Piece::Bytes(b"the body of rule '"),
+            Piece::Bytes(spelled.rule_name(number)),
+            Piece::Bytes(b"' has "),
+            Piece::Number(count as u64),
+            Piece::Bytes(b" nodes and is "),
+            Piece::Number(levels as u64),
+            Piece::Bytes(b" deep, and at most "),
+            Piece::Number(MOST_BODY_NODES as u64),
+            Piece::Bytes(b" nodes and a depth of "),
+            Piece::Number(MOST_BODY_DEPTH as u64),
+            Piece::Bytes(b" may be"),
+        ],
+    )?;
+    let span = spelled.span(spelled.part(Where::Rule(number)));
+    let help: &[u8] = b"each step, 'skip', ';' and '|' is a node: move steps out of the rule";
+    made(
+        alloc,
+        Code::BodyTooBig,
+        span,
+        message,
+        &[Piece::Bytes(help)],
+    )
+}

@@ -1,0 +1,8 @@
+//! What may stand at a place of a text, and how a person is told of it.
+#![tactic(auto)]
+
+mod items;
+mod trials;
+
+pub use items::{Item, Placed};
+pub use trials::{ITEMS, may_end, wanted};
