@@ -1,12 +1,16 @@
 -- A text of which something is told is not sound.
-use Rattle.std.proofs.Common.{◌≡◌, ℕ, List, Some, None, ap, sym, ◌∙◌}
+use Rattle.std.proofs.Common.{◌≡◌, ◌≢◌, false, ℕ, List, Option, Some, None, Result, Ok, Err, IfOk, ap, sym, ◌∙◌}
+use Rattle.dioc_terms.specs.declared.faults.SyntaxFault.{SyntaxFault}
+use Rattle.dioc_terms.specs.declared.faults.SyntaxFault.TheVariants as fault
 use Rattle.dioc_terms.specs.Plain.{PlainBundle}
 use Rattle.bundle_text.specs.Grammar.{Spells, SpellsNone}
 use Rattle.bundle_text.specs.Laws.{OneBundle}
 use Rattle.rule_checks.specs.declared.refusals.Refusal.{Refusal}
 use Rattle.rule_checks.specs.Refusals.{refusal}
 use Rattle.text_places.specs.Laws.{HasTokens}
-use Rattle.diagnostics.specs.Verdicts.{IsSound}
+use Rattle.rule_checks.specs.declared.refusals.Refusal.TheVariants as why
+use Rattle.rule_checks.specs.Answers.{IsRefusalOf}
+use Rattle.diagnostics.specs.Verdicts.{IsSound, is_memory}
 
 -- each byte of a text that spells a bundle is in a token, a space or a comment
 pub spelled_tokens : (bytes : List ℕ) (b : PlainBundle) → Spells bytes b → HasTokens bytes
@@ -15,9 +19,24 @@ spelled_tokens bytes b spells = (spells.reads.lexemes.tokens, spells.reads.lexem
 pub spells_none : (bytes : List ℕ) → SpellsNone bytes → IsSound bytes → ⊥
 spells_none bytes none sound = none sound.bundle sound.spells
 
-pub refused : (bytes : List ℕ) (b : PlainBundle) (why : Refusal) → OneBundle → Spells bytes b → refusal b ≡ Some why → IsSound bytes → ⊥
-refused bytes b why one spells is sound =
+pub refused : (bytes : List ℕ) (b : PlainBundle) (w : Refusal) → OneBundle → Spells bytes b → IsRefusalOf (refusal b) w → is_memory w ≡ false → IsSound bytes → ⊥
+refused bytes b w one spells told other sound =
     let same : sound.bundle ≡ b = one bytes sound.bundle b sound.spells spells in
     let none = sound.accepted.no_refusal in
-    let told = ap refusal same ∙ is in
-    cc (sym none ∙ told)
+    let known : w ≢ why.Memory = λ e. let said = ap is_memory e in cc in
+    let is = ap refusal same ∙ told known in
+    cc (sym none ∙ is)
+
+-- what is told is something
+pub something_told : {A E : Type 0} (P : Type 0) (result : Result (Option A) E) → IfOk result (λ found. found ≢ None) → IfOk result (λ found. found ≡ None → P)
+something_told P (Ok found) told = λ none. absurd (told none)
+something_told P (Err fault) told = told
+
+-- what holds anyway holds of each answer
+pub holds_anyway : {A E : Type 0} (P : Type 0) (result : Result (Option A) E) → IfOk result (λ found. found ≢ None) → P → IfOk result (λ found. found ≢ None → P)
+holds_anyway P (Ok found) told holds = λ _. holds
+holds_anyway P (Err fault) told holds = told
+
+-- a fault that names a byte is no want of memory
+pub syntax_tells : {P : Type 0} (told : SyntaxFault) (byte : ℕ) → told ≡ fault.Syntax byte → (told ≢ fault.Memory → P) → P
+syntax_tells told byte is tells = tells (λ e. cc)

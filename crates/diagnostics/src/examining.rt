@@ -4,7 +4,9 @@ ghost use Rattle.std.specs.Prelude.{◌≡◌, ◌≢◌, IfOk};
 ghost use Rattle.dioc_terms.specs.Bundles.{IsFormed};
 ghost use Rattle.dioc_terms.specs.Plain.{plain};
 ghost use Rattle.bundle_text.specs.Grammar.{Spells};
-ghost use Rattle.diagnostics.specs.Verdicts.{IsSound};
+ghost use Rattle.rule_checks.specs.Answers.{IsRefusalOf};
+ghost use Rattle.rule_checks.specs.Refusals.{refusal as refusal_of};
+ghost use Rattle.diagnostics.specs.Verdicts.{IsSound, is_memory};
 
 use crate::diagnostic::Diagnostic;
 use crate::refusals::of_refusal;
@@ -24,19 +26,47 @@ fn told(made: Result<Diagnostic, Memory>) -> Result<Option<Diagnostic>, Memory>
     }
 }
 
+/// Whether memory ran out, so that nothing is said of the bundle.
+fn is_memory(refusal: &Refusal) -> bool
+    ensures { result ≡ is_memory refusal.now }
+{
+    match refusal {
+        Refusal::Memory => true,
+        _ => false,
+    }
+}
+
+/// What is wrong with a bundle that is refused.
+#[tactic(auto, using(crate::proofs::Sound::spelled_tokens))]
+fn of_refused(
+    alloc: Global,
+    bytes: &[u8],
+    bundle: &Bundle,
+    refusal: Refusal,
+) -> Result<Option<Diagnostic>, Memory>
+    requires formed { IsFormed (plain bundle.now) }
+    requires spells { Spells bytes.now (plain bundle.now) }
+    requires refused { IsRefusalOf (refusal_of (plain bundle.now)) refusal }
+    ensures silent { IfOk result (λ found. found ≡ None → IsSound bytes.now) }
+    ensures told { IfOk result (λ found. found ≢ None → IsSound bytes.now → ⊥) }
+{
+    one_bundle();
+    if is_memory(&refusal) {
+        return Err(Memory);
+    }
+    told(of_refusal(alloc, bytes, bundle, &refusal))
+}
+
 /// What is wrong with a bundle that the bytes spell.
-#[tactic(auto, using(crate::proofs::Sound::refused, crate::proofs::Sound::spelled_tokens))]
 fn of_bundle(alloc: Global, bytes: &[u8], bundle: &Bundle) -> Result<Option<Diagnostic>, Memory>
     requires formed { IsFormed (plain bundle.now) }
     requires spells { Spells bytes.now (plain bundle.now) }
     ensures silent { IfOk result (λ found. found ≡ None → IsSound bytes.now) }
     ensures told { IfOk result (λ found. found ≢ None → IsSound bytes.now → ⊥) }
 {
-    one_bundle();
     match accept(alloc, bundle) {
         Ok(()) => Ok(None),
-        Err(Refusal::Memory) => Err(Memory),
-        Err(refusal) => told(of_refusal(alloc, bytes, bundle, &refusal)),
+        Err(refusal) => of_refused(alloc, bytes, bundle, refusal),
     }
 }
 
