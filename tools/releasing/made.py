@@ -1,6 +1,6 @@
 """What a release is made of: the files of release/, the sums of the sources, the kit, and the programs that it built.
 
-release/ has the two programs, stripped; SHA256SUMS, as sha256sum reads it; MADE-OF, a line for the version, the commit, the kit,
+release/ has the three programs, stripped; SHA256SUMS, as sha256sum reads it; MADE-OF, a line for the version, the commit, the kit,
 and for each program the sum of its sources; and README.md, which tells the same to a reader.
 """
 import hashlib
@@ -12,15 +12,15 @@ import sys
 from repository import read_crates, with_those_below
 
 # Each program of the release, with its crate.
-PROGRAMS = {"aioc": "aioc_main", "aioc-diagram": "aioc_diagram"}
+PROGRAMS = {"aioc": "aioc_main", "aioc-diagram": "aioc_diagram", "aioc-tool": "aioc_tool"}
 FOLDER = "release"
 PARTS = ("src", "specs", "proofs", "c")
 
 README = """# aioc {version}
 
-The programs `aioc` and `aioc-diagram` for x86-64 Linux, as the Rattle kit builds them from sources that it has proved, stripped
-of their symbols. They need the C library, and nothing else. `./aioc` and `./aioc-diagram` at the top of the repository run them,
-where no program was built from newer sources, and check their sums first.
+The programs `aioc`, `aioc-diagram` and `aioc-tool` for x86-64 Linux, as the Rattle kit builds them from sources that it has
+proved, stripped of their symbols. They need the C library, and nothing else. `./aioc`, `./aioc-diagram` and `./aioc-tool` at the
+top of the repository run them, where no program was built from newer sources, and check their sums first.
 
 | what | |
 |---|---|
@@ -31,9 +31,9 @@ where no program was built from newer sources, and check their sums first.
 
 ## How they were made
 
-The merge gate proved every crate of that commit and built the programs; `tools/release` took `crates/aioc_main/out/aioc_main` and
-`crates/aioc_diagram/out/aioc_diagram`, stripped them by the kit's `llvm-strip`, tried every test of `./test` with them, and wrote
-this folder. `MADE-OF` has the sum of the sources of each program: of the texts in `src/`, `specs/` and `proofs/` of each crate
+The merge gate proved every crate of that commit and built the programs; `tools/release` took them from `crates/aioc_main/out`,
+`crates/aioc_diagram/out` and `crates/aioc_tool/out`, stripped them by the kit's `llvm-strip`, tried every test of `./test` with
+them, and wrote this folder. `MADE-OF` has the sum of the sources of each program: of the texts in `src/`, `specs/` and `proofs/` of each crate
 that it is made of, their lines in `crates.txt`, and `HANDLES`.
 
 ## How to make them again
@@ -158,7 +158,8 @@ def text_of_readme(made, sums):
     return README.format(version=made["version"], commit=made["commit"], kit=made["kit"], programs=rows)
 
 
-def run_tests(program, diagram, *words):
-    """Whether the tests pass with these programs; what fails is printed."""
+def run_tests(folder, *words):
+    """Whether the tests pass with the programs of this folder; what fails is printed."""
     sys.stdout.flush()
-    return subprocess.run(["./test", "--program", program, "--diagram", diagram, *words], check=False).returncode == 0
+    programs = ["--program", f"{folder}/aioc", "--diagram", f"{folder}/aioc-diagram", "--tool", f"{folder}/aioc-tool"]
+    return subprocess.run(["./test", *programs, *words], check=False).returncode == 0
