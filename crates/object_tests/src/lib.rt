@@ -26,5 +26,3 @@ mod names;
 mod pool;
 #[cfg(test)]
 mod scarce_memory;
-#[cfg(test)]
-mod stages;
