@@ -26,3 +26,5 @@ mod names;
 mod pool;
 #[cfg(test)]
 mod scarce_memory;
+#[cfg(test)]
+mod stages;
