@@ -50,7 +50,7 @@ def stored(programs):
 
 def told(programs, folder, lines):
     """What a shell shows of the command in a block of the page."""
-    command, wanted = lines[0].removeprefix("$ "), lines[1:]
+    command, wanted = lines[0].removeprefix("$ "), "".join(f"{line}\n" for line in lines[1:]).encode()
     ran = programs.shell(f'cd "$1" && {command}', folder)
     ran.expect(1, b"", wanted)
 
