@@ -14,7 +14,8 @@ use Rattle.aioc_tokens.specs.Lexing.{Lexes, ended, blank_first, token_first, Bre
 use Rattle.aioc_tokens.proofs.Firsts.{kind_by, symbol_by, no_other}
 use Rattle.aioc_tokens.proofs.Blanks.{space_blank, no_blank, blank_size}
 use Rattle.aioc_tokens.proofs.Runs.{name_longest, number_longest}
-use Rattle.aioc_tokens.proofs.Quotes.{text_end, text_longest, no_text}
+use Rattle.aioc_tokens.specs.Packed.{text_end}
+use Rattle.aioc_tokens.proofs.Quotes.{text_longest, no_text}
 use Rattle.aioc_tokens.proofs.Symbols.{symbol_found, symbol_in_table, two_longest, one_longest, no_symbol}
 use Rattle.aioc_tokens.proofs.Walk.{token_size}
 

@@ -9,6 +9,7 @@ pub mod Order
 pub mod Unique
 pub mod Values
 pub mod Looks
+pub mod Packing
 pub mod Written
 pub mod Every
 pub mod Readings

@@ -278,7 +278,7 @@ text_copied_formed (Ok copy) bytes same formed = subst (λ value. HasSpelling (T
 text_copied_formed (Err fault) bytes same formed = tt
 
 -- the sort at a place of all sorts
-sort_at : (list : List Lexeme) (at : ℕ) → get_or (all_sorts list) at sorts.End ≡ sort_of (drop at list)
+pub sort_at : (list : List Lexeme) (at : ℕ) → get_or (all_sorts list) at sorts.End ≡ sort_of (drop at list)
 sort_at [] zero = refl
 sort_at [] (suc at) = refl
 sort_at (first ∷ others) zero = sym (sort_of_first first others)

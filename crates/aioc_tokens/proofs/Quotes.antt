@@ -6,24 +6,13 @@ use Rattle.std.proofs.lemmas.Bool.{and_from}
 use Rattle.std.proofs.lemmas.Bool.Decides.{nat_tests}
 use Rattle.aioc_tokens.specs.declared.kinds.Kind.TheVariants.{Text}
 use Rattle.aioc_tokens.specs.Tokens.{needs_pair, is_printable, escaped, IsFront, IsLongestToken}
+use Rattle.aioc_tokens.specs.Packed.{bump, text_end}
 use Rattle.aioc_tokens.proofs.Firsts.{same_kind}
 use Rattle.aioc_tokens.proofs.Runs.{no_comment_by}
-
--- one byte more
-abbrev bump : Option ℕ → Option ℕ
-bump None = None
-bump (Some count) = Some (suc count)
 
 bump_some : (found : Option ℕ) (count : ℕ) → bump found ≡ Some count → (less : ℕ) × (found ≡ Some less) × (count ≡ suc less)
 bump_some None count is = absurd cc
 bump_some (Some less) count is = (less, refl, cc)
-
--- How many bytes there are up to the quote that ends the text and with it; paired: directly behind a `\`.
-abbrev pub text_end : Bool → List ℕ → Option ℕ
-text_end paired [] = None
-text_end true (byte ∷ others) = cond (needs_pair byte) (bump (text_end false others)) None
-text_end false (byte ∷ others) =
-    cond (byte == 34) (Some 1) (cond (byte == 92) (bump (text_end true others)) (cond (is_printable byte) (bump (text_end false others)) None))
 
 -- so many bytes are what is left of a text
 pub record IsTail (paired : Bool) (bytes : List ℕ) (count : ℕ) : Type 0 where
@@ -111,7 +100,7 @@ text_end_closes (byte ∷ value) others printable = go (needs_pair byte) (is_pri
     go pair false is pass rest closes = absurd cc
 
 -- what a front that is a text says of the bytes behind its first quote
-front_end : (text : List ℕ) (count : ℕ) → IsFront text Text count → (less : ℕ) × (text_end false (drop 1 text) ≡ Some less) × (count ≡ suc less)
+pub front_end : (text : List ℕ) (count : ℕ) → IsFront text Text count → (less : ℕ) × (text_end false (drop 1 text) ≡ Some less) × (count ≡ suc less)
 front_end text count front =
     let value = front.spells.0 in
     let inside = flat_map escaped value in

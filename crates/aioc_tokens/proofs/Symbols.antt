@@ -1,10 +1,11 @@
 -- The longest symbol of at most two bytes.
-use Rattle.std.proofs.Common.{◌≡◌, ℕ, zero, suc, ◌≤◌, true, List, length, take, Option, Some, None, is_some, refl, ap, sym, ◌∙◌, subst, arith, length-take-le}
+use Rattle.std.proofs.Common.{◌≡◌, ℕ, zero, suc, ◌<◌, ◌≤◌, true, List, [], ◌∷◌, length, get_or, take, Option, Some, None, is_some, refl, ap, sym, ◌∙◌, subst, arith, length-take-le}
 use Rattle.aioc_tokens.specs.declared.kinds.Kind.TheVariants.{Symbol}
 use Rattle.aioc_tokens.specs.declared.words.Punctuator.{Punctuator}
 use Rattle.aioc_tokens.specs.declared.words.Punctuator.TheVariants.{LeftBrace, RightBrace}
 use Rattle.aioc_tokens.specs.Words.{punctuator_spelling, punctuator_of}
 use Rattle.aioc_tokens.specs.Tokens.{IsFront, IsLongestToken, BeginsComment}
+use Rattle.aioc_tokens.specs.Packed.{IsSymbolAt}
 use Rattle.aioc_tokens.proofs.Firsts.{front_first, same_kind}
 use Rattle.aioc_tokens.proofs.Spellings.{punctuator_found, punctuator_of_spelled}
 
@@ -65,3 +66,35 @@ module _ (text : List ℕ) where
   no_symbol no_one no_two (suc zero) front = no_one front
   no_symbol no_one no_two (suc (suc zero)) front = no_two front
   no_symbol no_one no_two (suc (suc (suc more))) front = absurd (omega (arith, symbol_short (suc (suc (suc more))) front))
+
+-- the first bytes of a text
+two_first : (text : List ℕ) → 1 < length text → take 2 text ≡ get_or text 0 0 ∷ get_or text 1 0 ∷ []
+two_first [] more = absurd (omega arith)
+two_first (first ∷ []) more = absurd (omega arith)
+two_first (first ∷ second ∷ others) more = refl
+
+one_first : (text : List ℕ) → 0 < length text → take 1 text ≡ get_or text 0 0 ∷ []
+one_first [] some = absurd (omega arith)
+one_first (first ∷ others) some = refl
+
+-- a symbol of the table that the first bytes spell is the longest at the front
+module _ (text : List ℕ) (no_comment : ¬ BeginsComment text) where
+  pub pair_at : (punctuator : Punctuator) → 1 < length text → punctuator_of (get_or text 0 0 ∷ get_or text 1 0 ∷ []) ≡ Some punctuator → IsSymbolAt text punctuator 2
+  pair_at punctuator more is =
+      let known = ap punctuator_of (two_first text more) ∙ is in
+      record { token = two_longest text (symbol_found text 2 (omega arith) (ap is_some known)) no_comment; known = known }
+
+  pub lone_at : (punctuator : Punctuator) → 0 < length text → (¬ IsFront text Symbol 2) → punctuator_of (get_or text 0 0 ∷ []) ≡ Some punctuator → IsSymbolAt text punctuator 1
+  lone_at punctuator some no_two is =
+      let known = ap punctuator_of (one_first text some) ∙ is in
+      record { token = one_longest text (symbol_found text 1 (omega arith) (ap is_some known)) no_two no_comment; known = known }
+
+pub no_pair_at : (text : List ℕ) → 1 < length text → punctuator_of (get_or text 0 0 ∷ get_or text 1 0 ∷ []) ≡ None → IsFront text Symbol 2 → ⊥
+no_pair_at text more is front = let found = symbol_in_table text 2 front in let none = ap is_some (ap punctuator_of (two_first text more) ∙ is) in cc
+
+pub short_for_pair : (text : List ℕ) → length text ≤ 1 → IsFront text Symbol 2 → ⊥
+short_for_pair text short front = omega (arith, front.within)
+
+pub none_at : (text : List ℕ) → 0 < length text → (¬ IsFront text Symbol 2) → punctuator_of (get_or text 0 0 ∷ []) ≡ None → (count : ℕ) → IsFront text Symbol count → ⊥
+none_at text some no_two is =
+    no_symbol text (λ front. let found = symbol_in_table text 1 front in let none = ap is_some (ap punctuator_of (one_first text some) ∙ is) in cc) no_two

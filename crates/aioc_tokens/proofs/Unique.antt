@@ -8,7 +8,7 @@ use Rattle.aioc_tokens.proofs.Firsts.{same_kind, blank_or_token}
 use Rattle.aioc_tokens.proofs.Blanks.{same_blank, blank_size}
 use Rattle.aioc_tokens.proofs.Walk.{token_size}
 
-same_count : (text : List ℕ) (kind other : Kind) (count more : ℕ) → IsLongestToken text kind count → IsLongestToken text other more → count ≡ more
+pub same_count : (text : List ℕ) (kind other : Kind) (count more : ℕ) → IsLongestToken text kind count → IsLongestToken text other more → count ≡ more
 same_count text kind other count more one two = le_antisymm (two.longest kind count one.front) (one.longest other more two.front)
 
 no_blank_at_end : (count : ℕ) → IsBlank [] count → ⊥

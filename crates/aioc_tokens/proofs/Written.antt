@@ -17,7 +17,8 @@ use Rattle.aioc_tokens.specs.Lexing.{Lexes, ended, blank_first, token_first, byt
 use Rattle.aioc_tokens.specs.Lexemes.{Lexeme, Name, Long, Number, Text, Reserved, Symbol, lexeme, lexemes, HasLexemes, HasSpelling}
 use Rattle.aioc_tokens.specs.Spelling.{spelling, spelled}
 use Rattle.aioc_tokens.proofs.Runs.{name_longest, number_longest, name_bytes}
-use Rattle.aioc_tokens.proofs.Quotes.{text_end, text_end_closes, text_longest}
+use Rattle.aioc_tokens.specs.Packed.{text_end}
+use Rattle.aioc_tokens.proofs.Quotes.{text_end_closes, text_longest}
 use Rattle.aioc_tokens.proofs.Spellings.{word_found, punctuator_found}
 use Rattle.aioc_tokens.proofs.Symbols.{two_longest, one_longest, punctuator_short}
 use Rattle.aioc_tokens.proofs.Firsts.{punctuator_first}

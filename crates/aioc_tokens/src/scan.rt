@@ -11,7 +11,7 @@ use crate::kinds::{Kind, Token, TokenFault};
 use crate::words::find_punctuator;
 use std::alloc::Global;
 
-fn is_space(byte: u8) -> bool
+pub(crate) fn is_space(byte: u8) -> bool
     ensures { result ≡ is_space byte }
 {
     matches!(byte, b' ' | b'\t' | b'\n' | b'\r')
@@ -35,14 +35,14 @@ fn needs_pair(byte: u8) -> bool
     byte == b'"' || byte == b'\\'
 }
 
-fn begins_comment(text: &[u8]) -> bool
+pub(crate) fn begins_comment(text: &[u8]) -> bool
     ensures { IsTrue result ↔ BeginsComment text.now }
 {
     text.starts_with(b"//")
 }
 
 /// How many bytes stand before the next line feed, or before the end.
-fn line_length(text: &[u8]) -> usize
+pub(crate) fn line_length(text: &[u8]) -> usize
     ensures { result ≡ line_length text.now }
 {
     text.iter().take_while(|byte| **byte != b'\n').count()
@@ -63,14 +63,14 @@ fn blank_length(text: &[u8]) -> Option<usize>
 }
 
 /// How many bytes from the front on can stand in a name.
-fn name_length(text: &[u8]) -> usize
+pub(crate) fn name_length(text: &[u8]) -> usize
     ensures { result ≡ prefix_len is_name_byte text.now }
 {
     text.iter().take_while(|byte| is_name_byte(**byte)).count()
 }
 
 /// How many bytes from the front on are digits.
-fn number_length(text: &[u8]) -> usize
+pub(crate) fn number_length(text: &[u8]) -> usize
     ensures { result ≡ prefix_len is_ascii_digit text.now }
 {
     text.iter().take_while(|byte| byte.is_ascii_digit()).count()
@@ -78,7 +78,7 @@ fn number_length(text: &[u8]) -> usize
 
 /// How many bytes a text in quotes takes, or `None` where no text ends. The first byte is its
 /// quote.
-fn text_length(text: &[u8]) -> Option<usize>
+pub(crate) fn text_length(text: &[u8]) -> Option<usize>
     requires { slice_index text.now 0 ≡ 34 }
     ensures { MatchOption result ((count : ℕ) → IsFront text.now Kind.Text count → ⊥)
         (λ count. IsLongestToken text.now Kind.Text count) }

@@ -1,13 +1,17 @@
 //! A text with its tokens, as the grammar sees it.
 
-ghost use Rattle.std.specs.Prelude.{◌≡◌, ◌≢◌, ℕ, ◌+◌, ◌^◌, ◌<◌, ◌≤◌, ◌∷◌, [], drop, length, slice_range, IfOk, IsTrue, ◌↔◌};
+ghost use Rattle.std.specs.Prelude.{◌≡◌, ◌≢◌, ℕ, ◌+◌, ◌^◌, ◌<◌, ◌≤◌, ◌∷◌, [], drop, get_or, length, slice_range, IfOk, IsTrue, ◌↔◌};
 ghost use Rattle.aioc_tokens.specs.declared.kinds.Kind.{Kind};
-ghost use Rattle.aioc_tokens.specs.Tokens.{Spells};
+ghost use Rattle.aioc_tokens.specs.declared.kinds.Token.{Token};
+ghost use Rattle.aioc_tokens.specs.Tokens.{Spells, IsLongestToken};
 ghost use Rattle.aioc_tokens.specs.Lexing.{Lexes, IsTokenOf, bytes_of, place_of};
-ghost use Rattle.aioc_tokens.specs.Lexemes.{lexeme, lexemes, sort_of, all_sorts, value_of, unescaped, Begins, HasSpelling};
+ghost use Rattle.aioc_tokens.specs.Lexemes.{lexeme, lexemes, sort_of, all_sorts, value_of, unescaped, Begins, HasLexemes, HasSpelling};
+ghost use Rattle.aioc_tokens.specs.Packed.{front_name, front_number, front_text, ArePacked};
 ghost use Rattle.limits.specs.Limits.{most_text_bytes};
 
 use crate::kinds::{Kind, Token};
+use crate::packed::Packed;
+use crate::scan::{name_length, number_length, text_length};
 use crate::words::{Sort, find_punctuator, find_word};
 use limits::{MOST_NAME_BYTES, MOST_TEXT_BYTES};
 use std::alloc::{AllocError, Global};
@@ -36,7 +40,10 @@ fn is_short(bytes: &[u8]) -> bool
     requires { Spells Kind.Text bytes.now }
     ensures { IsTrue result ↔ (length (value_of bytes.now) ≤ most_text_bytes) }
 {
-    // A byte of the value takes at most two, so a longer text needn't be read.
+    // A byte of the value takes one or two, so only a text between these needs to be read.
+    if bytes.len() <= MOST_TEXT_BYTES + 2 {
+        return true;
+    }
     bytes.len() <= 2 * MOST_TEXT_BYTES + 2 && value_length(bytes) <= MOST_TEXT_BYTES
 }
 
@@ -67,19 +74,37 @@ fn copied_value(alloc: Global, bytes: &[u8]) -> Result<Vec<u8>, AllocError>
     Ok(value)
 }
 
+/// The sort of a name: a reserved word, or one that is short enough, or too long.
+pub(crate) fn name_sort(bytes: &[u8]) -> Sort
+    ensures { result ≡ sort_of (lexeme Kind.Name bytes.now ∷ []) }
+{
+    match find_word(bytes) {
+        Some(word) => Sort::Reserved(word),
+        None if bytes.len() <= MOST_NAME_BYTES => Sort::Name,
+        None => Sort::Long,
+    }
+}
+
+/// The sort of a text in quotes.
+pub(crate) fn text_sort(bytes: &[u8]) -> Sort
+    requires { Spells Kind.Text bytes.now }
+    ensures { result ≡ sort_of (lexeme Kind.Text bytes.now ∷ []) }
+{
+    if is_short(bytes) {
+        Sort::Text
+    } else {
+        Sort::Long
+    }
+}
+
 fn sort_of(kind: Kind, bytes: &[u8]) -> Sort
     requires { Spells kind bytes.now }
     ensures { result ≡ sort_of (lexeme kind bytes.now ∷ []) }
 {
     match kind {
-        Kind::Name => match find_word(bytes) {
-            Some(word) => Sort::Reserved(word),
-            None if bytes.len() <= MOST_NAME_BYTES => Sort::Name,
-            None => Sort::Long,
-        },
+        Kind::Name => name_sort(bytes),
         Kind::Number => Sort::Number,
-        Kind::Text if is_short(bytes) => Sort::Text,
-        Kind::Text => Sort::Long,
+        Kind::Text => text_sort(bytes),
         Kind::Symbol => match find_punctuator(bytes) {
             Some(punctuator) => Sort::Symbol(punctuator),
             None => unreachable!(),
@@ -111,30 +136,94 @@ pub fn sorts(alloc: Global, bytes: &[u8], tokens: &[Token]) -> Result<Vec<Sort>,
     Ok(found)
 }
 
+/// The sort of the token at this place of the list, found from its bytes, or `End` past the list.
+fn found_sort(bytes: &[u8], tokens: &[Token], at: usize) -> Sort
+    requires { at < length tokens.now → Lexes 0 bytes.now tokens.now }
+    ensures { result ≡ sort_of (drop at (lexemes bytes.now tokens.now)) }
+{
+    match tokens.get(at) {
+        Some(token) => sort_of(token.kind, bytes_of(bytes, token)),
+        None => Sort::End,
+    }
+}
+
+/// The bytes of the token at this place of the list.
+fn token_bytes<'a>(bytes: &'a [u8], tokens: &[Token], at: usize) -> &'a [u8]
+    requires within { at < length tokens.now }
+    requires lexes { Lexes 0 bytes.now tokens.now }
+    ensures value { (other : Token) → result.now ≡ bytes_of bytes.now (get_or tokens.now at other) }
+    ensures spells { (other : Token) → Spells (get_or tokens.now at other).kind result.now }
+{
+    match tokens.get(at) {
+        Some(token) => bytes_of(bytes, token),
+        None => unreachable!(),
+    }
+}
+
+/// The bytes from this place on.
+fn bytes_from(bytes: &[u8], start: u32) -> &[u8]
+    requires { start ≤ length bytes.now }
+    ensures { result.now ≡ drop start bytes.now }
+{
+    &bytes[start as usize..]
+}
+
+/// The name at the front of these bytes.
+fn front_name(from: &[u8]) -> &[u8]
+    ensures { result.now ≡ front_name from.now }
+{
+    &from[..name_length(from)]
+}
+
+/// The digits at the front of these bytes.
+fn front_number(from: &[u8]) -> &[u8]
+    ensures { result.now ≡ front_number from.now }
+{
+    &from[..number_length(from)]
+}
+
+/// The text in quotes at the front of these bytes.
+fn front_text(from: &[u8]) -> &[u8]
+    requires { (count : ℕ) × IsLongestToken from.now Kind.Text count }
+    ensures value { result.now ≡ front_text from.now }
+    ensures spells { Spells Kind.Text result.now }
+{
+    match text_length(from) {
+        Some(count) => &from[..count],
+        None => unreachable!(),
+    }
+}
+
 /// A text and its tokens, as the grammar sees them: a list of lexemes. To look at one takes no
 /// longer far from the front than near it.
 #[derive(Drop)]
 pub struct Lexed<'a> {
     bytes: &'a [u8],
-    tokens: &'a [Token],
-    /// The sorts of the first tokens, or of none: those of the others are found when they are asked
-    /// for.
+    /// Where each token begins, if the tokens are packed, or none.
+    starts: &'a [u32],
+    /// The sorts of all packed tokens. Of others the sorts of the first ones, or none: those of the
+    /// rest are found when they are asked for.
     known: &'a [Sort],
+    /// The tokens that are not packed.
+    tokens: &'a [Token],
 }
+
+const NO_STARTS: [u32; 0] = [];
 
 const NONE_KNOWN: [Sort; 0] = [];
 
+const NO_TOKENS: [Token; 0] = [];
+
 impl<'a> Model for Lexed<'a> {
     ghost use Rattle.std.specs.Prelude.{List};
-    ghost use Rattle.aioc_tokens.specs.Lexing.{Lexes};
-    ghost use Rattle.aioc_tokens.specs.Lexemes.{Lexeme, lexemes, AreKnown};
+    ghost use Rattle.aioc_tokens.specs.Lexemes.{Lexeme};
+    ghost use Rattle.aioc_tokens.specs.Packed.{shown_by, IsSourceOf};
 
     ghost Value = { List Lexeme };
 
-    ghost view = { λ s. lexemes s.bytes.now s.tokens.now };
+    ghost view = { λ s. shown_by s.bytes.now s.starts.now s.known.now s.tokens.now };
 
-    ghost invariant = { λ s. Lexes 0 s.bytes.now s.tokens.now
-        × AreKnown s.known.now (lexemes s.bytes.now s.tokens.now) };
+    ghost invariant = { λ s. IsSourceOf s.bytes.now s.starts.now s.known.now s.tokens.now };
 }
 
 impl<'a> Lexed<'a> {
@@ -147,8 +236,9 @@ impl<'a> Lexed<'a> {
     {
         Lexed {
             bytes,
-            tokens,
+            starts: NO_STARTS.as_slice(),
             known: NONE_KNOWN.as_slice(),
+            tokens,
         }
     }
 
@@ -160,8 +250,23 @@ impl<'a> Lexed<'a> {
     {
         Lexed {
             bytes,
-            tokens,
+            starts: NO_STARTS.as_slice(),
             known: sorts,
+            tokens,
+        }
+    }
+
+    /// The lexemes of a text whose packed tokens these are.
+    pub fn packed(bytes: &'a [u8], packed: &'a Packed) -> Lexed<'a>
+        requires { ArePacked bytes.now packed.now.starts.items packed.now.sorts.items }
+        ensures lexemes { HasLexemes bytes.now result }
+        ensures few { length result ≤ length bytes.now }
+    {
+        Lexed {
+            bytes,
+            starts: packed.starts.as_slice(),
+            known: packed.sorts.as_slice(),
+            tokens: NO_TOKENS.as_slice(),
         }
     }
 
@@ -170,14 +275,15 @@ impl<'a> Lexed<'a> {
         ensures value { result ≡ length self.now }
         ensures small { result < 2 ^ 63 }
     {
-        self.tokens.len()
+        // Either there are no packed tokens, or there are no others.
+        self.starts.len().max(self.tokens.len())
     }
 
     /// Whether there is no lexeme.
     pub fn is_empty(&self) -> bool
         ensures { IsTrue result ↔ (self.now ≡ []) }
     {
-        self.tokens.is_empty()
+        self.len() == 0
     }
 
     /// The sort of the lexeme at this place, counted from 0.
@@ -186,19 +292,10 @@ impl<'a> Lexed<'a> {
         ensures within { result ≢ Sort.End → at < length self.now }
         ensures small { length self.now < 2 ^ 63 }
     {
+        let _few = self.len();
         match self.known.get(at) {
             Some(sort) => *sort,
-            None => self.found_sort(at),
-        }
-    }
-
-    /// The sort of the lexeme at this place, found from its bytes.
-    fn found_sort(&self, at: usize) -> Sort
-        ensures { result ≡ sort_of (drop at self.now) }
-    {
-        match self.tokens.get(at) {
-            Some(token) => sort_of(token.kind, bytes_of(self.bytes, token)),
-            None => Sort::End,
+            None => found_sort(self.bytes, self.tokens, at),
         }
     }
 
@@ -229,7 +326,10 @@ impl<'a> Lexed<'a> {
         ensures value { drop at self.now ≡ Lexeme.Name result.now ∷ drop (at + 1) self.now }
         ensures valid { HasSpelling (Lexeme.Name result.now) }
     {
-        bytes_of(self.bytes, &self.tokens[at])
+        match self.starts.get(at) {
+            Some(start) => front_name(bytes_from(self.bytes, *start)),
+            None => token_bytes(self.bytes, self.tokens, at),
+        }
     }
 
     /// Whether the lexeme at this place is this name, as a word that has a meaning only in its
@@ -247,7 +347,10 @@ impl<'a> Lexed<'a> {
         ensures value { drop at self.now ≡ Lexeme.Number result.now ∷ drop (at + 1) self.now }
         ensures valid { HasSpelling (Lexeme.Number result.now) }
     {
-        bytes_of(self.bytes, &self.tokens[at])
+        match self.starts.get(at) {
+            Some(start) => front_number(bytes_from(self.bytes, *start)),
+            None => token_bytes(self.bytes, self.tokens, at),
+        }
     }
 
     /// A copy of the value of the text at this place.
@@ -257,6 +360,9 @@ impl<'a> Lexed<'a> {
             ∷ drop (at + 1) self.now) }
         ensures valid { IfOk result (λ v. HasSpelling (Lexeme.Text v.items)) }
     {
-        copied_value(alloc, bytes_of(self.bytes, &self.tokens[at]))
+        match self.starts.get(at) {
+            Some(start) => copied_value(alloc, front_text(bytes_from(self.bytes, *start))),
+            None => copied_value(alloc, token_bytes(self.bytes, self.tokens, at)),
+        }
     }
 }

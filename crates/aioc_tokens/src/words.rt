@@ -1,6 +1,6 @@
 //! The reserved words and the symbols.
 
-ghost use Rattle.std.specs.Prelude.{◌≡◌, ◌∷◌, []};
+ghost use Rattle.std.specs.Prelude.{◌≡◌, ℕ, List, ◌∷◌, []};
 ghost use Rattle.std.specs.List.{find};
 ghost use Rattle.std.specs.Str.{bytes_eq};
 ghost use Rattle.aioc_tokens.specs.Words.{word_spelling, word_of, punctuator_spelling, punctuator_of};
@@ -77,29 +77,6 @@ pub enum Sort {
     Symbol(Punctuator),
 }
 
-/// All reserved words.
-const WORDS: [Word; 19] = [
-    Word::Aioc,
-    Word::Skip,
-    Word::If,
-    Word::Else,
-    Word::While,
-    Word::Scope,
-    Word::Prop,
-    Word::Rule,
-    Word::On,
-    Word::Do,
-    Word::True,
-    Word::False,
-    Word::Nil,
-    Word::And,
-    Word::Or,
-    Word::Not,
-    Word::Input,
-    Word::N,
-    Word::E,
-];
-
 /// The first of the words that these bytes spell.
 fn find_spelled(words: &[Word], bytes: &[u8]) -> Option<Word>
     ensures { result ≡ find (λ word. bytes_eq bytes.now (word_spelling word)) words.now }
@@ -112,16 +89,44 @@ fn find_spelled(words: &[Word], bytes: &[u8]) -> Option<Word>
     None
 }
 
+/// The reserved words with this first byte.
+#[tactic(auto, unfolding(crate::specs::Words::word_of))]
+fn words_from(first: u8) -> &'static [Word]
+    ensures { (others : List ℕ) → word_of (first ∷ others)
+        ≡ find (λ word. bytes_eq (first ∷ others) (word_spelling word)) result.now }
+{
+    match first {
+        b'a' => &[Word::Aioc, Word::And],
+        b's' => &[Word::Skip, Word::Scope],
+        b'i' => &[Word::If, Word::Input],
+        b'e' => &[Word::Else],
+        b'w' => &[Word::While],
+        b'p' => &[Word::Prop],
+        b'r' => &[Word::Rule],
+        b'o' => &[Word::On, Word::Or],
+        b'd' => &[Word::Do],
+        b't' => &[Word::True],
+        b'f' => &[Word::False],
+        b'n' => &[Word::Nil, Word::Not],
+        b'N' => &[Word::N],
+        b'E' => &[Word::E],
+        _ => &[],
+    }
+}
+
 /// The reserved word that these bytes spell.
 #[tactic(auto, unfolding(crate::specs::Words::word_of))]
 pub fn find_word(bytes: &[u8]) -> Option<Word>
     ensures { result ≡ word_of bytes.now }
 {
-    find_spelled(&WORDS, bytes)
+    match bytes.first() {
+        Some(first) => find_spelled(words_from(*first), bytes),
+        None => None,
+    }
 }
 
 #[tactic(auto, unfolding(crate::specs::Words::punctuator_of))]
-fn lone_punctuator(byte: u8) -> Option<Punctuator>
+pub(crate) fn lone_punctuator(byte: u8) -> Option<Punctuator>
     ensures { result ≡ punctuator_of (byte ∷ []) }
 {
     match byte {
@@ -152,7 +157,7 @@ fn lone_punctuator(byte: u8) -> Option<Punctuator>
 }
 
 #[tactic(auto, unfolding(crate::specs::Words::punctuator_of))]
-fn pair_punctuator(first: u8, second: u8) -> Option<Punctuator>
+pub(crate) fn pair_punctuator(first: u8, second: u8) -> Option<Punctuator>
     ensures { result ≡ punctuator_of (first ∷ second ∷ []) }
 {
     match (first, second) {

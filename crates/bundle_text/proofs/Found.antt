@@ -199,7 +199,7 @@ module _ (text : List Lexeme) (at : ℕ) where
     pub choreography_open : {found : FoundChoreo} → TermFound found → sort_of (drop found.at text) ≢ sorts.Symbol punctuator.RightBrace → EndsInChoreography version text at found.at
     choreography_open read unlike = unclosed read.front unlike
 
-    pub choreography_found : {found : FoundChoreo} → TermFound found → sort_of (drop found.at text) ≡ sorts.Symbol punctuator.RightBrace → ChoreographyTaken version text at found.choreo (found.at + 1)
+    pub choreography_found : {found : FoundChoreo} → TermFound found → sort_of (drop found.at text) ≡ sorts.Symbol punctuator.RightBrace → ChoreographyTaken version text at found.choreo.value (found.at + 1)
     choreography_found {found} read closes =
         let inside = within_here text punctuator.RightBrace found.at closes in
         let after = read.after in

@@ -10,8 +10,8 @@ ghost use Rattle.bundle_text.specs.Stops.{place_in, EndsAt, EndsAtByte};
 
 use crate::bundles::bundle_of;
 use crate::sections::sections_at;
-use crate::stops::{Stop, fault};
-use aioc_tokens::{Lexed, TokenFault, sorts, tokens};
+use crate::stops::{Stop, refusal};
+use aioc_tokens::{Lexed, TokenFault, packed_tokens};
 use dioc_terms::{Bundle, SyntaxFault};
 use expr_syntax::number_at;
 use limits::MOST_BYTES;
@@ -36,18 +36,14 @@ pub fn read_bundle(alloc: Global, bytes: &[u8]) -> Result<Bundle, SyntaxFault>
     if bytes.len() > MOST_BYTES {
         return Err(SyntaxFault::Syntax(MOST_BYTES));
     }
-    let tokens = match tokens(alloc, bytes) {
-        Ok(tokens) => tokens,
+    let packed = match packed_tokens(alloc, bytes) {
+        Ok(packed) => packed,
         Err(TokenFault::BadByte(at)) => return Err(SyntaxFault::Syntax(at)),
         Err(TokenFault::Memory) => return Err(SyntaxFault::Memory),
     };
-    let sorts = match sorts(alloc, bytes, &tokens) {
-        Ok(sorts) => sorts,
-        Err(_) => return Err(SyntaxFault::Memory),
-    };
-    match bundle_at(alloc, &Lexed::with_sorts(bytes, &tokens, &sorts)) {
+    match bundle_at(alloc, &Lexed::packed(bytes, &packed)) {
         Ok(bundle) => Ok(bundle),
-        Err(Stop::At(at)) => Err(fault(alloc, bytes, &tokens, Goal::Bundle, at)),
+        Err(Stop::At(at)) => Err(refusal(alloc, bytes, Goal::Bundle, at)),
         Err(Stop::Memory) => Err(SyntaxFault::Memory),
     }
 }

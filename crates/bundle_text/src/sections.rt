@@ -55,7 +55,7 @@ fn choreography_at(
         let stop = Stop::At(found.at);
         return lost(found, stop);
     }
-    Ok((found.choreo, found.at + 1))
+    Ok((Box::into_inner(found.choreo), found.at + 1))
 }
 
 /// The section at a place of the text, joined to those before it. The answer is the place behind

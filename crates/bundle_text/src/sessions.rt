@@ -14,8 +14,8 @@ use crate::bundles::bundle_of;
 use crate::parts::Parts;
 use crate::reader::version_at;
 use crate::sections::section_at;
-use crate::stops::{Stop, fault, lost};
-use aioc_tokens::{Lexed, Punctuator, Sort, TokenFault, sorts, tokens};
+use crate::stops::{Stop, lost, refusal};
+use aioc_tokens::{Lexed, Punctuator, Sort, TokenFault, packed_tokens};
 use dioc_terms::{Bundle, SyntaxFault};
 use limits::{MOST_BYTES, MOST_SESSIONS};
 use std::alloc::Global;
@@ -51,18 +51,14 @@ pub fn read_sessions(alloc: Global, bytes: &[u8]) -> Result<Vec<Bundle>, SyntaxF
     if bytes.len() > MOST_BYTES {
         return Err(SyntaxFault::Syntax(MOST_BYTES));
     }
-    let tokens = match tokens(alloc, bytes) {
-        Ok(tokens) => tokens,
+    let packed = match packed_tokens(alloc, bytes) {
+        Ok(packed) => packed,
         Err(TokenFault::BadByte(at)) => return Err(SyntaxFault::Syntax(at)),
         Err(TokenFault::Memory) => return Err(SyntaxFault::Memory),
     };
-    let sorts = match sorts(alloc, bytes, &tokens) {
-        Ok(sorts) => sorts,
-        Err(_) => return Err(SyntaxFault::Memory),
-    };
-    match sessions_of(alloc, &Lexed::with_sorts(bytes, &tokens, &sorts)) {
+    match sessions_of(alloc, &Lexed::packed(bytes, &packed)) {
         Ok(sessions) => Ok(sessions),
-        Err(Stop::At(at)) => Err(fault(alloc, bytes, &tokens, Goal::Sessions, at)),
+        Err(Stop::At(at)) => Err(refusal(alloc, bytes, Goal::Sessions, at)),
         Err(Stop::Memory) => Err(SyntaxFault::Memory),
     }
 }

@@ -47,7 +47,7 @@ module _ (version room deep earlier : ℕ) (text : List Lexeme) (at : ℕ) where
   }
 
   pub bar_found : (first second both : FoundChoreo) → Finds (IsShallow version Sequence room deep earlier) 1 deep earlier text at first → sort_of (drop first.at text) ≡ sorts.Symbol punctuator.Bar → first.depth ≢ deep
-      → Finds (IsShallow version Choreography room (deep - 1) first.next) 1 (deep - 1) first.next text (first.at + 1) second → term both.choreo ≡ Par (term first.choreo) (term second.choreo)
+      → Finds (IsShallow version Choreography room (deep - 1) first.next) 1 (deep - 1) first.next text (first.at + 1) second → term both.choreo.value ≡ Par (term first.choreo.value) (term second.choreo.value)
       → both.depth ≡ suc (max first.depth second.depth) → both.at ≡ second.at → both.next ≡ second.next → Finds (IsShallow version Choreography room deep earlier) 1 deep earlier text at both
   bar_found first second both one sort deeper two joins deep_is at_is next_is =
       let depth1 = one.depth in
@@ -62,7 +62,7 @@ module _ (version room deep earlier : ℕ) (text : List Lexeme) (at : ℕ) where
       let next2 = two.next in
       record {
         front = rw (joins, at_is) (choreography_beside one.front (symbol_here text punctuator.Bar first.at (first.at + 1) refl sort) (omega arith)
-            (subst (λ n. Longest (IsShallow version Choreography room (deep - 1) n (drop (first.at + 1) text)) (term second.choreo) (drop second.at text)) one.next two.front));
+            (subst (λ n. Longest (IsShallow version Choreography room (deep - 1) n (drop (first.at + 1) text)) (term second.choreo.value) (drop second.at text)) one.next two.front));
         depth = deep_is ∙ omega arith ∙ sym (ap depth joins);
         shallow = omega arith;
         next = next_is ∙ omega arith ∙ sym (ap (λ t. earlier + constructs t) joins);
@@ -111,7 +111,7 @@ module _ (version room deep earlier : ℕ) (text : List Lexeme) (at : ℕ) where
       }
 
   pub semicolon_found : (first second both : FoundChoreo) → Finds (IsShallow version Step room deep earlier) 1 deep earlier text at first → sort_of (drop first.at text) ≡ sorts.Symbol punctuator.Semicolon → first.depth ≢ deep
-      → Finds (IsShallow version Sequence room (deep - 1) first.next) 1 (deep - 1) first.next text (first.at + 1) second → term both.choreo ≡ Seq (term first.choreo) (term second.choreo)
+      → Finds (IsShallow version Sequence room (deep - 1) first.next) 1 (deep - 1) first.next text (first.at + 1) second → term both.choreo.value ≡ Seq (term first.choreo.value) (term second.choreo.value)
       → both.depth ≡ suc (max first.depth second.depth) → both.at ≡ second.at → both.next ≡ second.next → Finds (IsShallow version Sequence room deep earlier) 1 deep earlier text at both
   semicolon_found first second both one sort deeper two joins deep_is at_is next_is =
       let depth1 = one.depth in
@@ -126,7 +126,7 @@ module _ (version room deep earlier : ℕ) (text : List Lexeme) (at : ℕ) where
       let next2 = two.next in
       record {
         front = rw (joins, at_is) (sequence_turn one.front (symbol_here text punctuator.Semicolon first.at (first.at + 1) refl sort) (omega arith)
-            (subst (λ n. Longest (IsShallow version Sequence room (deep - 1) n (drop (first.at + 1) text)) (term second.choreo) (drop second.at text)) one.next two.front));
+            (subst (λ n. Longest (IsShallow version Sequence room (deep - 1) n (drop (first.at + 1) text)) (term second.choreo.value) (drop second.at text)) one.next two.front));
         depth = deep_is ∙ omega arith ∙ sym (ap depth joins);
         shallow = omega arith;
         next = next_is ∙ omega arith ∙ sym (ap (λ t. earlier + constructs t) joins);
@@ -192,7 +192,7 @@ module _ (version room deep earlier : ℕ) (text : List Lexeme) (at : ℕ) where
 
   -- second branches
   pub else_absent : (found : FoundChoreo) → 0 < deep → at ≤ length text → Longest (IsShallow version Otherwise room deep earlier (drop at text)) Skip (drop at text)
-      → term found.choreo ≡ Skip → found.depth ≡ 1 → found.at ≡ at → found.next ≡ earlier → Finds (IsShallow version Otherwise room deep earlier) 0 deep earlier text at found
+      → term found.choreo.value ≡ Skip → found.depth ≡ 1 → found.at ≡ at → found.next ≡ earlier → Finds (IsShallow version Otherwise room deep earlier) 0 deep earlier text at found
   else_absent found some inside front skips deep_is at_is next_is = record {
     front = rw (skips, at_is) front;
     depth = deep_is ∙ sym (ap depth skips);
@@ -217,7 +217,7 @@ module _ (version room deep earlier : ℕ) (text : List Lexeme) (at : ℕ) where
       record { front = else_front (reserved_here text word.Else at (at + 1) refl sort) one.front; depth = one.depth; shallow = one.shallow; next = one.next; few = omega arith; after = omega arith; within = one.within }
 
   -- steps that begin with a word
-  pub skip_found : (found : FoundChoreo) → 0 < deep → sort_of (drop at text) ≡ sorts.Reserved word.Skip → term found.choreo ≡ Skip → found.depth ≡ 1 → found.at ≡ at + 1 → found.next ≡ earlier
+  pub skip_found : (found : FoundChoreo) → 0 < deep → sort_of (drop at text) ≡ sorts.Reserved word.Skip → term found.choreo.value ≡ Skip → found.depth ≡ 1 → found.at ≡ at + 1 → found.next ≡ earlier
       → Finds (IsShallow version Step room deep earlier) 1 deep earlier text at found
   skip_found found some sort skips deep_is at_is next_is =
       let begins = reserved_here text word.Skip at (at + 1) refl sort in
@@ -234,7 +234,7 @@ module _ (version room deep earlier : ℕ) (text : List Lexeme) (at : ℕ) where
   pub choice_found : (guard : Guard) (first second whole : FoundChoreo) → 0 < deep → sort_of (drop at text) ≡ sorts.Reserved word.If → IsGuard room text (at + 1) guard
       → Finds (IsShallow version Block room (deep - 1) (earlier + 1)) 1 (deep - 1) (earlier + 1) text guard.at first
       → Finds (IsShallow version Otherwise room (deep - 1) first.next) 0 (deep - 1) first.next text first.at second
-      → term whole.choreo ≡ If (index_at earlier) guard.leader (expression guard.expr) (term first.choreo) (term second.choreo) → whole.depth ≡ suc (max first.depth second.depth) → whole.at ≡ second.at → whole.next ≡ second.next
+      → term whole.choreo.value ≡ If (index_at earlier) guard.leader (expression guard.expr) (term first.choreo.value) (term second.choreo.value) → whole.depth ≡ suc (max first.depth second.depth) → whole.at ≡ second.at → whole.next ≡ second.next
       → Finds (IsShallow version Step room deep earlier) 1 deep earlier text at whole
   choice_found guard first second whole some sort guards one two joins deep_is at_is next_is =
       let depth1 = one.depth in
@@ -250,8 +250,8 @@ module _ (version room deep earlier : ℕ) (text : List Lexeme) (at : ℕ) where
       let next2 = two.next in
       record {
         front = rw (joins, at_is) (choice_front (reserved_here text word.If at (at + 1) refl sort) guards.front guards.leads
-            (subst (λ n. Longest (IsShallow version Block room (deep - 1) n (drop guard.at text)) (term first.choreo) (drop first.at text)) (omega arith) one.front)
-            (subst (λ n. Longest (IsShallow version Otherwise room (deep - 1) n (drop first.at text)) (term second.choreo) (drop second.at text)) (omega arith) two.front));
+            (subst (λ n. Longest (IsShallow version Block room (deep - 1) n (drop guard.at text)) (term first.choreo.value) (drop first.at text)) (omega arith) one.front)
+            (subst (λ n. Longest (IsShallow version Otherwise room (deep - 1) n (drop first.at text)) (term second.choreo.value) (drop second.at text)) (omega arith) two.front));
         depth = deep_is ∙ omega arith ∙ sym (ap depth joins);
         shallow = omega arith;
         next = next_is ∙ omega arith ∙ sym (ap (λ t. earlier + constructs t) joins);
@@ -270,7 +270,7 @@ module _ (version room deep earlier : ℕ) (text : List Lexeme) (at : ℕ) where
       choice_body (reserved_here text word.If at (at + 1) refl sort) guards.front guards.leads (subst (λ n. NoFront (IsShallow version Block room (deep - 1) n (drop guard.at text))) (omega arith) none)
 
   pub loop_found : (guard : Guard) (inner whole : FoundChoreo) → 0 < deep → sort_of (drop at text) ≡ sorts.Reserved word.While → IsGuard room text (at + 1) guard
-      → Finds (IsShallow version Block room (deep - 1) (earlier + 1)) 1 (deep - 1) (earlier + 1) text guard.at inner → term whole.choreo ≡ While (index_at earlier) guard.leader (expression guard.expr) (term inner.choreo)
+      → Finds (IsShallow version Block room (deep - 1) (earlier + 1)) 1 (deep - 1) (earlier + 1) text guard.at inner → term whole.choreo.value ≡ While (index_at earlier) guard.leader (expression guard.expr) (term inner.choreo.value)
       → whole.depth ≡ suc inner.depth → whole.at ≡ inner.at → whole.next ≡ inner.next → Finds (IsShallow version Step room deep earlier) 1 deep earlier text at whole
   loop_found guard inner whole some sort guards one joins deep_is at_is next_is =
       let depth1 = one.depth in
@@ -281,7 +281,7 @@ module _ (version room deep earlier : ℕ) (text : List Lexeme) (at : ℕ) where
       let next1 = one.next in
       record {
         front = rw (joins, at_is) (loop_front (reserved_here text word.While at (at + 1) refl sort) guards.front guards.leads
-            (subst (λ n. Longest (IsShallow version Block room (deep - 1) n (drop guard.at text)) (term inner.choreo) (drop inner.at text)) (omega arith) one.front));
+            (subst (λ n. Longest (IsShallow version Block room (deep - 1) n (drop guard.at text)) (term inner.choreo.value) (drop inner.at text)) (omega arith) one.front));
         depth = deep_is ∙ omega arith ∙ sym (ap depth joins);
         shallow = omega arith;
         next = next_is ∙ omega arith ∙ sym (ap (λ t. earlier + constructs t) joins);
@@ -305,7 +305,7 @@ module _ (version room deep earlier : ℕ) (text : List Lexeme) (at : ℕ) where
 
   pub scope_found : (leader : Role) (inner whole : FoundChoreo) (parts : ScopeParts) → 0 < deep → sort_of (drop at text) ≡ sorts.Reserved word.Scope → LeaderAt text (at + 1) (Some leader)
       → Finds (IsShallow version Block room (deep - 1) (earlier + 1)) 1 (deep - 1) (earlier + 1) text (at + 3) inner → ScopePartsAt version text inner.at parts → parts.leader ≡ leader
-      → term whole.choreo ≡ Scope (index_at earlier) parts.leader (term inner.choreo) parts.extra parts.props 0 → whole.depth ≡ suc inner.depth → whole.at ≡ parts.at → whole.next ≡ inner.next
+      → term whole.choreo.value ≡ Scope (index_at earlier) parts.leader (term inner.choreo.value) parts.extra parts.props 0 → whole.depth ≡ suc inner.depth → whole.at ≡ parts.at → whole.next ≡ inner.next
       → Finds (IsShallow version Step room deep earlier) 1 deep earlier text at whole
   scope_found leader inner whole parts some sort led_is one tail leader_is joins deep_is at_is next_is =
       let depth1 = one.depth in
@@ -315,10 +315,10 @@ module _ (version room deep earlier : ℕ) (text : List Lexeme) (at : ℕ) where
       let after2 = tail.after in
       let next1 = one.next in
       let leads = led leader led_is in
-      let whole_is : term whole.choreo ≡ Scope (index_at earlier) leader (term inner.choreo) parts.extra parts.props 0 = joins ∙ ap (λ who. Scope (index_at earlier) who (term inner.choreo) parts.extra parts.props 0) leader_is in
+      let whole_is : term whole.choreo.value ≡ Scope (index_at earlier) leader (term inner.choreo.value) parts.extra parts.props 0 = joins ∙ ap (λ who. Scope (index_at earlier) who (term inner.choreo.value) parts.extra parts.props 0) leader_is in
       record {
         front = rw (whole_is, at_is) (scope_front (reserved_here text word.Scope at (at + 1) refl sort) leads
-            (subst (λ n. Longest (IsShallow version Block room (deep - 1) n (drop (at + 3) text)) (term inner.choreo) (drop inner.at text)) (omega arith) one.front) tail.roles tail.props);
+            (subst (λ n. Longest (IsShallow version Block room (deep - 1) n (drop (at + 3) text)) (term inner.choreo.value) (drop inner.at text)) (omega arith) one.front) tail.roles tail.props);
         depth = deep_is ∙ omega arith ∙ sym (ap depth whole_is);
         shallow = omega arith;
         next = next_is ∙ omega arith ∙ sym (ap (λ t. earlier + constructs t) whole_is);

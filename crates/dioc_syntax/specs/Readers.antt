@@ -125,10 +125,10 @@ pub record ScopePartsAt (version : ℕ) (text : List Lexeme) (at : ℕ) (parts :
 -- depth, the place behind it and the number of constructs up to there are noted.
 pub record Finds (Reads : List Lexeme → Term → List Lexeme → Type 0) (least deep earlier : ℕ)
     (text : List Lexeme) (at : ℕ) (found : FoundChoreo) : Type 0 where
-  pub front : Longest (Reads (drop at text)) (term found.choreo) (drop found.at text)
-  pub depth : found.depth ≡ depth (term found.choreo)
+  pub front : Longest (Reads (drop at text)) (term found.choreo.value) (drop found.at text)
+  pub depth : found.depth ≡ depth (term found.choreo.value)
   pub shallow : found.depth ≤ deep
-  pub next : found.next ≡ earlier + constructs (term found.choreo)
+  pub next : found.next ≡ earlier + constructs (term found.choreo.value)
   pub few : found.next + at ≤ earlier + found.at
   pub after : at + least ≤ found.at
   pub within : found.at ≤ length text

@@ -54,7 +54,7 @@ pub fn read_choreo(
         earlier: 0,
     };
     match choreo_at(&reader, front)? {
-        Some(found) => Ok((found.choreo, found.at)),
+        Some(found) => Ok((Box::into_inner(found.choreo), found.at)),
         None => Err(SyntaxFault::Syntax(place(bytes, tokens, at))),
     }
 }

@@ -5,14 +5,15 @@ ghost use Rattle.dioc_terms.specs.Expressions.{expression};
 ghost use Rattle.dioc_terms.specs.Terms.{term, index_at, Seq, Par, If, While, Scope};
 
 use crate::guards::Guard;
-use dioc_terms::{Bindings, Choreo, Index, Memory, Role, Roles, give_up, new_box, new_boxes};
+use dioc_terms::{Bindings, Choreo, Index, Memory, Role, Roles, new_box};
 use std::alloc::Global;
 
 /// A choreography that was read.
 #[derive(Drop)]
 pub struct FoundChoreo {
-    /// The choreography, marked as its text is.
-    pub choreo: Choreo,
+    /// The choreography, marked as its text is. It is put into its box where it is made, so that
+    /// what is handed on is small.
+    pub choreo: Box<Choreo>,
     /// The depth of its tree.
     pub depth: usize,
     /// The place behind it.
@@ -36,17 +37,17 @@ pub fn parallel_of(
 ) -> Result<FoundChoreo, Memory>
     requires first { first.depth < 2 ^ 64 - 1 }
     requires second { second.depth < 2 ^ 64 - 1 }
-    ensures choreo { IfOk result (λ found. term found.choreo
-        ≡ Par (term first.choreo) (term second.choreo)) }
+    ensures choreo { IfOk result (λ found. term found.choreo.value
+        ≡ Par (term first.choreo.value) (term second.choreo.value)) }
     ensures depth { IfOk result (λ found. found.depth ≡ suc (max first.depth second.depth)) }
     ensures at { IfOk result (λ found. found.at ≡ second.at) }
     ensures next { IfOk result (λ found. found.next ≡ second.next) }
 {
     let depth = first.depth.max(second.depth) + 1;
     let (at, next) = (second.at, second.next);
-    let (first, second) = new_boxes(alloc, first.choreo, second.choreo)?;
+    let choreo = new_box(alloc, Choreo::Par(first.choreo, second.choreo))?;
     Ok(FoundChoreo {
-        choreo: Choreo::Par(first, second),
+        choreo,
         depth,
         at,
         next,
@@ -61,17 +62,17 @@ pub fn sequence_of(
 ) -> Result<FoundChoreo, Memory>
     requires first { first.depth < 2 ^ 64 - 1 }
     requires second { second.depth < 2 ^ 64 - 1 }
-    ensures choreo { IfOk result (λ found. term found.choreo
-        ≡ Seq (term first.choreo) (term second.choreo)) }
+    ensures choreo { IfOk result (λ found. term found.choreo.value
+        ≡ Seq (term first.choreo.value) (term second.choreo.value)) }
     ensures depth { IfOk result (λ found. found.depth ≡ suc (max first.depth second.depth)) }
     ensures at { IfOk result (λ found. found.at ≡ second.at) }
     ensures next { IfOk result (λ found. found.next ≡ second.next) }
 {
     let depth = first.depth.max(second.depth) + 1;
     let (at, next) = (second.at, second.next);
-    let (first, second) = new_boxes(alloc, first.choreo, second.choreo)?;
+    let choreo = new_box(alloc, Choreo::Seq(first.choreo, second.choreo))?;
     Ok(FoundChoreo {
-        choreo: Choreo::Seq(first, second),
+        choreo,
         depth,
         at,
         next,
@@ -88,30 +89,28 @@ pub fn choice_of(
 ) -> Result<FoundChoreo, Memory>
     requires first { first.depth < 2 ^ 64 - 1 }
     requires second { second.depth < 2 ^ 64 - 1 }
-    ensures choreo { IfOk result (λ found. term found.choreo
-        ≡ If (index_at earlier) guard.leader (expression guard.expr) (term first.choreo)
-        (term second.choreo)) }
+    ensures choreo { IfOk result (λ found. term found.choreo.value
+        ≡ If (index_at earlier) guard.leader (expression guard.expr) (term first.choreo.value)
+        (term second.choreo.value)) }
     ensures depth { IfOk result (λ found. found.depth ≡ suc (max first.depth second.depth)) }
     ensures at { IfOk result (λ found. found.at ≡ second.at) }
     ensures next { IfOk result (λ found. found.next ≡ second.next) }
 {
     let depth = first.depth.max(second.depth) + 1;
     let (at, next) = (second.at, second.next);
-    let (yes, no) = match new_boxes(alloc, first.choreo, second.choreo) {
-        Ok(made) => made,
-        Err(fault) => return give_up(guard, fault),
-    };
-    Ok(FoundChoreo {
-        choreo: Choreo::If {
-            index: Index {
-                epoch: 0,
-                place: earlier,
-            },
-            leader: guard.leader,
-            guard: guard.expr,
-            yes,
-            no,
+    let choice = Choreo::If {
+        index: Index {
+            epoch: 0,
+            place: earlier,
         },
+        leader: guard.leader,
+        guard: guard.expr,
+        yes: first.choreo,
+        no: second.choreo,
+    };
+    let choreo = new_box(alloc, choice)?;
+    Ok(FoundChoreo {
+        choreo,
         depth,
         at,
         next,
@@ -126,27 +125,25 @@ pub fn loop_of(
     inner: FoundChoreo,
 ) -> Result<FoundChoreo, Memory>
     requires { inner.depth < 2 ^ 64 - 1 }
-    ensures choreo { IfOk result (λ found. term found.choreo
-        ≡ While (index_at earlier) guard.leader (expression guard.expr) (term inner.choreo)) }
+    ensures choreo { IfOk result (λ found. term found.choreo.value
+        ≡ While (index_at earlier) guard.leader (expression guard.expr) (term inner.choreo.value)) }
     ensures depth { IfOk result (λ found. found.depth ≡ suc inner.depth) }
     ensures at { IfOk result (λ found. found.at ≡ inner.at) }
     ensures next { IfOk result (λ found. found.next ≡ inner.next) }
 {
     let (depth, at, next) = (inner.depth + 1, inner.at, inner.next);
-    let body = match new_box(alloc, inner.choreo) {
-        Ok(body) => body,
-        Err(fault) => return give_up(guard, fault),
-    };
-    Ok(FoundChoreo {
-        choreo: Choreo::While {
-            index: Index {
-                epoch: 0,
-                place: earlier,
-            },
-            leader: guard.leader,
-            guard: guard.expr,
-            body,
+    let repeated = Choreo::While {
+        index: Index {
+            epoch: 0,
+            place: earlier,
         },
+        leader: guard.leader,
+        guard: guard.expr,
+        body: inner.choreo,
+    };
+    let choreo = new_box(alloc, repeated)?;
+    Ok(FoundChoreo {
+        choreo,
         depth,
         at,
         next,
@@ -171,28 +168,29 @@ pub fn scope_of(
     inner: FoundChoreo,
 ) -> Result<FoundChoreo, Memory>
     requires { inner.depth < 2 ^ 64 - 1 }
-    ensures choreo { IfOk result (λ found. term found.choreo
-        ≡ Scope (index_at earlier) parts.leader (term inner.choreo) parts.extra parts.props 0) }
+    ensures choreo { IfOk result (λ found. term found.choreo.value
+        ≡ Scope (index_at earlier) parts.leader (term inner.choreo.value) parts.extra parts.props 0) }
     ensures depth { IfOk result (λ found. found.depth ≡ suc inner.depth) }
     ensures at { IfOk result (λ found. found.at ≡ parts.at) }
     ensures next { IfOk result (λ found. found.next ≡ inner.next) }
 {
-    let (depth, next) = (inner.depth + 1, inner.next);
-    let body = new_box(alloc, inner.choreo)?;
-    Ok(FoundChoreo {
-        choreo: Choreo::Scope {
-            index: Index {
-                epoch: 0,
-                place: earlier,
-            },
-            leader: parts.leader,
-            body,
-            extra: parts.extra,
-            props: parts.props,
-            level: 0,
+    let (depth, at, next) = (inner.depth + 1, parts.at, inner.next);
+    let scope = Choreo::Scope {
+        index: Index {
+            epoch: 0,
+            place: earlier,
         },
+        leader: parts.leader,
+        body: inner.choreo,
+        extra: parts.extra,
+        props: parts.props,
+        level: 0,
+    };
+    let choreo = new_box(alloc, scope)?;
+    Ok(FoundChoreo {
+        choreo,
         depth,
-        at: parts.at,
+        at,
         next,
     })
 }

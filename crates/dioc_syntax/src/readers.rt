@@ -19,7 +19,8 @@ use crate::heads::leader_at;
 use crate::places::{Place, Reader};
 use crate::steps::named_step_at;
 use aioc_tokens::{Punctuator, Sort, Word};
-use dioc_terms::{Choreo, Memory, Role, give_up};
+use dioc_terms::{Choreo, Memory, Role, give_up, new_box};
+use std::alloc::Global;
 
 /// The longest choreography at a place of the text that goes no further than it may, or `None`
 /// where none stands there. It is marked as its text is. The error says that memory ran out.
@@ -103,7 +104,10 @@ fn step_at(reader: &Reader<'_>, place: Place) -> Result<Option<FoundChoreo>, Mem
     match reader.text.sort(place.at) {
         Sort::Name => named_step_at(reader, place),
         Sort::Symbol(Punctuator::LeftParen) => group_at(reader, place),
-        Sort::Reserved(Word::Skip) => Ok(Some(nothing(place.at + 1, place.earlier))),
+        Sort::Reserved(Word::Skip) => {
+            let skip = nothing(reader.alloc, place.at + 1, place.earlier)?;
+            Ok(Some(skip))
+        }
         Sort::Reserved(Word::If) => branch_at(reader, place),
         Sort::Reserved(Word::While) => loop_at(reader, place),
         Sort::Reserved(Word::Scope) => scope_at(reader, place),
@@ -112,18 +116,19 @@ fn step_at(reader: &Reader<'_>, place: Place) -> Result<Option<FoundChoreo>, Mem
 }
 
 /// A `skip` that ends before this place.
-fn nothing(at: usize, earlier: u32) -> FoundChoreo
-    ensures choreo { term result.choreo ≡ Skip }
-    ensures depth { result.depth ≡ 1 }
-    ensures at { result.at ≡ at }
-    ensures next { result.next ≡ earlier }
+fn nothing(alloc: Global, at: usize, earlier: u32) -> Result<FoundChoreo, Memory>
+    ensures choreo { IfOk result (λ found. term found.choreo.value ≡ Skip) }
+    ensures depth { IfOk result (λ found. found.depth ≡ 1) }
+    ensures at { IfOk result (λ found. found.at ≡ at) }
+    ensures next { IfOk result (λ found. found.next ≡ earlier) }
 {
-    FoundChoreo {
-        choreo: Choreo::Skip,
+    let choreo = new_box(alloc, Choreo::Skip)?;
+    Ok(FoundChoreo {
+        choreo,
         depth: 1,
         at,
         next: earlier,
-    }
+    })
 }
 
 /// ```text
@@ -193,7 +198,8 @@ fn otherwise_at(reader: &Reader<'_>, place: Place) -> Result<FoundChoreo, Memory
             return Ok(found);
         }
     }
-    Ok(nothing(place.at, place.earlier))
+    let skip = nothing(reader.alloc, place.at, place.earlier)?;
+    Ok(skip)
 }
 
 /// ```text

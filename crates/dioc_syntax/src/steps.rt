@@ -12,7 +12,7 @@ use crate::found::{FoundChoreo, nothing_found};
 use crate::heads::{receiver_at, sender_at, target_at};
 use crate::places::{Place, Reader};
 use aioc_tokens::{Punctuator, Sort, Word};
-use dioc_terms::{Choreo, Index, Memory, Name, Role, give_up};
+use dioc_terms::{Choreo, Index, Memory, Name, Role, give_up, new_box};
 use expr_syntax::{ExprKind, expr_at};
 
 /// `( )`
@@ -39,7 +39,7 @@ pub fn named_step_at(reader: &Reader<'_>, place: Place) -> Result<Option<FoundCh
         None => return Ok(None),
     };
     if reader.text.has(place.at + 4, Sort::Reserved(Word::Input)) {
-        Ok(input_at(reader, place, variable, owner))
+        input_at(reader, place, variable, owner)
     } else {
         assignment_at(reader, place, variable, owner)
     }
@@ -75,18 +75,20 @@ fn interaction_at(
         Ok(None) => return Ok(nothing_found(value)),
         Err(fault) => return give_up(value, fault),
     };
-    Ok(Some(FoundChoreo {
-        choreo: Choreo::Com {
-            index: Index {
-                epoch: 0,
-                place: place.earlier,
-            },
-            op: operation,
-            from: Role(sender),
-            expr: value,
-            to: Role(receiver),
-            var: variable,
+    let interaction = Choreo::Com {
+        index: Index {
+            epoch: 0,
+            place: place.earlier,
         },
+        op: operation,
+        from: Role(sender),
+        expr: value,
+        to: Role(receiver),
+        var: variable,
+    };
+    let choreo = new_box(alloc, interaction)?;
+    Ok(Some(FoundChoreo {
+        choreo,
         depth: 1,
         at: next + 6,
         next: place.earlier + 1,
@@ -96,7 +98,12 @@ fn interaction_at(
 /// ```text
 /// name "@" name "=" "input" "(" ")"
 /// ```
-fn input_at(reader: &Reader<'_>, place: Place, variable: Name, owner: Name) -> Option<FoundChoreo>
+fn input_at(
+    reader: &Reader<'_>,
+    place: Place,
+    variable: Name,
+    owner: Name,
+) -> Result<Option<FoundChoreo>, Memory>
     requires head { drop place.at reader.now.text.now
         ≡ set_by variable owner (drop (place.at + 4) reader.now.text.now) }
     requires within { place.at + 4 ≤ length reader.now.text.now }
@@ -104,24 +111,26 @@ fn input_at(reader: &Reader<'_>, place: Place, variable: Name, owner: Name) -> O
     requires small { length reader.now.text.now < 2 ^ 63 }
     requires some { 0 < place.deep }
     requires few { place.earlier + (length reader.now.text.now - place.at) ≤ greatest_place }
-    ensures { FormStandsAt reader.now Step place result }
+    ensures { IfOk result (λ found. FormStandsAt reader.now Step place found) }
 {
     if place.room == 0 || !reader.text.begins(place.at + 5, &BRACKETS) {
-        return None;
+        return Ok(None);
     }
-    Some(FoundChoreo {
-        choreo: Choreo::Input {
-            index: Index {
-                epoch: 0,
-                place: place.earlier,
-            },
-            var: variable,
-            role: Role(owner),
+    let input = Choreo::Input {
+        index: Index {
+            epoch: 0,
+            place: place.earlier,
         },
+        var: variable,
+        role: Role(owner),
+    };
+    let choreo = new_box(reader.alloc, input)?;
+    Ok(Some(FoundChoreo {
+        choreo,
         depth: 1,
         at: place.at + 7,
         next: place.earlier + 1,
-    })
+    }))
 }
 
 /// ```text
@@ -143,21 +152,25 @@ fn assignment_at(
     ensures { IfOk result (λ found. FormStandsAt reader.now Step place found) }
 {
     let (alloc, text) = (reader.alloc, reader.text);
-    match expr_at(alloc, text, ExprKind::Step, place.room, place.at + 4)? {
-        Some((expr, next)) => Ok(Some(FoundChoreo {
-            choreo: Choreo::Set {
-                index: Index {
-                    epoch: 0,
-                    place: place.earlier,
-                },
-                var: variable,
-                role: Role(owner),
-                expr,
-            },
-            depth: 1,
-            at: next,
-            next: place.earlier + 1,
-        })),
-        None => Ok(None),
-    }
+    let read = match expr_at(alloc, text, ExprKind::Step, place.room, place.at + 4)? {
+        Some(read) => read,
+        None => return Ok(None),
+    };
+    let (expr, next) = read;
+    let assignment = Choreo::Set {
+        index: Index {
+            epoch: 0,
+            place: place.earlier,
+        },
+        var: variable,
+        role: Role(owner),
+        expr,
+    };
+    let choreo = new_box(alloc, assignment)?;
+    Ok(Some(FoundChoreo {
+        choreo,
+        depth: 1,
+        at: next,
+        next: place.earlier + 1,
+    }))
 }

@@ -9,6 +9,7 @@ pub mod KeptStores
 pub mod Leaves
 pub mod Messages
 pub mod Names
+pub mod Kept
 pub mod Parts
 pub mod Plain
 pub mod Processes

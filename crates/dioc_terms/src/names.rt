@@ -1,24 +1,36 @@
 //! Names, texts, roles and indices.
 
-ghost use Rattle.std.specs.Prelude.{◌≡◌, ◌≤◌, ◌↔◌, true, false, length, IsOk, IfOk, IsErrOf};
+ghost use Rattle.std.specs.Prelude.{◌≡◌, ◌≤◌, ◌↔◌, true, false, length, take, IsOk, IfOk, IsErrOf};
 ghost use Rattle.std.specs.List.{list_all};
 ghost use Rattle.dioc_terms.specs.Names.{is_letter, is_word, is_printable, is_name, is_text};
+ghost use Rattle.dioc_terms.specs.Kept.{kept_items, IsKept};
 
+use crate::copies::new_box;
 use crate::faults::{Memory, NameFault, TextFault};
 use limits::{MOST_NAME_BYTES, MOST_TEXT_BYTES};
-use smallvec::SmallVec;
 use std::alloc::Global;
 use std::hash::{Hash, Hasher};
 use std::marker::Model;
 
 /// So many bytes a name keeps in place; a longer one takes memory.
-pub const BYTES_IN_PLACE: usize = 16;
+pub const BYTES_IN_PLACE: usize = 14;
+
+const _: () = prove!(size_of::<Name>() == 16);
 
 /// A name: a letter, then letters, digits and `_`, 1 to 64 bytes in all. Contracts see its bytes.
 /// One of at most `BYTES_IN_PLACE` bytes takes no memory.
 #[derive(Debug)]
 pub struct Name {
-    bytes: SmallVec<u8, BYTES_IN_PLACE>,
+    bytes: Kept,
+}
+
+/// The bytes of a name.
+#[derive(Debug, Drop)]
+pub(crate) enum Kept {
+    /// So many of these.
+    Short(u8, [u8; BYTES_IN_PLACE]),
+    /// More than can be in place.
+    Long(Box<Vec<u8>>),
 }
 
 impl Drop for Name {
@@ -33,10 +45,11 @@ impl Model for Name {
     ghost Value = { List ℕ };
 
     ghost use Rattle.dioc_terms.specs.Names.{IsName};
+    ghost use Rattle.dioc_terms.specs.Kept.{kept_items, IsKept};
 
-    ghost view = { λ name. name.bytes.items };
+    ghost view = { λ name. kept_items name.bytes };
 
-    ghost invariant = { λ name. IsName name.bytes.items };
+    ghost invariant = { λ name. IsName (kept_items name.bytes) × IsKept name.bytes };
 }
 
 impl Name {
@@ -51,7 +64,7 @@ impl Name {
         if !is_name(bytes) {
             return Err(NameFault::NotAName);
         }
-        let bytes = kept_bytes(alloc, bytes)?;
+        let bytes = Kept::new(alloc, bytes)?;
         Ok(Name { bytes })
     }
 
@@ -60,7 +73,6 @@ impl Name {
         ensures value { result.now ≡ self.now }
         ensures valid { is_name self.now ≡ true }
     {
-        let _bytes = &self.bytes;
         self.bytes.as_slice()
     }
 
@@ -68,7 +80,7 @@ impl Name {
     pub fn copy(&self, alloc: Global) -> Result<Name, Memory>
         ensures { IfOk result (λ copy. copy ≡ self.now) }
     {
-        let bytes = kept_bytes(alloc, self.bytes.as_slice())?;
+        let bytes = self.bytes.copy(alloc)?;
         Ok(Name { bytes })
     }
 }
@@ -83,7 +95,7 @@ impl PartialEq for Name {
     ghost laws = { partial_equiv_from_equiv (equivalence_from_Decides name_eq name_eq-decides) };
 
     fn eq(&self, other: &Name) -> bool {
-        self.bytes == other.bytes
+        self.bytes() == other.bytes()
     }
 }
 
@@ -104,14 +116,16 @@ impl Hash for Name {
     ghost respects_eq = { fed_alike name_eq name_eq-decides (λ name. fed.slice fed.u8 name) };
 
     fn hash<H: Hasher>(&self, state: &mut H) {
-        self.bytes.hash(state);
+        self.bytes().hash(state);
     }
 }
 
 /// A text: at most 1,024 bytes, each from 0x20 to 0x7E. Contracts see its bytes.
 pub struct Text {
-    bytes: Vec<u8>,
+    bytes: Box<Vec<u8>>,
 }
+
+const _: () = prove!(size_of::<Text>() == 8);
 
 impl Drop for Text {
     fn drop(self) {
@@ -126,9 +140,9 @@ impl Model for Text {
 
     ghost use Rattle.dioc_terms.specs.Names.{IsText};
 
-    ghost view = { λ text. text.bytes.items };
+    ghost view = { λ text. text.bytes.value.items };
 
-    ghost invariant = { λ text. IsText text.bytes.items };
+    ghost invariant = { λ text. IsText text.bytes.value.items };
 }
 
 impl Text {
@@ -143,7 +157,7 @@ impl Text {
         if !is_text(bytes) {
             return Err(TextFault::NotText);
         }
-        let bytes = copy_of_bytes(alloc, bytes)?;
+        let bytes = boxed_bytes(alloc, bytes)?;
         Ok(Text { bytes })
     }
 
@@ -160,7 +174,7 @@ impl Text {
     pub fn copy(&self, alloc: Global) -> Result<Text, Memory>
         ensures { IfOk result (λ copy. copy ≡ self.now) }
     {
-        let bytes = copy_of_bytes(alloc, &self.bytes)?;
+        let bytes = boxed_bytes(alloc, self.bytes.as_slice())?;
         Ok(Text { bytes })
     }
 }
@@ -180,6 +194,7 @@ impl Text {
         let mut bytes = Vec::with_capacity(alloc, length)?;
         bytes.extend_from_slice(self.bytes.as_slice())?;
         bytes.extend_from_slice(other.bytes.as_slice())?;
+        let bytes = new_box(alloc, bytes)?;
         Ok(Some(Text { bytes }))
     }
 
@@ -201,7 +216,7 @@ impl PartialEq for Text {
     ghost laws = { partial_equiv_from_equiv (equivalence_from_Decides bytes_eq name_eq-decides) };
 
     fn eq(&self, other: &Text) -> bool {
-        self.bytes == other.bytes
+        self.bytes.as_slice() == other.bytes.as_slice()
     }
 }
 
@@ -262,18 +277,70 @@ pub struct Index {
     pub place: u32,
 }
 
-/// These bytes, in place where they are at most `BYTES_IN_PLACE`.
-fn kept_bytes(alloc: Global, bytes: &[u8]) -> Result<SmallVec<u8, BYTES_IN_PLACE>, Memory>
-    ensures same { IfOk result (λ kept. kept.items ≡ bytes.now) }
-    ensures short { length bytes.now ≤ BYTES_IN_PLACE → IsOk result }
-{
-    Ok(SmallVec::from_slice(alloc, bytes)?)
+impl Kept {
+    /// These bytes, in place where they are at most `BYTES_IN_PLACE`.
+    fn new(alloc: Global, bytes: &[u8]) -> Result<Kept, Memory>
+        ensures same { IfOk result (λ kept. kept_items kept ≡ bytes.now) }
+        ensures kept { IfOk result (λ kept. IsKept kept) }
+        ensures short { length bytes.now ≤ BYTES_IN_PLACE → IsOk result }
+    {
+        if bytes.len() <= BYTES_IN_PLACE {
+            return Ok(short_of(bytes));
+        }
+        Ok(Kept::Long(boxed_bytes(alloc, bytes)?))
+    }
+
+    /// The bytes.
+    fn as_slice(&self) -> &[u8]
+        requires { IsKept self.now }
+        ensures { result.now ≡ kept_items self.now }
+    {
+        match self {
+            Kept::Short(count, bytes) => first_bytes(bytes, *count),
+            Kept::Long(bytes) => bytes.as_slice(),
+        }
+    }
+
+    /// A copy, the same bytes.
+    fn copy(&self, alloc: Global) -> Result<Kept, Memory>
+        requires { IsKept self.now }
+        ensures same { IfOk result (λ copy. kept_items copy ≡ kept_items self.now) }
+        ensures kept { IfOk result (λ copy. IsKept copy) }
+    {
+        match self {
+            Kept::Short(count, bytes) => Ok(Kept::Short(*count, *bytes)),
+            Kept::Long(bytes) => Ok(Kept::Long(boxed_bytes(alloc, bytes.as_slice())?)),
+        }
+    }
 }
 
-fn copy_of_bytes(alloc: Global, bytes: &[u8]) -> Result<Vec<u8>, Memory>
-    ensures { IfOk result (λ copy. copy.items ≡ bytes.now) }
+/// The first of the bytes in place.
+fn first_bytes(bytes: &[u8; BYTES_IN_PLACE], count: u8) -> &[u8]
+    requires { count ≤ BYTES_IN_PLACE }
+    ensures { result.now ≡ take count bytes.now }
 {
-    Ok(Vec::from_slice(alloc, bytes)?)
+    &bytes[..count as usize]
+}
+
+/// These bytes in place, and zeros behind them.
+fn short_of(bytes: &[u8]) -> Kept
+    requires { length bytes.now ≤ BYTES_IN_PLACE }
+    ensures same { kept_items result ≡ bytes.now }
+    ensures kept { IsKept result }
+{
+    let mut short = [0; BYTES_IN_PLACE];
+    for (place, byte) in bytes.iter().enumerate() {
+        short[place] = *byte;
+    }
+    Kept::Short(bytes.len() as u8, short)
+}
+
+/// A copy of these bytes in a box.
+fn boxed_bytes(alloc: Global, bytes: &[u8]) -> Result<Box<Vec<u8>>, Memory>
+    ensures { IfOk result (λ copy. copy.value.items ≡ bytes.now) }
+{
+    let copy = Vec::from_slice(alloc, bytes)?;
+    new_box(alloc, copy)
 }
 
 fn is_letter(byte: u8) -> bool

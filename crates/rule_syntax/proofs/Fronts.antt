@@ -282,7 +282,7 @@ module _ (text : List Lexeme) (at : ℕ) where
     abbrev BodyFound : FoundChoreo → Type 0
     BodyFound found = Finds (IsShallow version Choreography room 256 0) 1 256 0 text at found
 
-    body_settled : {found : FoundChoreo} {body : Term} {to : List Lexeme} → BodyFound found → IsReplaced version room (drop at text) body to → (term found.choreo ≡ body) × (drop found.at text ≡ closing to)
+    body_settled : {found : FoundChoreo} {body : Term} {to : List Lexeme} → BodyFound found → IsReplaced version room (drop at text) body to → (term found.choreo.value ≡ body) × (drop found.at text ≡ closing to)
     body_settled read is =
         let both = choreography.settled read.front is.body (ap (λ l. choreography_goes (sort_of l)) is.closes) in
         (both.0, both.1 ∙ is.closes)
@@ -290,7 +290,7 @@ module _ (text : List Lexeme) (at : ℕ) where
     pub body_open : {found : FoundChoreo} → BodyFound found → (Begins closing_sorts (drop found.at text) → ⊥) → NoFront (IsReplaced version room (drop at text))
     body_open read none body to is = none (subst (Begins closing_sorts) (sym (body_settled read is).1) (refl, (refl, tt)))
 
-    pub body_found : {found : FoundChoreo} → BodyFound found → Begins closing_sorts (drop found.at text) → StandsAt (IsReplaced version room) text at (term found.choreo) (found.at + 2)
+    pub body_found : {found : FoundChoreo} → BodyFound found → Begins closing_sorts (drop found.at text) → StandsAt (IsReplaced version room) text at (term found.choreo.value) (found.at + 2)
     body_found {found} read closes =
         let one = follows text (sorts.Symbol punctuator.RightBrace) (drop 1 closing_sorts) found.at (found.at + 1) refl closes in
         let two = follows text (sorts.Symbol punctuator.RightBrace) [] (found.at + 1) (found.at + 2) (omega arith) one.1 in

@@ -80,5 +80,5 @@ pub fn body_at(
     if !text.begins(found.at, &CLOSING) {
         return Ok(no_part(found));
     }
-    Ok(Some((found.choreo, found.at + 2)))
+    Ok(Some((Box::into_inner(found.choreo), found.at + 2)))
 }

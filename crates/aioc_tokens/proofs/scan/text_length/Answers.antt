@@ -2,7 +2,8 @@ use Rattle.std.proofs.Common.{◌-◌, ◌+◌, false, ap, sym, subst, ◌∙◌
 use Rattle.std.proofs.lemmas.List.{take_rest}
 use Rattle.aioc_tokens.specs.declared.kinds.Kind.TheVariants.{Text}
 use Rattle.aioc_tokens.specs.Tokens.{IsLongestToken}
-use Rattle.aioc_tokens.proofs.Quotes.{text_end, no_pair, quote_ends, bad_byte, no_end, text_longest, no_text}
+use Rattle.aioc_tokens.specs.Packed.{text_end}
+use Rattle.aioc_tokens.proofs.Quotes.{no_pair, quote_ends, bad_byte, no_end, text_longest, no_text}
 use Rattle.aioc_tokens.proofs.scan.text_length.Goals as goal
 
 pub returns-then-not-needs_pair : goal.returns-then-not-needs_pair

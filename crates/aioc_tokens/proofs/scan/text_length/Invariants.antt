@@ -1,5 +1,5 @@
 use Rattle.std.proofs.Common.{◌≡◌, false, ◌+◌, drop, option_map}
-use Rattle.aioc_tokens.proofs.Quotes.{text_end}
+use Rattle.aioc_tokens.specs.Packed.{text_end}
 use Rattle.aioc_tokens.proofs.scan.text_length.Given as goal
 
 abbrev pub invariant-loop-place : goal.invariant-loop-place

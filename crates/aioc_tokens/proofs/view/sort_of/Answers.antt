@@ -1,4 +1,4 @@
-use Rattle.std.proofs.Common.{◌≡◌, Some, ◌∙◌, ap, subst, rules}
+use Rattle.std.proofs.Common.{◌≡◌, Some, ◌∙◌, ap, subst}
 use Rattle.aioc_tokens.specs.declared.kinds.Kind.TheVariants.{Symbol}
 use Rattle.aioc_tokens.specs.Words.{punctuator_of}
 use Rattle.aioc_tokens.specs.Tokens.{Spells}
@@ -11,6 +11,3 @@ unreachable-requires c =
     let spells : Spells Symbol c.args.bytes.now = subst (λ kind. Spells kind c.args.bytes.now) c.in-Symbol.is c.requires in
     let found : punctuator_of c.args.bytes.now ≡ Some spells.0 = ap punctuator_of spells.1 ∙ punctuator_found spells.0 in
     cc
-
-pub returns-in-None : goal.returns-in-None
-returns-in-None c = search rules depth 2

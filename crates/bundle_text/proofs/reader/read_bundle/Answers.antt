@@ -18,18 +18,16 @@ use Rattle.bundle_text.proofs.reader.read_bundle.Goals as goal
 
 pub returns-in-Err-BadByte-clause-syntax : goal.returns-in-Err-BadByte-clause-syntax
 returns-in-Err-BadByte-clause-syntax c =
-    λ other. bad_byte_none c.args.bytes.now c.in-Err-BadByte.at (c.tokens.ensures.bad c.in-Err-BadByte.at (c.in-Err-BadByte.is ∙ ap Err c.in-Err-BadByte.field-0-is))
+    λ other. bad_byte_none c.args.bytes.now c.in-Err-BadByte.at (c.packed_tokens.ensures.bad c.in-Err-BadByte.at (c.in-Err-BadByte.is ∙ ap Err c.in-Err-BadByte.field-0-is))
 
 pub returns-in-Err-BadByte-clause-byte : goal.returns-in-Err-BadByte-clause-byte
 returns-in-Err-BadByte-clause-byte c = λ byte is.
     let same : c.in-Err-BadByte.at ≡ byte = cc in
-    subst (EndsAtByte c.args.bytes.now) same (bad_byte (omega arith) (c.tokens.ensures.bad c.in-Err-BadByte.at (c.in-Err-BadByte.is ∙ ap Err c.in-Err-BadByte.field-0-is)))
+    subst (EndsAtByte c.args.bytes.now) same (bad_byte (omega arith) (c.packed_tokens.ensures.bad c.in-Err-BadByte.at (c.in-Err-BadByte.is ∙ ap Err c.in-Err-BadByte.field-0-is)))
 
 pub returns-in-Ok-bundle_at-clause-formed : goal.returns-in-Ok-bundle_at-clause-formed
 returns-in-Ok-bundle_at-clause-formed c =
-    read_formed c.args.bytes.now (lexemes c.args.bytes.now c.in-Ok.tokens.items) (plain c.in-Ok-bundle_at.bundle)
-    (record { tokens = c.in-Ok.tokens.items; lexes = c.in-Ok.ensures.found; lexemes_are = refl })
-    (subst (λ l. IsBundle l (plain c.in-Ok-bundle_at.bundle) []) (c.with_sorts.ensures ∙ ap (lexemes c.args.bytes.now) c.deref-2.ensures.value) c.in-Ok-bundle_at.ensures.found)
+    read_formed c.args.bytes.now c.packed.result (plain c.in-Ok-bundle_at.bundle) c.packed.ensures.lexemes c.in-Ok-bundle_at.ensures.found
 
 -- the reader stopped at a place
 stopped : (s : Stop) (at : ℕ) (text : List Lexeme) → (s ≢ stop.Memory → EndsAt text (place_in s)) → s ≡ stop.At at → EndsAt text at
@@ -41,8 +39,8 @@ ends bytes tokens s at text small lexes are told is = at_token small lexes (subs
 
 pub returns-in-Err-At-clause-syntax : goal.returns-in-Err-At-clause-syntax
 returns-in-Err-At-clause-syntax c = λ other.
-    byte_none c.args.bytes.now (place_of c.args.bytes.now c.in-Ok.tokens.items (named_place goals.Bundle (lexemes c.args.bytes.now c.in-Ok.tokens.items) c.in-Err-At.at))
-    (ends c.args.bytes.now c.in-Ok.tokens.items c.in-Err-At.field-0 c.in-Err-At.at c.with_sorts.result (omega arith) c.in-Ok.ensures.found (c.with_sorts.ensures ∙ ap (lexemes c.args.bytes.now) c.deref-2.ensures.value) c.in-Err-At.ensures.stopped c.in-Err-At.field-0-is)
+    byte_none c.args.bytes.now (place_of c.args.bytes.now c.packed.ensures.lexemes.tokens (named_place goals.Bundle (lexemes c.args.bytes.now c.packed.ensures.lexemes.tokens) c.in-Err-At.at))
+    (ends c.args.bytes.now c.packed.ensures.lexemes.tokens c.in-Err-At.field-0 c.in-Err-At.at c.packed.result (omega arith) c.packed.ensures.lexemes.lexes (sym c.packed.ensures.lexemes.lexemes_are) c.in-Err-At.ensures.stopped c.in-Err-At.field-0-is)
 
 -- the byte that a fault names
 syntax_of : {A : Type 0} {told wanted : SyntaxFault} → ◌≡◌ {A = Result A SyntaxFault} (Err told) (Err wanted) → told ≡ wanted
@@ -54,6 +52,10 @@ named_byte told byte place names is = let named = names (λ e. cc) in cc
 pub returns-in-Err-At-clause-byte : goal.returns-in-Err-At-clause-byte
 returns-in-Err-At-clause-byte c = λ byte is.
     let text = c.args.bytes.now in
-    let same = named_byte c.fault.result byte _ c.fault.ensures (syntax_of is) in
-    subst (EndsAtByte text) (ap (λ tokens. place_of text tokens (named_place goals.Bundle (lexemes text tokens) c.in-Err-At.at)) (sym c.deref-in-Err-At.ensures.value) ∙ same)
-    (ends text c.in-Ok.tokens.items c.in-Err-At.field-0 c.in-Err-At.at c.with_sorts.result (omega arith) c.in-Ok.ensures.found (c.with_sorts.ensures ∙ ap (lexemes text) c.deref-2.ensures.value) c.in-Err-At.ensures.stopped c.in-Err-At.field-0-is)
+    let tokens = c.packed.ensures.lexemes.tokens in
+    let same = named_byte c.refusal.result byte _ (c.refusal.ensures tokens c.packed.ensures.lexemes.lexes) (syntax_of is) in
+    subst (EndsAtByte text) same
+    (ends text tokens c.in-Err-At.field-0 c.in-Err-At.at c.packed.result (omega arith) c.packed.ensures.lexemes.lexes (sym c.packed.ensures.lexemes.lexemes_are) c.in-Err-At.ensures.stopped c.in-Err-At.field-0-is)
+
+pub refusal-requires : goal.refusal-requires
+refusal-requires c = (c.packed.ensures.lexemes.tokens, c.packed.ensures.lexemes.lexes)

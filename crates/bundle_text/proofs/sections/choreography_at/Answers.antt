@@ -1,10 +1,12 @@
-use Rattle.std.proofs.Common.{◌≢◌, refl, sym, subst, IfErr}
+use Rattle.std.proofs.Common.{◌≢◌, ◌+◌, refl, sym, subst, IfErr}
+use Rattle.dioc_terms.specs.declared.choreographies.Choreo.{Choreo}
 use Rattle.dioc_syntax.specs.Choreographies.{Choreography}
 use Rattle.dioc_syntax.specs.Readers.{FormAt}
 use Rattle.limits.specs.Limits.{most_depth}
 use Rattle.bundle_text.specs.Grammar.{inside_limit}
 use Rattle.bundle_text.specs.Stops.{place_in, EndsInChoreography, missing}
 use Rattle.bundle_text.specs.declared.stops.Stop.TheVariants as stops
+use Rattle.bundle_text.specs.Readers.{ChoreographyTaken}
 use Rattle.bundle_text.proofs.Found.{choreography_open, choreography_found}
 use Rattle.bundle_text.proofs.sections.choreography_at.Goals as goal
 
@@ -19,4 +21,5 @@ returns-then-not-has-clause-stopped c =
 
 pub returns-clause-found : goal.returns-clause-found
 returns-clause-found c =
-    choreography_found c.args.text.now c.args.at c.args.version (subst (FormAt c.args.version Choreography inside_limit most_depth 0 c.args.text.now c.args.at) c.in-Some.is c.in_ok-found.ensures) (c.has.ensures.value.0 cc)
+    subst (λ (whole : Choreo). ChoreographyTaken c.args.version c.args.text.now c.args.at whole (c.in-Some.found.at + 1)) (sym c.into_inner.ensures)
+    (choreography_found c.args.text.now c.args.at c.args.version (subst (FormAt c.args.version Choreography inside_limit most_depth 0 c.args.text.now c.args.at) c.in-Some.is c.in_ok-found.ensures) (c.has.ensures.value.0 cc))

@@ -18,13 +18,11 @@ use Rattle.bundle_text.proofs.sessions.read_sessions.Goals as goal
 
 pub returns-in-Err-BadByte-clause-syntax : goal.returns-in-Err-BadByte-clause-syntax
 returns-in-Err-BadByte-clause-syntax c =
-    λ other. bad_byte_no_sessions c.args.bytes.now c.in-Err-BadByte.at (c.tokens.ensures.bad c.in-Err-BadByte.at (c.in-Err-BadByte.is ∙ ap Err c.in-Err-BadByte.field-0-is))
+    λ other. bad_byte_no_sessions c.args.bytes.now c.in-Err-BadByte.at (c.packed_tokens.ensures.bad c.in-Err-BadByte.at (c.in-Err-BadByte.is ∙ ap Err c.in-Err-BadByte.field-0-is))
 
 pub returns-in-Ok-sessions_of-clause-formed : goal.returns-in-Ok-sessions_of-clause-formed
 returns-in-Ok-sessions_of-clause-formed c =
-    sessions_formed c.args.bytes.now (lexemes c.args.bytes.now c.in-Ok.tokens.items) c.in-Ok-sessions_of.sessions.items
-    (record { tokens = c.in-Ok.tokens.items; lexes = c.in-Ok.ensures.found; lexemes_are = refl })
-    (subst (λ l. Many IsSession l (map plain c.in-Ok-sessions_of.sessions.items) []) (c.with_sorts.ensures ∙ ap (lexemes c.args.bytes.now) c.deref-2.ensures.value) c.in-Ok-sessions_of.ensures.stand)
+    sessions_formed c.args.bytes.now c.packed.result c.in-Ok-sessions_of.sessions.items c.packed.ensures.lexemes c.in-Ok-sessions_of.ensures.stand
 
 -- the reader stopped at a place
 stopped : (s : Stop) (at : ℕ) (text : List Lexeme) → (s ≢ stop.Memory → EndsAmongSessions text (place_in s)) → s ≡ stop.At at → EndsAmongSessions text at
@@ -36,8 +34,8 @@ ends bytes tokens s at text small lexes are told is = at_token small lexes (subs
 
 pub returns-in-Err-At-clause-syntax : goal.returns-in-Err-At-clause-syntax
 returns-in-Err-At-clause-syntax c = λ other.
-    byte_no_sessions c.args.bytes.now (place_of c.args.bytes.now c.in-Ok.tokens.items (named_place goals.Sessions (lexemes c.args.bytes.now c.in-Ok.tokens.items) c.in-Err-At.at))
-    (ends c.args.bytes.now c.in-Ok.tokens.items c.in-Err-At.field-0 c.in-Err-At.at c.with_sorts.result (omega arith) c.in-Ok.ensures.found (c.with_sorts.ensures ∙ ap (lexemes c.args.bytes.now) c.deref-2.ensures.value) c.in-Err-At.ensures.stopped c.in-Err-At.field-0-is)
+    byte_no_sessions c.args.bytes.now (place_of c.args.bytes.now c.packed.ensures.lexemes.tokens (named_place goals.Sessions (lexemes c.args.bytes.now c.packed.ensures.lexemes.tokens) c.in-Err-At.at))
+    (ends c.args.bytes.now c.packed.ensures.lexemes.tokens c.in-Err-At.field-0 c.in-Err-At.at c.packed.result (omega arith) c.packed.ensures.lexemes.lexes (sym c.packed.ensures.lexemes.lexemes_are) c.in-Err-At.ensures.stopped c.in-Err-At.field-0-is)
 
 -- the byte that a fault names
 syntax_of : {A : Type 0} {told wanted : SyntaxFault} → ◌≡◌ {A = Result A SyntaxFault} (Err told) (Err wanted) → told ≡ wanted
@@ -49,6 +47,10 @@ named_byte told byte place names is = let named = names (λ e. cc) in cc
 pub returns-in-Err-At-clause-byte : goal.returns-in-Err-At-clause-byte
 returns-in-Err-At-clause-byte c = λ byte is.
     let text = c.args.bytes.now in
-    let same = named_byte c.fault.result byte _ c.fault.ensures (syntax_of is) in
-    subst (SessionsEndAtByte text) (ap (λ tokens. place_of text tokens (named_place goals.Sessions (lexemes text tokens) c.in-Err-At.at)) (sym c.deref-in-Err-At.ensures.value) ∙ same)
-    (ends text c.in-Ok.tokens.items c.in-Err-At.field-0 c.in-Err-At.at c.with_sorts.result (omega arith) c.in-Ok.ensures.found (c.with_sorts.ensures ∙ ap (lexemes text) c.deref-2.ensures.value) c.in-Err-At.ensures.stopped c.in-Err-At.field-0-is)
+    let tokens = c.packed.ensures.lexemes.tokens in
+    let same = named_byte c.refusal.result byte _ (c.refusal.ensures tokens c.packed.ensures.lexemes.lexes) (syntax_of is) in
+    subst (SessionsEndAtByte text) same
+    (ends text tokens c.in-Err-At.field-0 c.in-Err-At.at c.packed.result (omega arith) c.packed.ensures.lexemes.lexes (sym c.packed.ensures.lexemes.lexemes_are) c.in-Err-At.ensures.stopped c.in-Err-At.field-0-is)
+
+pub refusal-requires : goal.refusal-requires
+refusal-requires c = (c.packed.ensures.lexemes.tokens, c.packed.ensures.lexemes.lexes)

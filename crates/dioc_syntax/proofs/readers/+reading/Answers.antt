@@ -1,11 +1,12 @@
 use Rattle.std.proofs.Common.{◌+◌, ◌-◌, sym, ap, ◌∙◌, subst, arith, rules, drop}
-use Rattle.dioc_terms.specs.Terms.{Skip}
+use Rattle.dioc_terms.specs.Terms.{Skip, term}
+use Rattle.dioc_syntax.specs.declared.places.Place.{Place}
 use Rattle.aioc_tokens.specs.declared.words.Sort.TheVariants as sorts
 use Rattle.aioc_tokens.specs.Fronts.{Longest}
 use Rattle.dioc_syntax.specs.Choreographies.{Choreography, Sequence, Step, Block, Otherwise, IsShallow}
 use Rattle.dioc_syntax.specs.Readers.{GuardAt, LeaderAt, Finds, FormAt, OtherwiseAt}
 use Rattle.dioc_syntax.proofs.PlaceFacts.{at_place}
-use Rattle.dioc_syntax.proofs.Fronts.{nothing_shallow, block_begins}
+use Rattle.dioc_syntax.proofs.Fronts.{some_depth, nothing_shallow, block_begins}
 use Rattle.dioc_syntax.proofs.StepFronts.{other_none}
 use Rattle.dioc_syntax.proofs.Findings.{bar_missing, bar_deep, bar_open, bar_found, semicolon_missing, semicolon_deep, semicolon_open, semicolon_found, group_found, group_missing, group_unclosed, block_found, block_missing, block_unclosed, block_roomless, else_absent, else_missing_at, else_open_at, else_found, skip_found, choice_found, choice_unguarded, choice_missing, loop_found, loop_unguarded, loop_missing, scope_found, scope_unled, scope_missing}
 use Rattle.dioc_syntax.proofs.readers.+reading.Goals as goal
@@ -93,7 +94,7 @@ otherwise_at-returns-in-Some t c =
 pub otherwise_at-returns : goal.otherwise_at-returns
 otherwise_at-returns t c =
     let absent = λ (front : Longest (IsShallow c.args.reader.now.version Otherwise c.args.place.room c.args.place.deep c.args.place.earlier (drop c.args.place.at c.args.reader.now.text.now)) Skip (drop c.args.place.at c.args.reader.now.text.now)).
-    else_absent c.args.reader.now.version c.args.place.room c.args.place.deep c.args.place.earlier c.args.reader.now.text.now c.args.place.at c.nothing.result c.requires.some c.requires.within front c.nothing.ensures.choreo c.nothing.ensures.depth c.nothing.ensures.at c.nothing.ensures.next in
+    else_absent c.args.reader.now.version c.args.place.room c.args.place.deep c.args.place.earlier c.args.reader.now.text.now c.args.place.at c.in_ok-skip.skip c.requires.some c.requires.within front c.in_ok-skip.ensures.choreo c.in_ok-skip.ensures.depth c.in_ok-skip.ensures.at c.in_ok-skip.ensures.next in
     elim c.if-has.branch [
       | otherwise_at-then-has+in_ok-found+in_default w ↦ absent (else_open_at c.args.reader.now.version c.args.place.room c.args.place.deep c.args.place.earlier c.args.reader.now.text.now c.args.place.at c.requires.some (c.has.ensures.value.0 w.if-has.true) (at_place c.args.reader.now Block w.behind.ensures w.in_default.is w.in_ok-found.ensures))
       | otherwise_at-else-has w ↦ absent (else_missing_at c.args.reader.now.version c.args.place.room c.args.place.deep c.args.place.earlier c.args.reader.now.text.now c.args.place.at c.requires.some (λ is. let found = c.has.ensures.value.1 is in let missed = w.if-has.false in cc))
@@ -116,6 +117,16 @@ pub loop_at-returns-in-Ok-None : goal.loop_at-returns-in-Ok-None
 loop_at-returns-in-Ok-None t c =
     let none = at_place c.args.reader.now Block c.part.ensures c.in-Ok-None.field-0-is c.in-Ok-None.ensures in
     subst (FormAt c.args.reader.now.version Step c.args.place.room c.args.place.deep c.args.place.earlier c.args.reader.now.text.now c.args.place.at) (sym c.nothing_found.ensures) (loop_missing c.args.reader.now.version c.args.place.room c.args.place.deep c.args.place.earlier c.args.reader.now.text.now c.args.place.at c.in-Some.guard c.requires.sort (subst (GuardAt c.args.place.room c.args.reader.now.text.now (c.args.place.at + 1)) c.in-Some.is c.in_ok-guard.ensures) none)
+
+pub branch_at-otherwise_at-requires : goal.branch_at-otherwise_at-requires
+branch_at-otherwise_at-requires t c =
+    let one = at_place c.args.reader.now Block c.part.ensures c.in-Ok-Some.field-0-is c.in-Ok-Some.ensures in
+    let guard = subst (GuardAt c.args.place.room c.args.reader.now.text.now (c.args.place.at + 1)) c.in-Some.is c.in_ok-guard.ensures in
+    let some = some_depth (term c.in-Ok-Some.first.choreo.value) in
+    let at = ap (λ (p : Place). p.at) c.part-2.ensures in
+    let deep = ap (λ (p : Place). p.deep) c.part-2.ensures in
+    let earlier = ap (λ (p : Place). p.earlier) c.part-2.ensures in
+    (first_of (omega arith, search rules), (omega arith, (omega arith, omega arith)))
 
 pub branch_at-returns : goal.branch_at-returns
 branch_at-returns t c =
@@ -149,10 +160,10 @@ scope_at-returns t c =
 pub step_at-returns-then-place-eq0 : goal.step_at-returns-then-place-eq0
 step_at-returns-then-place-eq0 t c = nothing_shallow c.if-place-eq0.true
 
-pub step_at-returns-in-Reserved-Skip : goal.step_at-returns-in-Reserved-Skip
-step_at-returns-in-Reserved-Skip t c =
+pub step_at-returns-in_ok-skip-in-Reserved-Skip : goal.step_at-returns-in_ok-skip-in-Reserved-Skip
+step_at-returns-in_ok-skip-in-Reserved-Skip t c =
     let sort = sym c.sort.ensures.value ∙ c.in-Reserved-Skip.is ∙ ap sorts.Reserved c.in-Reserved-Skip.field-0-is in
-    skip_found c.args.reader.now.version c.args.place.room c.args.place.deep c.args.place.earlier c.args.reader.now.text.now c.args.place.at c.nothing.result (omega arith) sort c.nothing.ensures.choreo c.nothing.ensures.depth c.nothing.ensures.at c.nothing.ensures.next
+    skip_found c.args.reader.now.version c.args.place.room c.args.place.deep c.args.place.earlier c.args.reader.now.text.now c.args.place.at c.in_ok-skip-in-Reserved-Skip.skip (omega arith) sort c.in_ok-skip-in-Reserved-Skip.ensures.choreo c.in_ok-skip-in-Reserved-Skip.ensures.depth c.in_ok-skip-in-Reserved-Skip.ensures.at c.in_ok-skip-in-Reserved-Skip.ensures.next
 
 pub step_at-returns-in_default : goal.step_at-returns-in_default
 step_at-returns-in_default t c = elim c.in_default.branch [

@@ -10,4 +10,4 @@ returns-then-place-eq0 c = elim c.then-place-eq0.branch [
 ]
 
 pub returns : goal.returns
-returns c = input_found c.args.place.room c.args.place.earlier c.args.reader.now.text.now c.args.place.at c.args.variable c.args.owner c.requires.head c.if-place-eq0.false c.requires.input (c.begins.ensures.0 cc) c.args.reader.now.version c.args.place.deep c.requires.some
+returns c = input_found c.args.place.room c.args.place.earlier c.args.reader.now.text.now c.args.place.at c.args.variable c.args.owner c.requires.head c.in_ok-choreo.choreo c.in_ok-choreo.ensures c.if-place-eq0.false c.requires.input (c.begins.ensures.0 cc) c.args.reader.now.version c.args.place.deep c.requires.some

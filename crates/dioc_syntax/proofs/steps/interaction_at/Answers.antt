@@ -20,6 +20,6 @@ returns-in-Ok-None c =
 
 pub returns : goal.returns
 returns c =
-    interaction_found c.args.place.room c.args.place.earlier c.args.reader.now.text.now c.args.place.at c.args.operation c.args.sender c.requires.head c.in-Ok-Some.names c.in-Some.sent c.if-place-eq0.false
+    interaction_found c.args.place.room c.args.place.earlier c.args.reader.now.text.now c.args.place.at c.args.operation c.args.sender c.requires.head c.in-Ok-Some.names c.in-Some.sent c.in_ok-choreo.choreo c.in_ok-choreo.ensures c.if-place-eq0.false
     (subst (ExpressionAt kind.Step (c.args.place.room - 1) c.args.reader.now.text.now (c.args.place.at + 4)) c.in-Some.is c.in_ok-sent.ensures)
     (subst (HeadAt received_by 6 c.args.reader.now.text.now c.in-Some.sent.1) c.in-Ok-Some.field-0-is c.in-Ok-Some.ensures) c.args.reader.now.version c.args.place.deep c.requires.some

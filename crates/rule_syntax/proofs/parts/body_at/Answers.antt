@@ -1,4 +1,5 @@
-use Rattle.std.proofs.Common.{sym, subst}
+use Rattle.std.proofs.Common.{◌+◌, Some, sym, subst}
+use Rattle.dioc_terms.specs.declared.choreographies.Choreo.{Choreo}
 use Rattle.dioc_syntax.specs.Choreographies.{Choreography}
 use Rattle.dioc_syntax.specs.Readers.{FormAt}
 use Rattle.rule_syntax.specs.Readers.{BodyAt}
@@ -13,5 +14,6 @@ returns-then-not-begins c =
 
 pub returns : goal.returns
 returns c =
-    body_found c.args.text.now c.args.at c.args.version c.args.room (subst (FormAt c.args.version Choreography c.args.room 256 0 c.args.text.now c.args.at) c.in-Some.is c.in_ok-found.ensures)
-    (c.begins.ensures.0 cc)
+    subst (λ (whole : Choreo). BodyAt c.args.version c.args.room c.args.text.now c.args.at (Some (whole, c.in-Some.found.at + 2))) (sym c.into_inner.ensures)
+    (body_found c.args.text.now c.args.at c.args.version c.args.room (subst (FormAt c.args.version Choreography c.args.room 256 0 c.args.text.now c.args.at) c.in-Some.is c.in_ok-found.ensures)
+    (c.begins.ensures.0 cc))

@@ -1,12 +1,34 @@
-use Rattle.std.proofs.Common.{drop, ap, ◌∙◌}
+use Rattle.std.proofs.Common.{◌∙◌}
 use Rattle.aioc_tokens.specs.declared.words.Sort.TheVariants as sorts
-use Rattle.aioc_tokens.specs.Lexemes.{lexemes, sort_of}
-use Rattle.aioc_tokens.proofs.Looks.{known_sort}
+use Rattle.aioc_tokens.proofs.Looks.{sort_within}
+use Rattle.aioc_tokens.proofs.Packing.{known_shown, unknown_shown, lexes_within}
 use Rattle.aioc_tokens.proofs.view.Lexed.sort.Goals as goal
 
 pub returns-in-Some-clause-value : goal.returns-in-Some-clause-value
 returns-in-Some-clause-value c =
+    let inside = c.self.inside in
     let found = c.in-Some.ensures.lookup.3 in
-    found.1 sorts.End
-    ∙ known_sort c.self.inside.known.now (lexemes c.self.inside.bytes.now c.self.inside.tokens.now) c.args.at c.self.invariant.1 found.0
-    ∙ ap (λ all. sort_of (drop c.args.at all)) c.self.view_is
+    found.1 sorts.End ∙ known_shown inside.bytes.now inside.tokens.now c.args.self.now c.args.at inside.starts.now inside.known.now c.self.invariant c.self.view_is found.0
+
+pub returns-in-Some-clause-within : goal.returns-in-Some-clause-within
+returns-in-Some-clause-within c = λ some.
+    let inside = c.self.inside in
+    let found = c.in-Some.ensures.lookup.3 in
+    let is = found.1 sorts.End ∙ known_shown inside.bytes.now inside.tokens.now c.args.self.now c.args.at inside.starts.now inside.known.now c.self.invariant c.self.view_is found.0 in
+    sort_within c.args.self.now c.args.at (λ end. some (is ∙ end))
+
+pub found_sort-requires : goal.found_sort-requires
+found_sort-requires c =
+    let inside = c.self.inside in
+    lexes_within inside.bytes.now inside.tokens.now c.args.self.now c.args.at inside.starts.now inside.known.now c.self.invariant
+
+pub returns-in-None-clause-value : goal.returns-in-None-clause-value
+returns-in-None-clause-value c =
+    let inside = c.self.inside in
+    c.found_sort.ensures ∙ unknown_shown inside.bytes.now inside.tokens.now c.args.self.now c.args.at inside.starts.now inside.known.now c.self.invariant c.self.view_is c.in-None.ensures.lookup.3
+
+pub returns-in-None-clause-within : goal.returns-in-None-clause-within
+returns-in-None-clause-within c = λ some.
+    let inside = c.self.inside in
+    let is = c.found_sort.ensures ∙ unknown_shown inside.bytes.now inside.tokens.now c.args.self.now c.args.at inside.starts.now inside.known.now c.self.invariant c.self.view_is c.in-None.ensures.lookup.3 in
+    sort_within c.args.self.now c.args.at (λ end. some (is ∙ end))

@@ -1,22 +1,79 @@
-use Rattle.std.proofs.Common.{◌≡◌, ◌∷◌, ◌+◌, drop, sym, subst}
-use Rattle.aioc_tokens.specs.Tokens.{Spells}
-use Rattle.aioc_tokens.specs.Lexemes.{Text, value_of, HasSpelling}
-use Rattle.aioc_tokens.proofs.Looks.{text_shown, text_copied, text_copied_formed}
+use Rattle.std.proofs.Common.{◌≡◌, ◌≤◌, ◌∷◌, ◌+◌, ℕ, drop, length, ap, sym, ◌∙◌, subst}
+use Rattle.aioc_tokens.specs.declared.kinds.Kind.TheVariants as kinds
+use Rattle.aioc_tokens.specs.declared.kinds.Token.{Token}
+use Rattle.aioc_tokens.specs.declared.words.Sort.TheVariants as sorts
+use Rattle.aioc_tokens.specs.Tokens.{Spells, IsLongestToken}
+use Rattle.aioc_tokens.specs.Lexemes.{Text, sort_of, value_of, HasSpelling}
+use Rattle.aioc_tokens.specs.Packed.{front_text}
+use Rattle.aioc_tokens.proofs.Looks.{token_inside, text_shown, text_copied, text_copied_formed}
+use Rattle.aioc_tokens.proofs.Packing.{lexes_shown, start_shown, text_packed, quote_packed}
 use Rattle.aioc_tokens.proofs.view.Lexed.text.Goals as goal
 
-pub bytes_of-requires : goal.bytes_of-requires
-bytes_of-requires c = (text_shown c.self.inside.bytes.now c.self.inside.tokens.now c.self.invariant.0 c.args.at _ c.args.self.now c.self.view_is c.requires).1.known
+pub bytes_from-requires : goal.bytes_from-requires
+bytes_from-requires c =
+    let inside = c.self.inside in
+    let found = c.in-Some.ensures.lookup.3 in
+    subst (λ start. start ≤ length inside.bytes.now) (sym (found.1 0))
+    (start_shown inside.bytes.now inside.tokens.now c.args.self.now c.args.at inside.starts.now inside.known.now c.self.invariant c.self.view_is found.0)
 
-pub copied_value-requires : goal.copied_value-requires
-copied_value-requires c =
-    subst (λ kind. Spells kind c.bytes_of.result.now) (text_shown c.self.inside.bytes.now c.self.inside.tokens.now c.self.invariant.0 c.args.at _ c.args.self.now c.self.view_is c.requires).0 c.bytes_of.ensures.spells
+pub front_text-requires : goal.front_text-requires
+front_text-requires c =
+    let inside = c.self.inside in
+    let found = c.in-Some.ensures.lookup.3 in
+    subst (λ from. (count : ℕ) × IsLongestToken from kinds.Text count) (sym (c.bytes_from.ensures ∙ ap (λ start. drop start inside.bytes.now) (found.1 0)))
+    (quote_packed inside.bytes.now inside.tokens.now c.args.self.now c.args.at inside.starts.now inside.known.now c.self.invariant c.self.view_is found.0 c.requires)
 
-pub returns-clause-value : goal.returns-clause-value
-returns-clause-value c =
-    text_copied c.copied_value.result c.bytes_of.result.now (drop c.args.at c.args.self.now) (drop (c.args.at + 1) c.args.self.now) c.copied_value.ensures
-    (subst (λ bytes. drop c.args.at c.args.self.now ≡ Text (value_of bytes) ∷ drop (c.args.at + 1) c.args.self.now) (sym c.bytes_of.ensures.value) (text_shown c.self.inside.bytes.now c.self.inside.tokens.now c.self.invariant.0 c.args.at _ c.args.self.now c.self.view_is c.requires).1.first)
+pub returns-in-Some-clause-value : goal.returns-in-Some-clause-value
+returns-in-Some-clause-value c =
+    let inside = c.self.inside in
+    let found = c.in-Some.ensures.lookup.3 in
+    let same = c.front_text.ensures.value ∙ ap front_text (c.bytes_from.ensures ∙ ap (λ start. drop start inside.bytes.now) (found.1 0)) in
+    text_copied c.copied_value.result c.front_text.result.now (drop c.args.at c.args.self.now) (drop (c.args.at + 1) c.args.self.now) c.copied_value.ensures
+    (subst (λ bytes. drop c.args.at c.args.self.now ≡ Text (value_of bytes) ∷ drop (c.args.at + 1) c.args.self.now) (sym same)
+    (text_packed inside.bytes.now inside.tokens.now c.args.self.now c.args.at inside.starts.now inside.known.now c.self.invariant c.self.view_is found.0 c.requires).value)
 
-pub returns-clause-valid : goal.returns-clause-valid
-returns-clause-valid c =
-    text_copied_formed c.copied_value.result c.bytes_of.result.now c.copied_value.ensures
-    (subst (λ bytes. HasSpelling (Text (value_of bytes))) (sym c.bytes_of.ensures.value) (text_shown c.self.inside.bytes.now c.self.inside.tokens.now c.self.invariant.0 c.args.at _ c.args.self.now c.self.view_is c.requires).1.formed)
+pub returns-in-Some-clause-valid : goal.returns-in-Some-clause-valid
+returns-in-Some-clause-valid c =
+    let inside = c.self.inside in
+    let found = c.in-Some.ensures.lookup.3 in
+    let same = c.front_text.ensures.value ∙ ap front_text (c.bytes_from.ensures ∙ ap (λ start. drop start inside.bytes.now) (found.1 0)) in
+    text_copied_formed c.copied_value.result c.front_text.result.now c.copied_value.ensures
+    (subst (λ bytes. HasSpelling (Text (value_of bytes))) (sym same)
+    (text_packed inside.bytes.now inside.tokens.now c.args.self.now c.args.at inside.starts.now inside.known.now c.self.invariant c.self.view_is found.0 c.requires).valid)
+
+pub token_bytes-requires-clause-within : goal.token_bytes-requires-clause-within
+token_bytes-requires-clause-within c =
+    let inside = c.self.inside in
+    let lexes = lexes_shown inside.bytes.now inside.tokens.now c.args.self.now c.args.at sorts.Text c.requires (λ same. cc) inside.starts.now inside.known.now c.self.invariant c.self.view_is c.in-None.ensures.lookup.3 in
+    token_inside inside.bytes.now inside.tokens.now lexes.0 c.args.at sorts.Text (ap (λ all. sort_of (drop c.args.at all)) lexes.1 ∙ c.requires) (λ same. cc)
+
+pub token_bytes-requires-clause-lexes : goal.token_bytes-requires-clause-lexes
+token_bytes-requires-clause-lexes c =
+    let inside = c.self.inside in
+    (lexes_shown inside.bytes.now inside.tokens.now c.args.self.now c.args.at sorts.Text c.requires (λ same. cc) inside.starts.now inside.known.now c.self.invariant c.self.view_is c.in-None.ensures.lookup.3).0
+
+pub copied_value-requires-in-None : goal.copied_value-requires-in-None
+copied_value-requires-in-None c =
+    let inside = c.self.inside in
+    let other : Token = record { kind = kinds.Name; start = 0; end = 0 } in
+    let lexes = lexes_shown inside.bytes.now inside.tokens.now c.args.self.now c.args.at sorts.Text c.requires (λ same. cc) inside.starts.now inside.known.now c.self.invariant c.self.view_is c.in-None.ensures.lookup.3 in
+    let shown = text_shown inside.bytes.now inside.tokens.now lexes.0 c.args.at other c.args.self.now lexes.1 c.requires in
+    subst (λ kind. Spells kind c.token_bytes.result.now) shown.0 (c.token_bytes.ensures.spells other)
+
+pub returns-in-None-clause-value : goal.returns-in-None-clause-value
+returns-in-None-clause-value c =
+    let inside = c.self.inside in
+    let other : Token = record { kind = kinds.Name; start = 0; end = 0 } in
+    let lexes = lexes_shown inside.bytes.now inside.tokens.now c.args.self.now c.args.at sorts.Text c.requires (λ same. cc) inside.starts.now inside.known.now c.self.invariant c.self.view_is c.in-None.ensures.lookup.3 in
+    let shown = text_shown inside.bytes.now inside.tokens.now lexes.0 c.args.at other c.args.self.now lexes.1 c.requires in
+    text_copied c.copied_value-in-None.result c.token_bytes.result.now (drop c.args.at c.args.self.now) (drop (c.args.at + 1) c.args.self.now) c.copied_value-in-None.ensures
+    (subst (λ bytes. drop c.args.at c.args.self.now ≡ Text (value_of bytes) ∷ drop (c.args.at + 1) c.args.self.now) (sym (c.token_bytes.ensures.value other)) shown.1.first)
+
+pub returns-in-None-clause-valid : goal.returns-in-None-clause-valid
+returns-in-None-clause-valid c =
+    let inside = c.self.inside in
+    let other : Token = record { kind = kinds.Name; start = 0; end = 0 } in
+    let lexes = lexes_shown inside.bytes.now inside.tokens.now c.args.self.now c.args.at sorts.Text c.requires (λ same. cc) inside.starts.now inside.known.now c.self.invariant c.self.view_is c.in-None.ensures.lookup.3 in
+    let shown = text_shown inside.bytes.now inside.tokens.now lexes.0 c.args.at other c.args.self.now lexes.1 c.requires in
+    text_copied_formed c.copied_value-in-None.result c.token_bytes.result.now c.copied_value-in-None.ensures
+    (subst (λ bytes. HasSpelling (Text (value_of bytes))) (sym (c.token_bytes.ensures.value other)) shown.1.formed)

@@ -1,0 +1,9 @@
+-- The bytes so far are in place.
+use Rattle.std.proofs.Common.{◌≡◌, take, length}
+use Rattle.dioc_terms.proofs.names.short_of.Given as goal
+
+abbrev pub invariant-loop-place : goal.invariant-loop-place
+invariant-loop-place l = record {
+  same : take l.place l.short ≡ take l.place l.bytes;
+  many : length l.short ≡ 14;
+}
