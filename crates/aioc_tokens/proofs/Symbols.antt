@@ -1,9 +1,10 @@
 -- The longest symbol of at most two bytes.
-use Rattle.std.proofs.Common.{◌≡◌, ℕ, zero, suc, ◌<◌, ◌≤◌, true, List, [], ◌∷◌, length, get_or, take, Option, Some, None, is_some, refl, ap, sym, ◌∙◌, subst, arith, length-take-le}
+use Rattle.std.specs.Prelude.{MatchOption}
+use Rattle.std.proofs.Common.{◌≡◌, ℕ, ◌×◌, zero, suc, ◌<◌, ◌≤◌, true, List, [], ◌∷◌, length, get_or, take, Option, Some, None, is_some, refl, ap, sym, ◌∙◌, subst, arith, length-take-le}
 use Rattle.aioc_tokens.specs.declared.kinds.Kind.TheVariants.{Symbol}
 use Rattle.aioc_tokens.specs.declared.words.Punctuator.{Punctuator}
 use Rattle.aioc_tokens.specs.declared.words.Punctuator.TheVariants.{LeftBrace, RightBrace}
-use Rattle.aioc_tokens.specs.Words.{punctuator_spelling, punctuator_of}
+use Rattle.aioc_tokens.specs.Words.{punctuator_spelling, punctuator_of, longer_of, longest_symbol}
 use Rattle.aioc_tokens.specs.Tokens.{IsFront, IsLongestToken, BeginsComment}
 use Rattle.aioc_tokens.specs.Packed.{IsSymbolAt}
 use Rattle.aioc_tokens.proofs.Firsts.{front_first, same_kind}
@@ -98,3 +99,18 @@ short_for_pair text short front = omega (arith, front.within)
 pub none_at : (text : List ℕ) → 0 < length text → (¬ IsFront text Symbol 2) → punctuator_of (get_or text 0 0 ∷ []) ≡ None → (count : ℕ) → IsFront text Symbol count → ⊥
 none_at text some no_two is =
     no_symbol text (λ front. let found = symbol_in_table text 1 front in let none = ap is_some (ap punctuator_of (one_first text some) ∙ is) in cc) no_two
+
+-- a symbol that is found, or that none stands at the front
+abbrev pub FoundIn : List ℕ → Option (Punctuator × ℕ) → Type 0
+FoundIn text found = MatchOption found ((count : ℕ) → IsFront text Symbol count → ⊥) (λ it. IsSymbolAt text it.0 it.1)
+
+pub longest_at : (text : List ℕ) → (¬ BeginsComment text) → 1 < length text → FoundIn text (longest_symbol (get_or text 0 0) (get_or text 1 0))
+longest_at text no_comment more = by_pair (punctuator_of (get_or text 0 0 ∷ get_or text 1 0 ∷ [])) refl
+  where
+    by_lone : (¬ IsFront text Symbol 2) → (lone : Option Punctuator) → punctuator_of (get_or text 0 0 ∷ []) ≡ lone → FoundIn text (longer_of None lone)
+    by_lone no_two (Some punctuator) is = lone_at text no_comment punctuator (omega arith) no_two is
+    by_lone no_two None is = none_at text (omega arith) no_two is
+
+    by_pair : (pair : Option Punctuator) → punctuator_of (get_or text 0 0 ∷ get_or text 1 0 ∷ []) ≡ pair → FoundIn text (longer_of pair (punctuator_of (get_or text 0 0 ∷ [])))
+    by_pair (Some punctuator) is = pair_at text no_comment punctuator more is
+    by_pair None is = by_lone (no_pair_at text more is) (punctuator_of (get_or text 0 0 ∷ [])) refl

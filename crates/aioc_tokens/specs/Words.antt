@@ -82,3 +82,13 @@ punctuators =
 unfoldable pub punctuator_of : List ℕ → Option Punctuator
 punctuator_of bytes =
     find (λ punctuator. bytes_eq bytes (punctuator_spelling punctuator)) punctuators
+
+-- the longest symbol that these bytes begin with, and how many bytes it has
+abbrev pub longer_of : Option Punctuator → Option Punctuator → Option (Punctuator × ℕ)
+longer_of (Some pair) lone = Some (pair, 2)
+longer_of None (Some lone) = Some (lone, 1)
+longer_of None None = None
+
+abbrev pub longest_symbol : ℕ → ℕ → Option (Punctuator × ℕ)
+longest_symbol first second =
+    longer_of (punctuator_of (first ∷ second ∷ [])) (punctuator_of (first ∷ []))

@@ -10,7 +10,7 @@ ghost use Rattle.aioc_tokens.specs.Packed.{ArePacked, IsSortedToken, IsSymbolAt,
 use crate::kinds::TokenFault;
 use crate::scan::{begins_comment, is_space, line_length, name_length, number_length, text_length};
 use crate::view::{name_sort, text_sort};
-use crate::words::{Punctuator, Sort, lone_punctuator, pair_punctuator};
+use crate::words::{Punctuator, Sort, lone_punctuator, longest_symbol};
 use std::alloc::Global;
 
 /// The tokens of a text, each by the place of its first byte and its sort.
@@ -61,7 +61,7 @@ fn text_in_front(text: &[u8]) -> Front
     }
 }
 
-/// The symbol of one byte at the front, where none of two bytes stands.
+/// The symbol of one byte at the front, where none of two bytes stands there.
 fn lone_symbol(text: &[u8]) -> Option<(Punctuator, usize)>
     requires some { 0 < length text.now }
     requires no_comment { ¬ BeginsComment text.now }
@@ -85,10 +85,7 @@ fn symbol_at(text: &[u8]) -> Option<(Punctuator, usize)>
     if text.len() < 2 {
         return lone_symbol(text);
     }
-    match pair_punctuator(text[0], text[1]) {
-        Some(punctuator) => Some((punctuator, 2)),
-        None => lone_symbol(text),
-    }
+    longest_symbol(text[0], text[1])
 }
 
 /// The symbol at the front, if one stands there.

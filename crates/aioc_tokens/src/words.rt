@@ -3,7 +3,7 @@
 ghost use Rattle.std.specs.Prelude.{◌≡◌, ℕ, List, ◌∷◌, []};
 ghost use Rattle.std.specs.List.{find};
 ghost use Rattle.std.specs.Str.{bytes_eq};
-ghost use Rattle.aioc_tokens.specs.Words.{word_spelling, word_of, punctuator_spelling, punctuator_of};
+ghost use Rattle.aioc_tokens.specs.Words.{word_spelling, word_of, punctuator_spelling, punctuator_of, longest_symbol};
 
 /// A reserved word, which is no name in the grammar.
 #[derive(Clone, Copy, PartialEq, Eq)]
@@ -167,6 +167,44 @@ pub(crate) fn pair_punctuator(first: u8, second: u8) -> Option<Punctuator>
         (b'>', b'=') => Some(Punctuator::GreaterEqual),
         (b'+', b'+') => Some(Punctuator::PlusPlus),
         (b'-', b'>') => Some(Punctuator::Arrow),
+        _ => None,
+    }
+}
+
+/// The longest symbol that two bytes begin with, and how many of them it has.
+#[tactic(auto, unfolding(crate::specs::Words::punctuator_of))]
+pub(crate) fn longest_symbol(first: u8, second: u8) -> Option<(Punctuator, usize)>
+    ensures { result ≡ longest_symbol first second }
+{
+    match first {
+        b'=' if second == b'=' => Some((Punctuator::EqualEqual, 2)),
+        b'!' if second == b'=' => Some((Punctuator::NotEqual, 2)),
+        b'<' if second == b'=' => Some((Punctuator::LessEqual, 2)),
+        b'>' if second == b'=' => Some((Punctuator::GreaterEqual, 2)),
+        b'+' if second == b'+' => Some((Punctuator::PlusPlus, 2)),
+        b'-' if second == b'>' => Some((Punctuator::Arrow, 2)),
+        b'=' => Some((Punctuator::Equal, 1)),
+        b'!' => Some((Punctuator::Bang, 1)),
+        b'<' => Some((Punctuator::Less, 1)),
+        b'>' => Some((Punctuator::Greater, 1)),
+        b'+' => Some((Punctuator::Plus, 1)),
+        b'-' => Some((Punctuator::Minus, 1)),
+        b'{' => Some((Punctuator::LeftBrace, 1)),
+        b'}' => Some((Punctuator::RightBrace, 1)),
+        b'(' => Some((Punctuator::LeftParen, 1)),
+        b')' => Some((Punctuator::RightParen, 1)),
+        b'[' => Some((Punctuator::LeftBracket, 1)),
+        b']' => Some((Punctuator::RightBracket, 1)),
+        b';' => Some((Punctuator::Semicolon, 1)),
+        b',' => Some((Punctuator::Comma, 1)),
+        b':' => Some((Punctuator::Colon, 1)),
+        b'|' => Some((Punctuator::Bar, 1)),
+        b'@' => Some((Punctuator::At, 1)),
+        b'*' => Some((Punctuator::Star, 1)),
+        b'/' => Some((Punctuator::Slash, 1)),
+        b'%' => Some((Punctuator::Percent, 1)),
+        b'.' => Some((Punctuator::Dot, 1)),
+        b'#' => Some((Punctuator::Hash, 1)),
         _ => None,
     }
 }

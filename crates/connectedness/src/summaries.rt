@@ -10,7 +10,7 @@ ghost use Rattle.connectedness.specs.Connected.{gap_at};
 ghost use Rattle.connectedness.specs.Summaries.{presence_in, in_act, in_sequence, in_parallel, in_choice, in_block, IsGapOf, IsSummary};
 
 use crate::laws::roles_at_ends;
-use dioc_terms::{Choreo, Index, Memory, Role};
+use dioc_terms::{Choreo, Index, Memory, Role, is_among};
 use std::alloc::Global;
 
 /// How a role takes part in a part of a choreography.
@@ -400,13 +400,6 @@ fn block_roles(
         .map(|(role, body)| in_block(role == leader, is_among(role, extra), *body))
         .collect(alloc)?;
     Ok(roles)
-}
-
-/// Whether the role is one of these.
-fn is_among(role: &Role, roles: &[Role]) -> bool
-    ensures { result ≡ member role.now roles.now }
-{
-    roles.iter().any(|other| role == other)
 }
 
 /// How a role takes part in a loop or a scope, which is ended by one group, all its roles.

@@ -3,10 +3,10 @@
 ghost use Rattle.std.specs.Prelude.{◌≡◌, [], ◌≤◌, ◌<◌, ◌^◌, length, IfOk};
 ghost use Rattle.dioc_syntax.specs.Readers.{NamesAt, RolesAt, PairAt, PairsAt, PropertiesAt};
 
-use crate::names::{name_at, role_at};
+use crate::names::role_at;
 use aioc_tokens::{Lexed, Punctuator, Sort, Word};
 use dioc_terms::{Bindings, Items, Memory, Name, Role, Roles, Value};
-use expr_syntax::constant_at;
+use expr_syntax::{constant_at, name_at};
 use std::alloc::Global;
 
 /// `, r`

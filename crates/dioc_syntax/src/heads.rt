@@ -3,9 +3,10 @@
 ghost use Rattle.std.specs.Prelude.{◌≡◌, ◌<◌, ◌^◌, IfOk};
 ghost use Rattle.dioc_syntax.specs.Readers.{sent_by, received_by, set_by, led_by, HeadAt, LeaderAt};
 
-use crate::names::{name_at, role_at};
+use crate::names::role_at;
 use aioc_tokens::{Lexed, Punctuator, Sort};
 use dioc_terms::{Memory, Name, Role};
+use expr_syntax::name_at;
 use std::alloc::Global;
 
 /// `o : a (`

@@ -1,10 +1,12 @@
 //! Entries of a history, and acts of a role.
 
 ghost use Rattle.std.specs.Prelude.{◌≡◌, IfOk, Option};
+ghost use Rattle.std.specs.Option.{option_copied};
 ghost use Rattle.dioc_terms.specs.declared.entries.Entry.TheVariants as entry;
 ghost use Rattle.dioc_terms.specs.declared.names.Name.{Name as OneName};
 ghost use Rattle.dioc_terms.specs.declared.processes.Key.{Key as OneKey};
-ghost use Rattle.dioc_terms.specs.Equality.{variable_eq};
+ghost use Rattle.dioc_terms.specs.Equality.{entry_eq, variable_eq};
+ghost use Rattle.dioc_terms.specs.Messages.{doer};
 
 use crate::copies::copy_both;
 use crate::faults::Memory;
@@ -246,6 +248,22 @@ impl Entry {
         }
     }
 
+    /// The role of an entry: the sender of a put, the receiver of a take, else the acting role. A
+    /// change has none.
+    pub fn doer(&self) -> Option<&Role>
+        ensures { option_copied result ≡ doer self.now }
+    {
+        match self {
+            Entry::Put { key, .. } => Some(&key.from),
+            Entry::Take { key, .. } => Some(&key.to),
+            Entry::Set { role, .. }
+            | Entry::Input { role, .. }
+            | Entry::Pick { role, .. }
+            | Entry::Scope { role, .. } => Some(role),
+            Entry::Add { .. } | Entry::Drop { .. } | Entry::Env { .. } => None,
+        }
+    }
+
     /// A copy, the same entry.
     pub fn copy(&self, alloc: Global) -> Result<Entry, Memory>
         ensures { IfOk result (λ copy. copy ≡ self.now) }
@@ -377,30 +395,30 @@ impl PartialEq for Entry {
     ghost laws = { partial_equiv_from_equiv (equivalence_from_Decides entry_eq entry_eq-decides) };
 
     fn eq(&self, other: &Entry) -> bool {
-        match self {
-            Entry::Put { key, note } => other.is_put(key, note),
-            Entry::Take { key, var } => other.is_take(key, var),
+        match other {
+            Entry::Put { key, note } => self.is_put(key, note),
+            Entry::Take { key, var } => self.is_take(key, var),
             Entry::Set {
                 index,
                 role,
                 var,
                 value,
-            } => other.is_set(*index, role, var, value),
+            } => self.is_set(*index, role, var, value),
             Entry::Input {
                 index,
                 role,
                 var,
                 value,
-            } => other.is_input(*index, role, var, value),
-            Entry::Pick { index, role, flag } => other.is_pick(*index, role, *flag),
+            } => self.is_input(*index, role, var, value),
+            Entry::Pick { index, role, flag } => self.is_pick(*index, role, *flag),
             Entry::Scope {
                 index,
                 role,
                 chosen,
-            } => other.is_scope(*index, role, chosen),
-            Entry::Add { name } => other.is_add(name),
-            Entry::Drop { name } => other.is_drop(name),
-            Entry::Env { key, value } => other.is_env(key, value),
+            } => self.is_scope(*index, role, chosen),
+            Entry::Add { name } => self.is_add(name),
+            Entry::Drop { name } => self.is_drop(name),
+            Entry::Env { key, value } => self.is_env(key, value),
         }
     }
 }
@@ -417,31 +435,31 @@ impl Entry {
     ghost use Rattle.dioc_terms.specs.Equality.{entry_eq};
 
     fn is_put(&self, key: &Key, note: &Note) -> bool
-        ensures { result ≡ entry_eq (entry.Put key.now note.now) self.now }
+        ensures { result ≡ entry_eq self.now (entry.Put key.now note.now) }
     {
         match self {
             Entry::Put {
                 key: its_key,
                 note: its_note,
-            } => key == its_key && note == its_note,
+            } => its_key == key && its_note == note,
             _ => false,
         }
     }
 
     fn is_take(&self, key: &Key, var: &Option<Name>) -> bool
-        ensures { result ≡ entry_eq (entry.Take key.now var.now) self.now }
+        ensures { result ≡ entry_eq self.now (entry.Take key.now var.now) }
     {
         match self {
             Entry::Take {
                 key: its_key,
                 var: its_var,
-            } => key == its_key && is_same_variable(var, its_var),
+            } => its_key == key && is_same_variable(its_var, var),
             _ => false,
         }
     }
 
     fn is_set(&self, index: Index, role: &Role, var: &Name, value: &Value) -> bool
-        ensures { result ≡ entry_eq (entry.Set index role.now var.now value.now) self.now }
+        ensures { result ≡ entry_eq self.now (entry.Set index role.now var.now value.now) }
     {
         match self {
             Entry::Set {
@@ -449,13 +467,13 @@ impl Entry {
                 role: its_role,
                 var: its_var,
                 value: its_value,
-            } => index == *its_index && role == its_role && var == its_var && value == its_value,
+            } => *its_index == index && its_role == role && its_var == var && its_value == value,
             _ => false,
         }
     }
 
     fn is_input(&self, index: Index, role: &Role, var: &Name, value: &Value) -> bool
-        ensures { result ≡ entry_eq (entry.Input index role.now var.now value.now) self.now }
+        ensures { result ≡ entry_eq self.now (entry.Input index role.now var.now value.now) }
     {
         match self {
             Entry::Input {
@@ -463,63 +481,66 @@ impl Entry {
                 role: its_role,
                 var: its_var,
                 value: its_value,
-            } => index == *its_index && role == its_role && var == its_var && value == its_value,
+            } => *its_index == index && its_role == role && its_var == var && its_value == value,
             _ => false,
         }
     }
 
     fn is_pick(&self, index: Index, role: &Role, flag: bool) -> bool
-        ensures { result ≡ entry_eq (entry.Pick index role.now flag) self.now }
+        ensures { result ≡ entry_eq self.now (entry.Pick index role.now flag) }
     {
         match self {
             Entry::Pick {
                 index: its_index,
                 role: its_role,
                 flag: its_flag,
-            } => index == *its_index && role == its_role && flag == *its_flag,
+            } => *its_index == index && its_role == role && *its_flag == flag,
             _ => false,
         }
     }
 
     fn is_scope(&self, index: Index, role: &Role, chosen: &Chosen) -> bool
-        ensures { result ≡ entry_eq (entry.Scope index role.now chosen.now) self.now }
+        ensures { result ≡ entry_eq self.now (entry.Scope index role.now chosen.now) }
     {
         match self {
             Entry::Scope {
                 index: its_index,
                 role: its_role,
                 chosen: its_chosen,
-            } => index == *its_index && role == its_role && chosen == its_chosen,
+            } => *its_index == index && its_role == role && its_chosen == chosen,
             _ => false,
         }
     }
 
-    fn is_add(&self, name: &Name) -> bool
-        ensures { result ≡ entry_eq (entry.Add name.now) self.now }
+    /// Whether the entry says that this rule is added.
+    pub fn is_add(&self, name: &Name) -> bool
+        ensures { result ≡ entry_eq self.now (entry.Add name.now) }
     {
         match self {
-            Entry::Add { name: its_name } => name == its_name,
+            Entry::Add { name: its_name } => its_name == name,
             _ => false,
         }
     }
 
-    fn is_drop(&self, name: &Name) -> bool
-        ensures { result ≡ entry_eq (entry.Drop name.now) self.now }
+    /// Whether the entry says that this rule is dropped.
+    pub fn is_drop(&self, name: &Name) -> bool
+        ensures { result ≡ entry_eq self.now (entry.Drop name.now) }
     {
         match self {
-            Entry::Drop { name: its_name } => name == its_name,
+            Entry::Drop { name: its_name } => its_name == name,
             _ => false,
         }
     }
 
-    fn is_env(&self, key: &Name, value: &Value) -> bool
-        ensures { result ≡ entry_eq (entry.Env key.now value.now) self.now }
+    /// Whether the entry says that the environment has this value at this key.
+    pub fn is_env(&self, key: &Name, value: &Value) -> bool
+        ensures { result ≡ entry_eq self.now (entry.Env key.now value.now) }
     {
         match self {
             Entry::Env {
                 key: its_key,
                 value: its_value,
-            } => key == its_key && value == its_value,
+            } => its_key == key && its_value == value,
             _ => false,
         }
     }
@@ -559,6 +580,22 @@ pub enum Act {
     Pick(Index),
     /// To choose for this scope.
     Scope(Index),
+}
+
+impl Act {
+    /// A copy, the same act.
+    pub fn copy(&self, alloc: Global) -> Result<Act, Memory>
+        ensures { IfOk result (λ copy. copy ≡ self.now) }
+    {
+        match self {
+            Act::Put(key) => Ok(Act::Put(key.copy(alloc)?)),
+            Act::Take(key) => Ok(Act::Take(key.copy(alloc)?)),
+            Act::Set(index) => Ok(Act::Set(*index)),
+            Act::Input(index) => Ok(Act::Input(*index)),
+            Act::Pick(index) => Ok(Act::Pick(*index)),
+            Act::Scope(index) => Ok(Act::Scope(*index)),
+        }
+    }
 }
 
 impl PartialEq for Act {

@@ -3,12 +3,12 @@
 ghost use Rattle.std.specs.Prelude.{◌≡◌, IfOk, OnOk};
 ghost use Rattle.indexmap.specs.IndexSet.{insert_key, insert_all};
 ghost use Rattle.dioc_terms.specs.Equality.{role_eq};
-ghost use Rattle.dioc_terms.specs.Terms.{term, mentions, cast_of};
+ghost use Rattle.dioc_terms.specs.Terms.{term, mentions, cast_of, is_in};
 
 use crate::choreographies::Choreo;
 use crate::faults::Memory;
 use crate::lists::{Items, Roles};
-use crate::names::Role;
+use crate::names::{Role, is_among};
 use indexmap::IndexSet;
 use std::alloc::Global;
 
@@ -87,4 +87,31 @@ fn add_role(alloc: Global, seen: &mut IndexSet<Role>, role: &Role) -> Result<(),
         seen.insert(role.copy(alloc)?)?;
     }
     Ok(())
+}
+
+/// Whether a choreography names the role.
+pub fn names_role(choreo: &Choreo, role: &Role) -> bool
+    ensures { result ≡ is_in role.now (term choreo.now) }
+{
+    match choreo {
+        Choreo::Skip => false,
+        Choreo::Com { from, to, .. } => role == from || role == to,
+        Choreo::Set { role: owner, .. } | Choreo::Input { role: owner, .. } => role == owner,
+        Choreo::Seq(first, second) | Choreo::Par(first, second) => {
+            names_role(first, role) || names_role(second, role)
+        }
+        Choreo::If {
+            leader,
+            yes,
+            no,
+            ..
+        } => role == leader || names_role(yes, role) || names_role(no, role),
+        Choreo::While { leader, body, .. } => role == leader || names_role(body, role),
+        Choreo::Scope {
+            leader,
+            body,
+            extra,
+            ..
+        } => role == leader || names_role(body, role) || is_among(role, extra.as_slice()),
+    }
 }

@@ -2,6 +2,7 @@
 
 ghost use Rattle.std.specs.Prelude.{◌≡◌, ◌≤◌, ◌↔◌, true, false, length, take, IsOk, IfOk, IsErrOf};
 ghost use Rattle.std.specs.List.{list_all};
+ghost use Rattle.dioc_terms.specs.Equality.{member};
 ghost use Rattle.dioc_terms.specs.Names.{is_letter, is_word, is_printable, is_name, is_text};
 ghost use Rattle.dioc_terms.specs.Kept.{kept_items, IsKept};
 
@@ -64,6 +65,15 @@ impl Name {
         if !is_name(bytes) {
             return Err(NameFault::NotAName);
         }
+        Ok(Name::of(alloc, bytes)?)
+    }
+
+    /// The name of these bytes, which the caller knows to be one. The error says that memory ran
+    /// out.
+    pub fn of(alloc: Global, bytes: &[u8]) -> Result<Name, Memory>
+        requires { is_name bytes.now ≡ true }
+        ensures { IfOk result (λ name. name ≡ bytes.now) }
+    {
         let bytes = Kept::new(alloc, bytes)?;
         Ok(Name { bytes })
     }
@@ -265,6 +275,13 @@ impl Eq for Role {
     ghost use Rattle.dioc_terms.specs.EqualityLemmas.{equivalence_from_Decides, role_eq-decides};
 
     ghost laws = { equivalence_from_Decides role_eq role_eq-decides };
+}
+
+/// Whether the role is one of these.
+pub fn is_among(role: &Role, roles: &[Role]) -> bool
+    ensures { result ≡ member role.now roles.now }
+{
+    roles.iter().any(|other| role == other)
 }
 
 /// The index of a construct: the number of the update that it stands in, 0 in the program's own

@@ -29,7 +29,7 @@ pub(crate) fn prepared_at(
 ) -> Result<Prepared, Memory>
     ensures { IfOk result (IsPreparedFor me.now act.now value.now (process part.now)) }
 {
-    let act = copy_of_act(alloc, act)?;
+    let act = act.copy(alloc)?;
     match entry_at(alloc, me, value, part) {
         Ok(entry) => with_entry(alloc, act, entry, value, part),
         Err(fault) => give_up(act, fault),
@@ -354,19 +354,5 @@ fn head_at(alloc: Global, part: &Proc) -> Result<Option<ScopeHead>, Memory>
     match part {
         Proc::ScopeLead { head, .. } => Ok(Some(head.copy(alloc)?)),
         _ => Ok(None),
-    }
-}
-
-/// A copy of the act.
-pub fn copy_of_act(alloc: Global, act: &Act) -> Result<Act, Memory>
-    ensures { IfOk result (λ copy. copy ≡ act.now) }
-{
-    match act {
-        Act::Put(key) => Ok(Act::Put(key.copy(alloc)?)),
-        Act::Take(key) => Ok(Act::Take(key.copy(alloc)?)),
-        Act::Set(index) => Ok(Act::Set(*index)),
-        Act::Input(index) => Ok(Act::Input(*index)),
-        Act::Pick(index) => Ok(Act::Pick(*index)),
-        Act::Scope(index) => Ok(Act::Scope(*index)),
     }
 }

@@ -12,7 +12,7 @@ ghost use Rattle.expr_syntax.specs.Readers.{LeafAt, ConstantLeafAt, MemberAt};
 use crate::constants::constant_at;
 use crate::levels::ExprKind;
 use aioc_tokens::{Lexed, Punctuator, Sort, Word};
-use dioc_terms::{Expr, Memory, Name, NameFault};
+use dioc_terms::{Expr, Memory, Name};
 use std::alloc::Global;
 
 /// The name at a place of the text, which the caller knows to be one. The error says that memory
@@ -23,11 +23,7 @@ pub fn name_at(alloc: Global, text: &Lexed<'_>, at: usize) -> Result<Name, Memor
         ≡ Lexeme.Name name ∷ drop (at + 1) text.now) }
     ensures valid { IfOk result (λ name. HasSpelling (Lexeme.Name name)) }
 {
-    match Name::read(alloc, text.name(at)) {
-        Ok(name) => Ok(name),
-        Err(NameFault::Memory) => Err(Memory),
-        Err(NameFault::NotAName) => unreachable!(),
-    }
+    Name::of(alloc, text.name(at))
 }
 
 /// Whether a number stands at a place of the text.

@@ -17,7 +17,7 @@ use crate::parts::{entry_of, head_of, payload_of, value_of, write_of};
 use dioc_terms::{Act, Entry, Memory, Payload, Role, ScopeHead, Store, Value, give_up};
 use dpoc_process::Prepared;
 use dpoc_process::growth::Write;
-use dpoc_process::prepared::{copy_of_act, gather_entry, payload_of_tell, tell_entry};
+use dpoc_process::prepared::{gather_entry, payload_of_tell, tell_entry};
 use std::alloc::Global;
 
 /// What is shown of an act but the act itself.
@@ -41,7 +41,7 @@ pub(crate) fn prepared_at(
     ensures { IfOk result (IsPreparedFor me.now act.now value.now
         (part_process (processes code.now.code.ops.items) part.entry)) }
 {
-    let act = copy_of_act(alloc, act)?;
+    let act = act.copy(alloc)?;
     match shown_at(alloc, me, value, code, part) {
         Ok(
             Shown {

@@ -6,7 +6,7 @@ use crate::books::PlainBook;
 use crate::plays::{Scene, play};
 use crate::rules::RuleList;
 use crate::running::{Marks, Running, is_ended};
-use crate::shown::{doer, shows, updates_after};
+use crate::shown::{shows, updates_after};
 use crate::stores::Stores;
 use dioc_terms::{Bundle, Entry, Memory, Role};
 use std::alloc::Global;
@@ -92,7 +92,7 @@ impl<'a> Follower<'a> {
             (state_of self.old) entry.now ≡ None }
         ensures same { OnErr result (state_of self.new ≡ state_of self.old) }
     {
-        match doer(entry) {
+        match entry.doer() {
             Some(role) => self.follow_role(alloc, role, entry),
             None => self.follow_change(alloc, entry),
         }

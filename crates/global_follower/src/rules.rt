@@ -8,7 +8,7 @@ ghost use Rattle.dioc_terms.specs.Terms.{mentions, term};
 ghost use Rattle.global_follower.specs.Conditions.{joins_nothing};
 
 use dioc_terms::{
-    Bundle, Choreo, Name, Role, Rule, ScopeHead, Store, Value, conditions_join_nothing, test,
+    Bundle, Choreo, Name, Role, Rule, ScopeHead, Store, Value, conditions_join_nothing, is_among, test,
 };
 use limits::TOP_LEVEL;
 
@@ -122,11 +122,4 @@ fn all_among(some: &[Role], roles: &[Role]) -> bool
     ensures { result ≡ list_all (λ q. member q roles.now) some.now }
 {
     some.iter().all(|role| is_among(role, roles))
-}
-
-/// Whether the role is one of these.
-pub(crate) fn is_among(role: &Role, roles: &[Role]) -> bool
-    ensures { result ≡ member role.now roles.now }
-{
-    roles.iter().any(|one| role == one)
 }

@@ -6,7 +6,6 @@ ghost use Rattle.global_follower.specs.KeptRunning.{marked, part_term, running};
 ghost use Rattle.global_steps.specs.Follow.{is_doer_due};
 ghost use Rattle.global_steps.specs.Running.{started, ended, light, is_due};
 
-use crate::shown::doer;
 use dioc_terms::{Choreo, Entry, Expr, Index, Name, Role, Value};
 
 /// The marks of a text: its indices are of that epoch, its scopes at that level. Of the program's
@@ -170,7 +169,7 @@ pub(crate) fn is_due(role: &Role, left: &Running<'_>) -> bool
 pub(crate) fn is_doer_due(entry: &Entry, left: &Running<'_>) -> bool
     ensures { result ≡ is_doer_due entry.now (running left.now) }
 {
-    match doer(entry) {
+    match entry.doer() {
         None => false,
         Some(role) => is_due(role, left),
     }

@@ -13,11 +13,11 @@ ghost use Rattle.limits.specs.Limits.{top_level};
 ghost use Rattle.global_steps.specs.Running.{started};
 
 use crate::plays::{Played, Scene, leaves};
-use crate::rules::{RuleList, is_among};
+use crate::rules::RuleList;
 use crate::running::{Marks, Part, Running};
 use crate::shown::choice;
 use dioc_terms::{
-    Bindings, Choreo, Chosen, Index, Items, Memory, Role, Roles, Rule, ScopeHead, new_box,
+    Bindings, Choreo, Chosen, Index, Items, Memory, Role, Roles, Rule, ScopeHead, names_role, new_box,
     stamped_bodies,
 };
 use std::alloc::Global;
@@ -181,7 +181,7 @@ fn roles_in(alloc: Global, cast: &[Role], scope: &Choreo) -> Result<Roles, Memor
 {
     let mut roles = Vec::new(alloc);
     for role in cast {
-        keep(alloc, &mut roles, role, names(scope, role))?;
+        keep(alloc, &mut roles, role, names_role(scope, role))?;
     }
     Ok(Items::new(roles))
 }
@@ -195,31 +195,4 @@ fn keep(alloc: Global, roles: &mut Vec<Role>, role: &Role, is_kept: bool) -> Res
         roles.push(role.copy(alloc)?)?;
     }
     Ok(())
-}
-
-/// Whether the part names the role.
-fn names(part: &Choreo, role: &Role) -> bool
-    ensures { result ≡ is_in role.now (term part.now) }
-{
-    match part {
-        Choreo::Skip => false,
-        Choreo::Com { from, to, .. } => role == from || role == to,
-        Choreo::Set { role: owner, .. } | Choreo::Input { role: owner, .. } => role == owner,
-        Choreo::Seq(left, right) | Choreo::Par(left, right) => {
-            names(left, role) || names(right, role)
-        }
-        Choreo::If {
-            leader,
-            yes,
-            no,
-            ..
-        } => role == leader || names(yes, role) || names(no, role),
-        Choreo::While { leader, body, .. } => role == leader || names(body, role),
-        Choreo::Scope {
-            leader,
-            body,
-            extra,
-            ..
-        } => role == leader || names(body, role) || is_among(role, extra.as_slice()),
-    }
 }

@@ -24,21 +24,6 @@ use dioc_terms::{
 };
 use std::alloc::Global;
 
-/// The role of an entry. A change has none.
-pub(crate) fn doer(entry: &Entry) -> Option<&Role>
-    ensures { option_copied result ≡ doer entry.now }
-{
-    match entry {
-        Entry::Put { key, .. } => Some(&key.from),
-        Entry::Take { key, .. } => Some(&key.to),
-        Entry::Set { role, .. } => Some(role),
-        Entry::Input { role, .. } => Some(role),
-        Entry::Pick { role, .. } => Some(role),
-        Entry::Scope { role, .. } => Some(role),
-        Entry::Add { .. } | Entry::Drop { .. } | Entry::Env { .. } => None,
-    }
-}
-
 /// The value of the expression, where the entry puts the message with it.
 pub(crate) fn put_value(
     alloc: Global,
@@ -247,41 +232,11 @@ pub(crate) fn shows(rules: RuleList<'_>, entry: &Entry, change: &Change) -> bool
 {
     match change {
         Change::Add(number) => match rules.get(*number) {
-            Some(rule) => is_add(entry, &rule.name),
+            Some(rule) => entry.is_add(&rule.name),
             None => false,
         },
-        Change::Drop(name) => is_drop(entry, name),
-        Change::Env(key, value) => is_env(entry, key, value),
-    }
-}
-
-fn is_add(entry: &Entry, rule: &Name) -> bool
-    ensures { result ≡ entry_eq entry.now (entries.Add rule.now) }
-{
-    match entry {
-        Entry::Add { name } => name == rule,
-        _ => false,
-    }
-}
-
-fn is_drop(entry: &Entry, rule: &Name) -> bool
-    ensures { result ≡ entry_eq entry.now (entries.Drop rule.now) }
-{
-    match entry {
-        Entry::Drop { name } => name == rule,
-        _ => false,
-    }
-}
-
-fn is_env(entry: &Entry, key: &Name, value: &Value) -> bool
-    ensures { result ≡ entry_eq entry.now (entries.Env key.now value.now) }
-{
-    match entry {
-        Entry::Env {
-            key: its_key,
-            value: its_value,
-        } => its_key == key && its_value == value,
-        _ => false,
+        Change::Drop(name) => entry.is_drop(name),
+        Change::Env(key, value) => entry.is_env(key, value),
     }
 }
 

@@ -11,9 +11,8 @@ ghost use Rattle.dioc_terms.specs.Terms.{term, is_in, nodes};
 ghost use Rattle.mend.specs.Building.{IsStopOf};
 ghost use Rattle.mend.specs.Mended.{message, told, led_in};
 
-use crate::ends::names;
 use crate::faults::{Stop, stopped};
-use dioc_terms::{Choreo, Expr, Index, Memory, Name, NameFault, Role, Value, new_box};
+use dioc_terms::{Choreo, Expr, Index, Memory, Name, NameFault, Role, Value, names_role, new_box};
 use index_marks::nodes;
 use std::alloc::Global;
 use std::mem;
@@ -116,7 +115,7 @@ pub(crate) fn tell(
     ensures stop { IfErr result (IsStopOf (left.old + nodes (term part.old))
         (nodes (told (is_in role.now (term part.old)) (term part.old) last.now role.now))) }
 {
-    if names(part, role) {
+    if names_role(part, role) {
         return Ok(());
     }
     let added = added(alloc, left, last, role)?;

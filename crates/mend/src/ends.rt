@@ -10,7 +10,7 @@ ghost use Rattle.mend.specs.Building.{attended};
 ghost use Rattle.mend.specs.Mended.{first_starter};
 
 use connectedness::roles_at_ends;
-use dioc_terms::{Choreo, Role};
+use dioc_terms::{Choreo, Role, names_role};
 
 /// Whether a part has no construct.
 pub(crate) fn is_empty(choreo: &Choreo) -> bool
@@ -30,40 +30,6 @@ pub(crate) fn are_empty(one: &Choreo, other: &Choreo) -> bool
     ensures { result ≡ (empty (term one.now) && empty (term other.now)) }
 {
     is_empty(one) && is_empty(other)
-}
-
-/// Whether a part names the role.
-pub(crate) fn names(choreo: &Choreo, role: &Role) -> bool
-    ensures { result ≡ is_in role.now (term choreo.now) }
-{
-    match choreo {
-        Choreo::Skip => false,
-        Choreo::Com { from, to, .. } => role == from || role == to,
-        Choreo::Set { role: owner, .. } | Choreo::Input { role: owner, .. } => role == owner,
-        Choreo::Seq(first, second) | Choreo::Par(first, second) => {
-            names(first, role) || names(second, role)
-        }
-        Choreo::If {
-            leader,
-            yes,
-            no,
-            ..
-        } => role == leader || names(yes, role) || names(no, role),
-        Choreo::While { leader, body, .. } => role == leader || names(body, role),
-        Choreo::Scope {
-            leader,
-            body,
-            extra,
-            ..
-        } => role == leader || names(body, role) || is_one_of(role, extra.as_slice()),
-    }
-}
-
-/// Whether the role is one of these.
-fn is_one_of(role: &Role, roles: &[Role]) -> bool
-    ensures { result ≡ member role.now roles.now }
-{
-    roles.iter().any(|other| role == other)
 }
 
 /// Whether the role begins a part.
@@ -103,7 +69,7 @@ fn attends(choreo: &Choreo, role: &Role) -> bool
         }
         Choreo::Par(left, right) => attends(left, role) && attends(right, role),
         Choreo::If { yes, no, .. } => {
-            let named = names(choreo, role);
+            let named = names_role(choreo, role);
             let first = if is_empty(yes) {
                 named
             } else {
@@ -116,7 +82,7 @@ fn attends(choreo: &Choreo, role: &Role) -> bool
             };
             first && second
         }
-        _ => names(choreo, role),
+        _ => names_role(choreo, role),
     }
 }
 

@@ -20,7 +20,7 @@ use dioc_terms::{Act, Entry, Memory};
 use dpoc_process::Runs;
 use net_core::Net;
 use network_steps::Move;
-use schedule::{ReadyRole, copy_of_act, keep_up_with};
+use schedule::{ReadyRole, keep_up_with};
 use std::alloc::Global;
 use std::mem;
 
@@ -159,7 +159,7 @@ fn find_auxiliary(alloc: Global, agenda: &[ReadyRole]) -> Result<Option<Move>, M
 {
     for ready in agenda {
         if let Some(act) = first_auxiliary(&ready.acts) {
-            let next = move_by(alloc, &ready.role, copy_of_act(alloc, act)?)?;
+            let next = move_by(alloc, &ready.role, act.copy(alloc)?)?;
             return Ok(Some(next));
         }
     }

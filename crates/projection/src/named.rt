@@ -5,7 +5,7 @@ ghost use Rattle.dioc_terms.specs.Equality.{role_eq, member};
 ghost use Rattle.dioc_terms.specs.Terms.{term};
 ghost use Rattle.projection.specs.Named.{flagged, names_itself, raised};
 
-use dioc_terms::{Choreo, Items, Memory, Role, Roles};
+use dioc_terms::{Choreo, Items, Memory, Role, Roles, is_among};
 use std::alloc::Global;
 
 /// Whether the part itself names the role, whatever stands inside it.
@@ -17,15 +17,8 @@ pub fn names_itself(part: &Choreo, role: &Role) -> bool
         Choreo::Com { from, to, .. } => role == from || role == to,
         Choreo::Set { role: owner, .. } | Choreo::Input { role: owner, .. } => role == owner,
         Choreo::If { leader, .. } | Choreo::While { leader, .. } => role == leader,
-        Choreo::Scope { leader, extra, .. } => role == leader || is_one_of(role, extra.as_slice()),
+        Choreo::Scope { leader, extra, .. } => role == leader || is_among(role, extra.as_slice()),
     }
-}
-
-/// Whether the role is one of these.
-fn is_one_of(role: &Role, roles: &[Role]) -> bool
-    ensures { result ≡ member role.now roles.now }
-{
-    roles.iter().any(|one| role == one)
 }
 
 /// The flags of the roles that the part itself names.

@@ -6,22 +6,6 @@ ghost use Rattle.dioc_terms.specs.Messages.{act_of, doer};
 use dioc_terms::{Act, Entry, Memory, Role};
 use std::alloc::Global;
 
-/// The role of an entry: the sender of a put, the receiver of a take, else the acting role. A
-/// change has none.
-pub(crate) fn doer(entry: &Entry) -> Option<&Role>
-    ensures { option_copied result ≡ doer entry.now }
-{
-    match entry {
-        Entry::Put { key, .. } => Some(&key.from),
-        Entry::Take { key, .. } => Some(&key.to),
-        Entry::Set { role, .. }
-        | Entry::Input { role, .. }
-        | Entry::Pick { role, .. }
-        | Entry::Scope { role, .. } => Some(role),
-        Entry::Add { .. } | Entry::Drop { .. } | Entry::Env { .. } => None,
-    }
-}
-
 /// The act that an entry of a role shows.
 pub(crate) fn act_of(alloc: Global, entry: &Entry) -> Result<Act, Memory>
     requires { IsSome (doer entry.now) }

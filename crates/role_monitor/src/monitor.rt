@@ -13,7 +13,7 @@ ghost use Rattle.role_monitor.specs.Monitoring.{mon_start, own_entries};
 ghost use Rattle.rule_book.specs.KeptBooks.{book_of};
 ghost use Rattle.role_monitor.specs.Monitors.{Deviated, HasRead};
 
-use crate::entries::{act_of, doer};
+use crate::entries::act_of;
 use crate::judging::judge;
 use crate::others::believe;
 use crate::script::see_change;
@@ -134,7 +134,7 @@ impl<'a> Monitor<'a> {
         ensures same { (b : PlainBundle) (r : OneRole) (entries : List OneEntry)
             → HasRead b r self.old entries → OnErr result (HasRead b r self.new entries) }
     {
-        match doer(entry) {
+        match entry.doer() {
             None => {
                 self.see(entry);
                 Ok(())

@@ -41,37 +41,10 @@ fn shows(rules: &[Rule], entry: &Entry, change: &Change) -> bool
 {
     match change {
         Change::Add(number) => match rules.get(*number as usize) {
-            Some(rule) => is_add(entry, &rule.name),
+            Some(rule) => entry.is_add(&rule.name),
             None => false,
         },
-        Change::Drop(name) => is_drop(entry, name),
-        Change::Env(key, value) => is_env(entry, key, value),
-    }
-}
-
-fn is_add(entry: &Entry, rule: &Name) -> bool
-    ensures { result ≡ entry_eq entry.now (entries.Add rule.now) }
-{
-    match entry {
-        Entry::Add { name } => name == rule,
-        _ => false,
-    }
-}
-
-fn is_drop(entry: &Entry, rule: &Name) -> bool
-    ensures { result ≡ entry_eq entry.now (entries.Drop rule.now) }
-{
-    match entry {
-        Entry::Drop { name } => name == rule,
-        _ => false,
-    }
-}
-
-fn is_env(entry: &Entry, set: &Name, to: &Value) -> bool
-    ensures { result ≡ entry_eq entry.now (entries.Env set.now to.now) }
-{
-    match entry {
-        Entry::Env { key, value } => key == set && value == to,
-        _ => false,
+        Change::Drop(name) => entry.is_drop(name),
+        Change::Env(key, value) => entry.is_env(key, value),
     }
 }

@@ -11,7 +11,7 @@ ghost use Rattle.dioc_terms.specs.KeptStores.{store_of};
 ghost use Rattle.limits.specs.Limits.{top_level};
 ghost use Rattle.dioc_terms.specs.Values.{bound, holds};
 
-use dioc_terms::{Expr, Name, Role, Roles, ScopeHead, Store, Value, test};
+use dioc_terms::{Expr, Name, Role, Roles, ScopeHead, Store, Value, is_among, test};
 use limits::TOP_LEVEL;
 
 /// What a book keeps of a rule.
@@ -80,10 +80,4 @@ fn are_among(roles: &[Role], others: &[Role]) -> bool
     ensures { result ≡ list_all (λ q. member q others.now) roles.now }
 {
     roles.iter().all(|role| is_among(role, others))
-}
-
-fn is_among(role: &Role, others: &[Role]) -> bool
-    ensures { result ≡ member role.now others.now }
-{
-    others.iter().any(|other| role == other)
 }

@@ -14,7 +14,7 @@ use crate::bounds::within_limits;
 use crate::refusals::{Refusal, Where};
 use connectedness::{CheckFault, check};
 use dioc_terms::{
-    Bundle, Change, Choreo, Index, Role, Values, casts_are_roles, mentions_are_roles, roles,
+    Bundle, Change, Choreo, Index, Role, Values, casts_are_roles, is_among, mentions_are_roles, roles,
 };
 use index_marks::{depth, nodes};
 use limits::{MOST_BODY_DEPTH, MOST_BODY_NODES};
@@ -124,12 +124,6 @@ fn known(alloc: Global, at: Where, role: &Role, cast: &[Role]) -> Result<(), Ref
     } else {
         Err(Refusal::UnknownRole(at, role.copy(alloc)?))
     }
-}
-
-fn is_among(role: &Role, cast: &[Role]) -> bool
-    ensures { result ≡ member role.now cast.now }
-{
-    cast.iter().any(|other| role == other)
 }
 
 /// Whether no role sends to itself.

@@ -178,21 +178,7 @@ fn move_of(alloc: Global, ready: &ReadyRole, place: usize) -> Result<Move, Memor
     requires { place < length ready.now.acts.items }
     ensures { IfOk result (λ next. slice_get (moves_of (ready_seen ready.now)) place ≡ Some next) }
 {
-    let act = copy_of_act(alloc, &ready.acts[place])?;
+    let act = ready.acts[place].copy(alloc)?;
     let role = ready.role.copy(alloc)?;
     Ok(Move::Act(role, act))
-}
-
-/// A copy, the same act.
-pub fn copy_of_act(alloc: Global, act: &Act) -> Result<Act, Memory>
-    ensures { IfOk result (λ copy. copy ≡ act.now) }
-{
-    match act {
-        Act::Put(key) => Ok(Act::Put(key.copy(alloc)?)),
-        Act::Take(key) => Ok(Act::Take(key.copy(alloc)?)),
-        Act::Set(index) => Ok(Act::Set(*index)),
-        Act::Input(index) => Ok(Act::Input(*index)),
-        Act::Pick(index) => Ok(Act::Pick(*index)),
-        Act::Scope(index) => Ok(Act::Scope(*index)),
-    }
 }

@@ -8,5 +8,5 @@ mod numbers;
 mod runs;
 mod turns;
 
-pub use agenda::{ReadyRole, copy_of_act, keep_up_with, list_ready};
+pub use agenda::{ReadyRole, keep_up_with, list_ready};
 pub use runs::{Finish, run_seeded};

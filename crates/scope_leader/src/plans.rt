@@ -12,7 +12,7 @@ ghost use Rattle.projection.specs.Projection.{projected};
 ghost use Rattle.scope_leader.specs.Plans.{part_of, is_told, told_roles, begin_messages};
 
 use dioc_terms::{
-    Choreo, Key, Memory, Messages, Parts, Payload, Role, ScopeHead, Tag, give_up, new_box, stamped,
+    Choreo, Key, Memory, Messages, Parts, Payload, Role, ScopeHead, Tag, give_up, is_among, new_box, stamped,
     stamped_bodies,
 };
 use projection::project;
@@ -99,14 +99,7 @@ fn begins(
 fn is_told(head: &ScopeHead, role: &Role) -> bool
     ensures { result ≡ is_told head.now role.now }
 {
-    is_one_of(role, head.roles.as_slice()) && *role != head.leader
-}
-
-/// Whether the role is one of these.
-fn is_one_of(role: &Role, roles: &[Role]) -> bool
-    ensures { result ≡ member role.now roles.now }
-{
-    roles.iter().any(|one| role == one)
+    is_among(role, head.roles.as_slice()) && *role != head.leader
 }
 
 /// The message with the role's part, and those after it.

@@ -11,23 +11,8 @@ use dioc_terms::{Entry, Role};
 pub(crate) fn is_of(entry: &Entry, role: &Role) -> bool
     ensures { result ≡ is_of role.now entry.now }
 {
-    match doer(entry) {
+    match entry.doer() {
         Some(doer) => doer == role,
         None => false,
-    }
-}
-
-/// The sender of a put, the receiver of a take, else the acting role. A change has none.
-fn doer(entry: &Entry) -> Option<&Role>
-    ensures { option_copied result ≡ doer entry.now }
-{
-    match entry {
-        Entry::Put { key, .. } => Some(&key.from),
-        Entry::Take { key, .. } => Some(&key.to),
-        Entry::Set { role, .. }
-        | Entry::Input { role, .. }
-        | Entry::Pick { role, .. }
-        | Entry::Scope { role, .. } => Some(role),
-        Entry::Add { .. } | Entry::Drop { .. } | Entry::Env { .. } => None,
     }
 }

@@ -11,6 +11,6 @@ loop-role-preserved c =
     let named = λ (q : Role). is_in q (term c.args.scope.now) in
     let within : i < length cast = omega arith in
     c.in_ok-keep.ensures
-    ∙ ap₂ (λ kept (b : _). kept ++ cond b (c.role-item.result ∷ []) []) c.loop-role.invariant c.names.ensures
+    ∙ ap₂ (λ kept (b : _). kept ++ cond b (c.role-item.result ∷ []) []) c.loop-role.invariant c.names_role.ensures
     ∙ sym (filter_more named cast i c.role-item.result within
     ∙ ap (λ y. filter named (take i cast) ++ cond (named y) (y ∷ []) []) (sym c.role-item.is))

@@ -13,7 +13,7 @@ returns-in-Some c =
     ap (find is_aux_act) (sym c.deref.ensures.value) ∙ sym c.first_auxiliary.ensures ∙ ap option_copied c.in-Some.is in
     sym (c.loop-ready.invariant
     ∙ found_here c.args.agenda.now c.loop-ready.ready-index c.ready-item.result c.loop-ready-test.true c.ready-item.is c.in-Some.act.now found
-    ∙ (λ j. Some (move.Act c.ready-item.result.role (sym c.in_ok-copy_of_act.ensures j))) ∙ ap Some (sym c.in_ok-next.ensures))
+    ∙ (λ j. Some (move.Act c.ready-item.result.role (sym c.in_ok-copy.ensures j))) ∙ ap Some (sym c.in_ok-next.ensures))
 
 pub loop-ready-preserved : goal.loop-ready-preserved
 loop-ready-preserved c =
