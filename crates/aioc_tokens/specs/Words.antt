@@ -1,5 +1,5 @@
 -- The reserved words and the symbols, each with its spelling.
-use Rattle.std.specs.Prelude.{ℕ, List, [], ◌∷◌, Option}
+use Rattle.std.specs.Prelude.{ℕ, List, [], ◌∷◌, Option, Some, None}
 use Rattle.std.specs.List.{find}
 use Rattle.std.specs.Str.{bytes_eq}
 use lib.Chars.{codes}
@@ -85,8 +85,8 @@ punctuator_of bytes =
 
 -- the longest symbol that these bytes begin with, and how many bytes it has
 abbrev pub longer_of : Option Punctuator → Option Punctuator → Option (Punctuator × ℕ)
-longer_of (Some pair) lone = Some (pair, 2)
-longer_of None (Some lone) = Some (lone, 1)
+longer_of (Some pair) _ = Some (pair, 2)
+longer_of None (Some single) = Some (single, 1)
 longer_of None None = None
 
 abbrev pub longest_symbol : ℕ → ℕ → Option (Punctuator × ℕ)

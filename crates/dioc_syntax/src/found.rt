@@ -169,7 +169,8 @@ pub fn scope_of(
 ) -> Result<FoundChoreo, Memory>
     requires { inner.depth < 2 ^ 64 - 1 }
     ensures choreo { IfOk result (λ found. term found.choreo.value
-        ≡ Scope (index_at earlier) parts.leader (term inner.choreo.value) parts.extra parts.props 0) }
+        ≡ Scope (index_at earlier) parts.leader (term inner.choreo.value) parts.extra parts.props
+        0) }
     ensures depth { IfOk result (λ found. found.depth ≡ suc inner.depth) }
     ensures at { IfOk result (λ found. found.at ≡ parts.at) }
     ensures next { IfOk result (λ found. found.next ≡ inner.next) }

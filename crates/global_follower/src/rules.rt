@@ -8,7 +8,8 @@ ghost use Rattle.dioc_terms.specs.Terms.{mentions, term};
 ghost use Rattle.global_follower.specs.Conditions.{joins_nothing};
 
 use dioc_terms::{
-    Bundle, Choreo, Name, Role, Rule, ScopeHead, Store, Value, conditions_join_nothing, is_among, test,
+    Bundle, Choreo, Name, Role, Rule, ScopeHead, Store, Value, conditions_join_nothing, is_among,
+    test,
 };
 use limits::TOP_LEVEL;
 

@@ -17,8 +17,8 @@ use crate::rules::RuleList;
 use crate::running::{Marks, Part, Running};
 use crate::shown::choice;
 use dioc_terms::{
-    Bindings, Choreo, Chosen, Index, Items, Memory, Role, Roles, Rule, ScopeHead, names_role, new_box,
-    stamped_bodies,
+    Bindings, Choreo, Chosen, Index, Items, Memory, Role, Roles, Rule, ScopeHead, names_role,
+    new_box, stamped_bodies,
 };
 use std::alloc::Global;
 

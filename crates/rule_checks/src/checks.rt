@@ -14,7 +14,8 @@ use crate::bounds::within_limits;
 use crate::refusals::{Refusal, Where};
 use connectedness::{CheckFault, check};
 use dioc_terms::{
-    Bundle, Change, Choreo, Index, Role, Values, casts_are_roles, is_among, mentions_are_roles, roles,
+    Bundle, Change, Choreo, Index, Role, Values, casts_are_roles, is_among, mentions_are_roles,
+    roles,
 };
 use index_marks::{depth, nodes};
 use limits::{MOST_BODY_DEPTH, MOST_BODY_NODES};

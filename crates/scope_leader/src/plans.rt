@@ -12,8 +12,8 @@ ghost use Rattle.projection.specs.Projection.{projected};
 ghost use Rattle.scope_leader.specs.Plans.{part_of, is_told, told_roles, begin_messages};
 
 use dioc_terms::{
-    Choreo, Key, Memory, Messages, Parts, Payload, Role, ScopeHead, Tag, give_up, is_among, new_box, stamped,
-    stamped_bodies,
+    Choreo, Key, Memory, Messages, Parts, Payload, Role, ScopeHead, Tag, give_up, is_among,
+    new_box, stamped, stamped_bodies,
 };
 use projection::project;
 use std::alloc::Global;
