@@ -1,9 +1,12 @@
-"""The program that lays bundles out: what it prints of the examples, what it names, what it replaces, and its statuses."""
+"""The program that lays bundles out: what it prints of the examples, what it names, what it replaces, and its statuses. The examples,
+and the bundles on the pages, stand in its layout."""
 import glob
 import os
 import stat
 import tempfile
 
+from pages.named import pages
+from pages.shown import blocks_of_markdown
 from testing.explain import USAGE
 from testing.runner import Failed, Test
 
@@ -19,6 +22,9 @@ LAID = """aioc { // a comment
 inputs { a: 1; }
 """
 FAULTY = "aioc { x@@a = 1 }\n"
+
+# What makes a bundle of sections without a choreography.
+BEFORE_SECTIONS = "aioc { skip }\n\n"
 
 # Words that nothing is laid out for: the code and the lines of standard error.
 OTHERS = (
@@ -59,6 +65,29 @@ def stable(programs, path):
                        programs.tool, programs.aioc, path, folder).expect(0, b"", b"")
 
 
+def example(programs, path):
+    """An example is in the layout."""
+    programs.call(["format", "--check", path], b"", programs.tool).expect(0, b"", b"")
+
+
+def of_page(programs, page):
+    """The blocks of a page that are bundles, or sections of some, are in the layout. Those that are no bundle show a fault."""
+    results = []
+    with open(page, encoding="utf-8") as it:
+        blocks = list(blocks_of_markdown(it.read()))
+    for number, kind, lines in blocks:
+        if kind[:1] not in (["aioc"], ["faulty"], ["layout"]):
+            continue
+        text, name = "".join(f"{line}\n" for line in lines), f"format: {page}, line {number}"
+        for front in ("", BEFORE_SECTIONS):
+            whole = f"{front}{text}".encode()
+            ran = programs.call(["format"], whole, programs.tool)
+            if ran.code != 2:
+                results.append((name, None if ran.out == whole else ran.failed("the block isn't in the layout")))
+                break
+    return results
+
+
 def replaced(programs):
     """--check names the files that differ, and --write replaces them alone, by whole files with their permissions."""
     with tempfile.TemporaryDirectory(prefix="aioc-layout-") as folder:
@@ -95,5 +124,8 @@ def tests(programs):
         yield Test(f"format: {name}", lambda action=action: action(programs))
     for path in sorted(glob.glob("examples/*.aioc")):
         yield Test(f"format: {path}", lambda path=path: stable(programs, path))
+        yield Test(f"format: {path} is in the layout", lambda path=path: example(programs, path))
+    for page in pages():
+        yield Test(f"format: {page}", lambda page=page: of_page(programs, page))
     for name, words, code, lines in OTHERS:
         yield Test(f"format: {name}", lambda it=(words, code, lines): refused(programs, *it))
