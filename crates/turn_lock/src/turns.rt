@@ -1,5 +1,5 @@
 //! The lock, its seats and their turns.
-ghost use Rattle.std.specs.Prelude.{◌≡◌, ◌≢◌, ℕ, ◌+◌, ◌*◌, ◌^◌, ◌<◌, ◌≤◌, List, [], ◌∷◌, ◌++◌, length, map, All, slice_get, IfOk, IfErr, IfSome, IfNone, true, false, Some, None};
+ghost use Rattle.std.specs.Prelude.{◌≡◌, ◌≢◌, ℕ, ◌+◌, ◌*◌, ◌%◌, ◌^◌, ◌<◌, ◌≤◌, List, [], ◌∷◌, ◌++◌, length, map, All, slice_get, IfOk, IfErr, IfSome, IfNone, true, false, Some, None};
 ghost use Rattle.turn_lock.specs.Items.{items_of, BeginsWith, IsAllOf, Shares};
 ghost use Rattle.turn_lock.specs.Views.{number, mine, BeginsWithAll, IsSingle, first_view, split_view, new_view, entered, left, left_with, first_known, split_known, new_known, entered_known, left_known, left_with_known};
 ghost use Rattle.turn_lock.specs.Rule.{Fits};
@@ -9,8 +9,13 @@ use crate::law::{AllSeats, EndsTurn, Law, NewSeat, TakesTurn};
 use crate::views::Known;
 use atomic_table::{Refused, Table};
 use std::alloc::Global;
+use std::hint::spin_loop;
 use std::snapshot::Snapshot;
 use std::sync::Wait;
+use std::sync::atomic::{AtomicU64, Ordering};
+
+/// How often a seat looks whether the turn is free before its thread sleeps.
+const LOOKS: u32 = 100;
 
 /// There was no memory.
 #[derive(Clone, Copy, Debug, PartialEq, Eq)]
@@ -33,6 +38,8 @@ type Words<H> = Table<
 #[derive(Drop)]
 pub struct Turns<H: Chronicle> {
     table: Words<H>,
+    // How many threads sleep, or are about to. No clause rests on it.
+    sleepers: AtomicU64,
     ghost sized: { (table.shared.table_id.words ≡ 1) × (table.shared.table_id.slots ≡ 1) },
 }
 
@@ -92,7 +99,10 @@ impl<H: Chronicle> Turns<H> {
         slots.push_reserved(Some(home));
         match Table::new(alloc, &[0], slots, &about) {
             Ok((table, token)) => Ok((
-                Turns { table },
+                Turns {
+                    table,
+                    sleepers: AtomicU64::new(0),
+                },
                 Seat {
                     token,
                     seen: 0,
@@ -133,7 +143,7 @@ impl<H: Chronicle> Turns<H> {
         )
     }
 
-    /// Sleeps until no other seat has the turn, and takes it. The list begins with what the seat
+    /// Waits until no other seat has the turn, and takes it. The list begins with what the seat
     /// has seen, and the items of the seat's number are those that it has left there, in order. The
     /// mark is what turns may have made of the mark that the seat knows.
     pub fn enter<R: Wait>(&self, rt: &R, seat: Seat<H>) -> Turn<H>
@@ -177,16 +187,53 @@ impl<H: Chronicle> Turns<H> {
             × Fits H.items H.base H.owner H.at H.grows token.old.me.0 h
             × (result ≡ 2 * length (H.items h)) }
     {
-        let shared = &self.table.shared;
         for _ in rt.forever() {
-            let word = shared.peek(0);
-            if word % 2 == 1 {
-                shared.park(rt, 0, (word & 0xffff_ffff) as u32);
-            } else if shared.compare_exchange::<TakesTurn<H>>(token, 0, word, word + 1) == word {
+            let word = self.free_word(rt);
+            let found = self
+                .table
+                .shared
+                .compare_exchange::<TakesTurn<H>>(token, 0, word, word + 1);
+            if found == word {
                 return word;
             }
         }
         unreachable!()
+    }
+
+    // The word, once no seat has the turn. Its thread looks some times before it sleeps.
+    fn free_word<R: Wait>(&self, rt: &R) -> u64
+        ensures { result % 2 ≡ 0 }
+    {
+        for _ in rt.forever() {
+            for _ in 0..LOOKS {
+                let word = self.table.shared.peek(0);
+                if word % 2 == 0 {
+                    return word;
+                }
+                spin_loop();
+            }
+            self.sleep(rt);
+        }
+        unreachable!()
+    }
+
+    // Sleeps while a seat has the turn. The thread is counted before it looks at the word, and who
+    // leaves writes the word before it looks at the count: so who sleeps is woken.
+    fn sleep<R: Wait>(&self, rt: &R) {
+        self.sleepers.fetch_add(1, Ordering::SeqCst);
+        let word = self.table.shared.peek(0);
+        if word % 2 == 1 {
+            let expected = (word & 0xffff_ffff) as u32;
+            self.table.shared.park(rt, 0, expected);
+        }
+        self.sleepers.fetch_sub(1, Ordering::SeqCst);
+    }
+
+    // Wakes one thread that sleeps, where there is one.
+    fn wake(&self) {
+        if self.sleepers.load(Ordering::SeqCst) > 0 {
+            self.table.shared.wake_one(0);
+        }
     }
 
     /// Gives the turn back, with the list as it was. The seat knows the mark as it found it, and as
@@ -262,7 +309,7 @@ impl<H: Chronicle> Turns<H> {
         let before = self.table.shared.exchange(token, 0, Some(home));
         let None = before else { unreachable!() };
         self.table.shared.store::<EndsTurn<H>>(token, 0, 2 * count);
-        self.table.shared.wake_one(0);
+        self.wake();
     }
 }
 
