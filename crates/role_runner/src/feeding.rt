@@ -14,12 +14,14 @@ use std::sync::Wait;
 use turn_lock::Seat;
 
 /// Makes the changes of the script, each once it is due, until none is left, the history is full,
-/// every role has finished, memory runs out or the stage was stopped. The seat comes back, with the
-/// fault for which the last change was refused.
+/// every role has finished, memory runs out or the stage was stopped. It waits at this place, which
+/// is past those of the roles. The seat comes back, with the fault for which the last change was
+/// refused.
 pub(crate) fn feed<R: Wait, G: Gate>(
     rt: &R,
     stage: &Stage,
     gate: &G,
+    place: usize,
     seat: Seat<Home>,
 ) -> (Seat<Home>, CommitFault)
     requires of { IsSeatIn stage.now seat }
@@ -32,13 +34,13 @@ pub(crate) fn feed<R: Wait, G: Gate>(
 {
     let mut seat = seat;
     for _ in rt.forever() {
-        let count = stage.holds(rt);
+        let count = stage.holds_at(place);
         let (next, made) = stage.commit_change(rt, seat);
         seat = next;
         match made {
             Ok(()) => gate.pass(rt, Place::AfterChange),
             Err(fault) => match fault {
-                CommitFault::NotYet => stage.wait_past(rt, count),
+                CommitFault::NotYet => stage.wait_past_at(rt, place, count),
                 CommitFault::Memory => return (stage.stop(rt, seat, Why::Memory(0)), fault),
                 _ => return (seat, fault),
             },

@@ -79,15 +79,17 @@ fn play_on<R: Wait, G: Gate>(
     let mut seat = seat;
     let mut state = state;
     for _ in rt.forever() {
-        let count = stage.holds(rt);
+        let count = stage.holds_at(place as usize);
         if state.is_done() {
             return (stage.finish(rt, seat, role), Some(state));
         }
-        let (next, tried) = take_turn(rt, alloc, stage, bundle, gate, role, seat, &mut state);
+        let (next, tried) = take_turn(
+            rt, alloc, stage, bundle, gate, role, place, seat, &mut state,
+        );
         seat = next;
         match tried {
             Tried::Done => {}
-            Tried::Refused(CommitFault::NotYet) => stage.wait_past(rt, count),
+            Tried::Refused(CommitFault::NotYet) => stage.wait_past_at(rt, place as usize, count),
             Tried::Refused(CommitFault::Full) => {
                 return (stage.stop(rt, seat, Why::Limit), Some(state));
             }
@@ -120,6 +122,7 @@ fn take_turn<R: Wait, G: Gate>(
     bundle: &Bundle,
     gate: &G,
     role: &Role,
+    place: u32,
     seat: Seat<Home>,
     state: &mut FlatRole,
 ) -> (Seat<Home>, Tried)
@@ -136,6 +139,9 @@ fn take_turn<R: Wait, G: Gate>(
     let Ok(acts) = state.acts(alloc) else {
         return (seat, Tried::Refused(CommitFault::Memory));
     };
+    if only_takes(acts.as_slice()) {
+        stage.wait_for_mail(rt, place as usize);
+    }
     let mut seat = seat;
     for act in acts.as_slice() {
         let (next, tried) = try_act(rt, alloc, stage, bundle, gate, role, seat, state, act);
@@ -145,6 +151,11 @@ fn take_turn<R: Wait, G: Gate>(
         }
     }
     (seat, Tried::Refused(CommitFault::NotYet))
+}
+
+/// Whether each act takes a message.
+fn only_takes(acts: &[Act]) -> bool {
+    acts.iter().all(|act| matches!(act, Act::Take(_)))
 }
 
 /// One try of an act: it is prepared outside the lock, committed inside it, and then done by the

@@ -213,7 +213,7 @@ fn run_place<R: Wait, G: Gate>(
             Job { seat, state }
         }
         None => {
-            let (seat, _fault) = feed(rt, stage, gate, seat);
+            let (seat, _fault) = feed(rt, stage, gate, place, seat);
             Job { seat, state: None }
         }
     }

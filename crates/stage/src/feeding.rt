@@ -45,9 +45,9 @@ impl Stage {
         let mut turn = self.enter(rt, seat);
         match turn.home().scope(head, store) {
             Ok(update) => {
-                turn.home().is_sound();
+                let due = turn.home().is_due();
                 let seat = self.turns.leave_with(turn);
-                self.pulse.beat(rt, false);
+                self.pulses.tell_entry(due);
                 (seat, Ok(update))
             }
             Err(fault) => (self.turns.leave(turn), Err(fault)),
@@ -75,7 +75,7 @@ impl Stage {
             Ok(()) => {
                 turn.home().is_sound();
                 let seat = self.turns.leave_with(turn);
-                self.pulse.beat(rt, false);
+                self.pulses.tell_change();
                 (seat, Ok(()))
             }
             Err(fault) => (self.turns.leave(turn), Err(fault)),

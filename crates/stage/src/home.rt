@@ -186,10 +186,12 @@ impl Home {
         self.history.len() >= self.limit
     }
 
-    /// Whether the script's next change is due.
-    fn is_due(&self) -> bool
-        ensures { result ≡ change_is_due self.now.bundle self.now.history }
+    /// Whether the script's next change is due, with what holds of every home.
+    pub(crate) fn is_due(&self) -> bool
+        ensures due { result ≡ change_is_due self.now.bundle self.now.history }
+        ensures sound { IsSoundHome self.now }
     {
+        self.is_sound();
         is_first_due(&self.coming, self.history.visible_len())
     }
 

@@ -14,6 +14,7 @@ mod marks;
 mod messages;
 mod opening;
 mod pulse;
+mod pulses;
 mod seating;
 mod stage;
 

@@ -32,7 +32,7 @@ impl Stage {
         home.finish(role);
         let over = home.all_finished();
         let seat = self.turns.leave(turn);
-        self.pulse.beat(rt, over);
+        self.pulses.tell_finish(over);
         seat
     }
 
@@ -50,7 +50,7 @@ impl Stage {
         let mut turn = self.enter(rt, seat);
         turn.home().stop(why);
         let seat = self.turns.leave(turn);
-        self.pulse.beat(rt, true);
+        self.pulses.tell_end();
         seat
     }
 }

@@ -19,7 +19,7 @@ ghost use Rattle.turn_lock.specs.Views.{entered, entered_known};
 use crate::faults::CommitFault;
 use crate::home::Home;
 use crate::laws::{deeds_move, others_leave_alone};
-use crate::pulse::Pulse;
+use crate::pulses::Pulses;
 use crate::seating::make_seats;
 use dioc_terms::{Bundle, Entry, Key, Memory, Name, Payload};
 use net_core::steps_run;
@@ -32,12 +32,15 @@ use turn_lock::{Missing, Seat, Turn, Turns};
 /// feeder of changes.
 pub struct Stage {
     pub(crate) turns: Turns<Home>,
-    pub(crate) pulse: Pulse,
+    pub(crate) pulses: Pulses,
 }
 
 impl Drop for Stage {
     fn drop(self) {
-        let Stage { turns: _, pulse: _ } = self;
+        let Stage {
+            turns: _,
+            pulses: _,
+        } = self;
     }
 }
 
@@ -62,13 +65,13 @@ impl Stage {
             IsNewWith (marks_of (opening_home (plain bundle.now) limit)) (known s))
             made.1.items) }
     {
+        let pulses = Pulses::new(alloc, &bundle.cast)?;
         let home = Home::start(alloc, bundle, limit)?;
         let Ok((turns, first)) = Turns::new(alloc, home) else {
             return Err(Memory);
         };
         let seats = make_seats(alloc, &turns, first, bundle.cast.as_slice())?;
-        let pulse = Pulse::new();
-        Ok((Stage { turns, pulse }, seats))
+        Ok((Stage { turns, pulses }, seats))
     }
 
     /// Waits for the turn. The seat's role stands in what is found where it stood.
@@ -113,12 +116,13 @@ impl Stage {
             (λ f. RefusedOnce role_fault (known seat) (known result.0) f) }
     {
         deeds_move();
+        let receiver = self.pulses.place_of(&key.to);
         let mut turn = self.enter(rt, seat);
         match turn.home().put(key, payload) {
             Ok(()) => {
-                turn.home().is_sound();
+                let due = turn.home().is_due();
                 let seat = self.turns.leave_with(turn);
-                self.pulse.beat(rt, false);
+                self.pulses.tell_put(receiver, due);
                 (seat, Ok(()))
             }
             Err(fault) => (self.turns.leave(turn), Err(fault)),
@@ -152,12 +156,13 @@ impl Stage {
         marked_laws::unique_keys();
         marked_laws::mail_is_a_map();
         process_steps::offers_are_steps();
+        let receiver = self.pulses.place_of(&key.to);
         let mut turn = self.enter(rt, seat);
         match turn.home().take(key, var) {
             Ok(payload) => {
-                turn.home().is_sound();
+                let due = turn.home().is_due();
                 let seat = self.turns.leave_with(turn);
-                self.pulse.beat(rt, false);
+                self.pulses.tell_take(receiver, due);
                 (seat, Ok(payload))
             }
             Err(fault) => (self.turns.leave(turn), Err(fault)),
@@ -255,9 +260,9 @@ impl Stage {
         let mut turn = self.enter(rt, seat);
         match turn.home().add(entry) {
             Ok(()) => {
-                turn.home().is_sound();
+                let due = turn.home().is_due();
                 let seat = self.turns.leave_with(turn);
-                self.pulse.beat(rt, false);
+                self.pulses.tell_entry(due);
                 (seat, Ok(()))
             }
             Err(fault) => (self.turns.leave(turn), Err(fault)),
@@ -267,12 +272,32 @@ impl Stage {
     /// Waits until more than `count` holds that changed what lies under the lock have ended. No
     /// clause rests on it.
     pub fn wait_past<R: Wait>(&self, rt: &R, count: u64) {
-        self.pulse.wait_past(rt, count);
+        self.pulses.whole().wait_past(rt, count);
     }
 
     /// How many holds that changed what lies under the lock have ended. No clause rests on it.
     pub fn holds<R: Wait>(&self, rt: &R) -> u64 {
-        self.pulse.count(rt)
+        let _wait = rt;
+        self.pulses.whole().count()
+    }
+
+    /// Waits until more than `count` holds that concern the role at this place of the cast, or past
+    /// the roles the feeder, have ended. No clause rests on it.
+    pub fn wait_past_at<R: Wait>(&self, rt: &R, place: usize, count: u64) {
+        self.pulses.at(place).wait_past(rt, count);
+    }
+
+    /// How many holds that concern the role at this place of the cast, or past the roles the feeder,
+    /// have ended: the puts of messages for it and the changes of a role, the entries after which a
+    /// change is due of the feeder. No clause rests on it.
+    pub fn holds_at(&self, place: usize) -> u64 {
+        self.pulses.at(place).count()
+    }
+
+    /// Waits while no message is pending for the role at this place of the cast, until a hold that
+    /// concerns it has ended. No clause rests on it.
+    pub fn wait_for_mail<R: Wait>(&self, rt: &R, place: usize) {
+        self.pulses.wait_for_mail(rt, place);
     }
 
     /// Ends the stage and gives its history, where the seats are all that were made, in any order.
@@ -289,13 +314,13 @@ impl Stage {
         ensures begins { IfOk result (λ history.
             All (λ s. BeginsWith history.entries (view s).seen) seats.items) }
     {
-        let Stage { turns, pulse } = self;
+        let Stage { turns, pulses } = self;
         match turns.close(seats) {
             Ok(home) => {
-                drop(pulse);
+                drop(pulses);
                 Ok(home.into_history())
             }
-            Err(Missing { turns, seats }) => Err((Stage { turns, pulse }, seats)),
+            Err(Missing { turns, seats }) => Err((Stage { turns, pulses }, seats)),
         }
     }
 }

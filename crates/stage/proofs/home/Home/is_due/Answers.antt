@@ -9,8 +9,8 @@ use Rattle.stage.proofs.HomeLemmas.{due_is}
 use Rattle.stage.specs.Homes.{HomeState}
 use Rattle.stage.proofs.home.Home.is_due.Goals as goal
 
-pub returns : goal.returns
-returns c =
+pub returns-clause-due : goal.returns-clause-due
+returns-clause-due c =
     let i = c.self.inside in
     c.is_first_due.ensures ∙ ap (is_first_due (map due_seen i.coming.items)) c.visible_len.ensures
     ∙ due_is (plain i.of.value) i.limit i.history.entries i.mail i.book (map due_seen i.coming.items) i.updates c.self.invariant.shared

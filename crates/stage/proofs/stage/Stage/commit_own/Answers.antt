@@ -33,7 +33,7 @@ returns-in-Ok-clause-done g c =
     let u = turn_view c.enter-turn.result in
     let home = c.enter-turn.result.home in
     did_own v u (view c.leave_with-seat.result) home c.home-in-Ok.result.now c.enter-turn.ensures.base c.enter-turn.ensures.still c.enter-turn.ensures.sound
-    role_fault (subst (λ (h : HomeState). role_fault h ≡ None) c.home.ensures.value c.in-Ok.ensures.free) c.deeds_move.ensures c.is_sound.ensures
+    role_fault (subst (λ (h : HomeState). role_fault h ≡ None) c.home.ensures.value c.in-Ok.ensures.free) c.deeds_move.ensures c.is_due-due.ensures.sound
     c.steps_show_their_acts.ensures c.args.entry c.requires.can
     (grown_by v u home c.home.result.now c.home-in-Ok.result.now c.args.entry c.enter-turn.ensures.view c.home.ensures.value (c.home-in-Ok.ensures.value ∙ c.in-Ok.ensures.added))
     (record { view = c.leave_with-seat.ensures.view; own = c.leave_with-seat.ensures.met })

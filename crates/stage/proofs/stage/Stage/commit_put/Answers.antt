@@ -45,7 +45,7 @@ returns-in-Ok-clause-done g c =
     let l = load c.args.payload in
     let e = entry.Put k (noted l) in
     did_alone v u (view c.leave_with-seat.result) home c.home-in-Ok.result.now c.enter-turn.ensures.base c.enter-turn.ensures.still c.enter-turn.ensures.sound
-    role_fault (subst (λ (h : HomeState). role_fault h ≡ None) c.home.ensures.value c.in-Ok.ensures.free) c.deeds_move.ensures c.is_sound.ensures
+    role_fault (subst (λ (h : HomeState). role_fault h ≡ None) c.home.ensures.value c.in-Ok.ensures.free) c.deeds_move.ensures c.is_due-due.ensures.sound
     k.from (acts.Put k) (Puts k l) c.requires.can refl refl refl
     (grown_by v u home c.home.result.now c.home-in-Ok.result.now e c.enter-turn.ensures.view c.home.ensures.value (c.home-in-Ok.ensures.value ∙ c.in-Ok.ensures.added))
     (record { view = c.leave_with-seat.ensures.view; own = c.leave_with-seat.ensures.met })

@@ -38,7 +38,7 @@ returns-in-Ok-clause-done g c =
     let u = turn_view c.enter-turn.result in
     let home = c.enter-turn.result.home in
     let s = store_of c.args.store.now in
-    did_begin v home c.enter-turn.ensures.base c.enter-turn.ensures.still u (view c.leave_with-seat.result) c.home-in-Ok.result.now c.enter-turn.ensures.sound c.is_sound.ensures
+    did_begin v home c.enter-turn.ensures.base c.enter-turn.ensures.still u (view c.leave_with-seat.result) c.home-in-Ok.result.now c.enter-turn.ensures.sound c.is_due-due.ensures.sound
     c.offers_are_steps.ensures c.deeds_move.ensures (subst (λ (h : HomeState). role_fault h ≡ None) c.home.ensures.value c.in-Ok.ensures.free)
     c.args.head.now s c.requires.can c.in-Ok.update (c.in-Ok.ensures.chosen ∙ ap (λ (h : HomeState). update_in h c.args.head.now s) c.home.ensures.value)
     (subst (λ (h : HomeState). Grown v u home c.home-in-Ok.result.now (begin_in h c.args.head.now s)) c.home.ensures.value

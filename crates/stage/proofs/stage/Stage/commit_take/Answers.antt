@@ -43,7 +43,7 @@ returns-in-Ok-clause-done g c =
     let e = entry.Take k c.args.var in
     let laws : Laws = record { steps = c.steps_run.ensures; keys = c.unique_keys.ensures; maps = c.mail_is_a_map.ensures; offers = c.offers_are_steps.ensures } in
     did_take v u (view c.leave_with-seat.result) home c.home-in-Ok.result.now c.enter-turn.ensures.base c.enter-turn.ensures.still c.enter-turn.ensures.sound
-    (take_fault k) (subst (λ (h : HomeState). take_fault k h ≡ None) c.home.ensures.value c.in-Ok.ensures.free) c.deeds_move.ensures c.is_sound.ensures
+    (take_fault k) (subst (λ (h : HomeState). take_fault k h ≡ None) c.home.ensures.value c.in-Ok.ensures.free) c.deeds_move.ensures c.is_due-due.ensures.sound
     laws k c.args.var (load c.in-Ok.payload) c.requires.can
     (subst (λ (h : HomeState). pending_at k (network_at h.bundle h.history).pending ≡ Some (load c.in-Ok.payload)) c.home.ensures.value c.in-Ok.ensures.taken)
     (grown_by v u home c.home.result.now c.home-in-Ok.result.now e c.enter-turn.ensures.view c.home.ensures.value (c.home-in-Ok.ensures.value ∙ c.in-Ok.ensures.added))
