@@ -287,9 +287,9 @@ impl Stage {
         self.pulses.at(place).wait_past(rt, count);
     }
 
-    /// How many holds that concern the role at this place of the cast, or past the roles the feeder,
-    /// have ended: the puts of messages for it and the changes of a role, the entries after which a
-    /// change is due of the feeder. No clause rests on it.
+    /// How many holds that concern the role at this place of the cast, or past the roles the
+    /// feeder, have ended: puts of messages for the role and changes; for the feeder entries after
+    /// which a change is due. No clause rests on it.
     pub fn holds_at(&self, place: usize) -> u64 {
         self.pulses.at(place).count()
     }
