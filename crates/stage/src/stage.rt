@@ -277,7 +277,6 @@ impl Stage {
 
     /// How many holds that changed what lies under the lock have ended. No clause rests on it.
     pub fn holds<R: Wait>(&self, rt: &R) -> u64 {
-        let _wait = rt;
         self.pulses.whole().count()
     }
 
