@@ -24,6 +24,7 @@ use Rattle.rule_book.specs.contracts.book.Book as book
 use Rattle.trace_book.specs.contracts.history.History as history
 use Rattle.stage.specs.contracts.home.Home as home
 use Rattle.stage.specs.contracts.home.Home.TheInside as inside
+use Rattle.stage.specs.contracts.pulses.Pulses as pulses
 use Rattle.stage.specs.contracts.stage.Stage as stage
 
 ruleset parts = (crosses, choreo_knot.crosses, expr_knot.crosses, messages_knot.crosses, sendable)
@@ -102,10 +103,16 @@ home_sends = view_send inside.the_row _ _ _ _ (declared_send inside.the_type (
   ),
 ))
 
+pub pulses_syncs : IsSync pulses.the_row
+pulses_syncs = declared_sync pulses.the_type (
+  search (words, parts) depth 60 fits 20000,
+  (search (crosses, sendable) depth 60 fits 20000, (search (crosses, sendable) depth 60 fits 20000, (search (crosses, sendable) depth 60 fits 20000, tt))),
+)
+
 pub stage_syncs : IsSync stage.the_row
 stage_syncs =
     declared_sync stage.the_type
-    (search (home_sends, turns_sync.the_sync, turns_sync.the_field_sync, crosses, sendable) depth 60 fits 20000, (search (crosses, sendable) depth 60 fits 20000, tt))
+    (search (home_sends, turns_sync.the_sync, turns_sync.the_field_sync, crosses, sendable) depth 60 fits 20000, (search (pulses_syncs, crosses, sendable) depth 60 fits 20000, tt))
 
 -- what whoever joins threads over seats and a stage gives to the search, beside `sendable` of the logic: `search (crossing, sendable) depth 60 fits 20000`
 pub ruleset crossing = (home_sends, stage_syncs, seat_sends.the_send, crosses)

@@ -44,7 +44,7 @@ fn mark(cast: &[Role], finished: &mut Vec<bool>, role: &Role)
 }
 
 /// The place of a role in the cast, `None` where it isn't of the cast.
-fn place_of(cast: &[Role], role: &Role) -> Option<usize>
+pub(crate) fn place_of(cast: &[Role], role: &Role) -> Option<usize>
     ensures place { result ≡ position (role_eq role.now) cast.now }
     ensures within { IfSome result (λ place. place < length cast.now) }
 {

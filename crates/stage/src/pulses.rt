@@ -50,9 +50,9 @@ impl Pulses {
         })
     }
 
-    /// The place of a role in the cast, `None` where it isn't of the cast.
-    pub(crate) fn place_of(&self, role: &Role) -> Option<usize> {
-        self.cast.as_slice().iter().position(|one| role == one)
+    /// The roles, by whose places pulses are told.
+    pub(crate) fn cast(&self) -> &[Role] {
+        self.cast.as_slice()
     }
 
     /// The pulse of the role at this place, and past the roles that of the feeder.

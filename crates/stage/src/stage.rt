@@ -16,6 +16,7 @@ ghost use Rattle.stage.specs.Seats.{CanCommit, CanCommitOwn, CanReceive, Committ
 ghost use Rattle.turn_lock.specs.Items.{BeginsWith};
 ghost use Rattle.turn_lock.specs.Views.{entered, entered_known};
 
+use crate::ending::place_of;
 use crate::faults::CommitFault;
 use crate::home::Home;
 use crate::laws::{deeds_move, others_leave_alone};
@@ -116,7 +117,7 @@ impl Stage {
             (λ f. RefusedOnce role_fault (known seat) (known result.0) f) }
     {
         deeds_move();
-        let receiver = self.pulses.place_of(&key.to);
+        let receiver = place_of(self.pulses.cast(), &key.to);
         let mut turn = self.enter(rt, seat);
         match turn.home().put(key, payload) {
             Ok(()) => {
@@ -156,7 +157,7 @@ impl Stage {
         marked_laws::unique_keys();
         marked_laws::mail_is_a_map();
         process_steps::offers_are_steps();
-        let receiver = self.pulses.place_of(&key.to);
+        let receiver = place_of(self.pulses.cast(), &key.to);
         let mut turn = self.enter(rt, seat);
         match turn.home().take(key, var) {
             Ok(payload) => {
