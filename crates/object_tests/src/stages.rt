@@ -140,3 +140,26 @@ fn a_change_after_all_have_finished(rt: HostRuntime) -> Result<(), Fail> {
     assert!(rt; count == 2);
     Ok(())
 }
+
+#[test]
+fn a_stop_ends_all_waits(rt: HostRuntime) -> Result<(), Fail> {
+    let alloc = rt.alloc();
+    let Some(bundle) = bundle_of(alloc, SCRIPTED) else {
+        panic!(rt; "not accepted")
+    };
+    let (stage, mut seats) = Stage::new(alloc, &bundle, LIMIT)?;
+    let (Some(feeder), Some(first)) = (seats.pop(), seats.pop()) else {
+        panic!(rt; "no seats")
+    };
+    let feeder = stage.stop(&rt, feeder, Why::Memory(0));
+    stage.wait_past(&rt, u64::MAX);
+    stage.wait_past_at(&rt, 0, u64::MAX);
+    stage.wait_past_at(&rt, 1, u64::MAX);
+    stage.wait_for_mail(&rt, 0);
+    let holds = stage.holds(&rt);
+    let count = closes(stage, alloc, first, feeder)?;
+    drop((seats, bundle));
+    assert!(rt; holds == 1);
+    assert!(rt; count == 0);
+    Ok(())
+}
