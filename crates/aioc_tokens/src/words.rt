@@ -77,6 +77,9 @@ pub enum Sort {
     Symbol(Punctuator),
 }
 
+/// How many bytes the longest reserved word has.
+const LONGEST_WORD: usize = 5;
+
 /// The first of the words that these bytes spell.
 fn find_spelled(words: &[Word], bytes: &[u8]) -> Option<Word>
     ensures { result ≡ find (λ word. bytes_eq bytes.now (word_spelling word)) words.now }
@@ -114,14 +117,29 @@ fn words_from(first: u8) -> &'static [Word]
     }
 }
 
+/// The reserved word of this one byte.
+#[tactic(auto, unfolding(crate::specs::Words::word_of))]
+fn lone_word(byte: u8) -> Option<Word>
+    ensures { result ≡ word_of (byte ∷ []) }
+{
+    match byte {
+        b'N' => Some(Word::N),
+        b'E' => Some(Word::E),
+        _ => None,
+    }
+}
+
 /// The reserved word that these bytes spell.
 #[tactic(auto, unfolding(crate::specs::Words::word_of))]
 pub fn find_word(bytes: &[u8]) -> Option<Word>
     ensures { result ≡ word_of bytes.now }
 {
-    match bytes.first() {
-        Some(first) => find_spelled(words_from(*first), bytes),
-        None => None,
+    // Most names are short, and no word is longer than five bytes.
+    match bytes {
+        [] => None,
+        [byte] => lone_word(*byte),
+        [first, ..] if bytes.len() <= LONGEST_WORD => find_spelled(words_from(*first), bytes),
+        _ => None,
     }
 }
 
