@@ -6,7 +6,8 @@ use Rattle.aioc_tokens.specs.declared.kinds.Kind.TheVariants as kinds
 use Rattle.aioc_tokens.specs.Tokens.{is_name_byte, is_printable, is_space, escaped, quoted, IsNameSpelling, IsLongestToken, BeginsComment, Spells}
 use Rattle.aioc_tokens.specs.Lexemes.{Number, Symbol}
 use Rattle.aioc_tokens.proofs.Runs.{name_longest, name_bytes}
-use Rattle.aioc_tokens.proofs.Quotes.{text_end, text_end_closes, text_longest}
+use Rattle.aioc_tokens.specs.Packed.{text_end}
+use Rattle.aioc_tokens.proofs.Quotes.{text_end_closes, text_longest}
 use Rattle.aioc_tokens.proofs.Written.{spelling_front}
 use Rattle.bundle_layout.specs.declared.parts.PartKind.{PartKind}
 use Rattle.bundle_layout.specs.declared.parts.PartKind.TheVariants.{Token, Comment}
