@@ -1,4 +1,5 @@
 pub mod ConstantFacts
+pub mod NumberFacts
 pub mod LeafFacts
 pub mod Tables
 pub mod Shorter

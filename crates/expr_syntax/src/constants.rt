@@ -24,13 +24,13 @@ fn number_of(digits: &[u8], most: u64) -> Option<u64>
     requires digits { IsTrue (list_all is_ascii_digit digits.now) }
     ensures { result ≡ number_up_to most digits.now }
 {
-    match std::str::from_utf8(digits) {
-        Ok(digits) => match u64::from_str_radix(digits, 10) {
-            Ok(number) => (number <= most).then_some(number),
-            Err(_) => None,
-        },
-        Err(_) => None,
+    let mut number: u64 = 0;
+    for digit in digits {
+        number = number
+            .checked_mul(10)?
+            .checked_add(u64::from(*digit - b'0'))?;
     }
+    (number <= most).then_some(number)
 }
 
 /// The number at a place of the text, unless it is greater than `most`. Leading zeros don't matter,
