@@ -25,21 +25,8 @@ pub digits_tested : (digits : List ℕ) → list_all is_ascii_digit digits ≡ a
 digits_tested [] = refl
 digits_tested (digit ∷ others) = ap (λ tested. is_ascii_digit digit && tested) (digits_tested others)
 
-pub parsed : {E : Type 0} (digits : List ℕ) (result : Result ℕ E) → ParsesUnsigned 64 10 digits result → IsTrue (list_all is_ascii_digit digits) → OkIff result ((0 < length digits) × (digits_value 10 digits < 2 ^ 64)) (digits_value 10 digits)
-parsed digits result parses all = parse_digits (numerals_by_value (λ digits. all_ascii_digits digits ≡ true) tells_all_ascii_digits) 64 digits result parses (sym (digits_tested digits) ∙ all)
-
-pub digits_utf8 : (digits : List ℕ) → IsTrue (list_all is_ascii_digit digits) → IsUtf8 digits
-digits_utf8 digits all = IsUtf8-from_ascii digits (IsAscii-from_digits digits ((numerals_by_value (λ digits. all_ascii_digits digits ≡ true) tells_all_ascii_digits).to digits (sym (digits_tested digits) ∙ all)))
-
 pub great_number : (most : ℕ) (digits : List ℕ) → most < digits_value 10 digits → None ≡ number_up_to most digits
 great_number most digits great = grind (arith, nat_tests)
-
--- digits that don't fit in 64 bits
-pub unparsed : {E : Type 0} (most : ℕ) (digits seen : List ℕ) (fault : E) → seen ≡ digits → ParsesUnsigned 64 10 seen (Err fault) → IsTrue (list_all is_ascii_digit digits) → 0 < length digits
-    → most < 2 ^ 64 → None ≡ number_up_to most digits
-unparsed {E} most digits seen fault is parses all some fits =
-    let unfit : digits_value 10 digits < 2 ^ 64 → ⊥ = λ small. parsed digits (Err fault) (subst (λ bytes. ParsesUnsigned 64 10 bytes (Err fault)) is parses) all (some, small) in
-    great_number most digits (omega arith)
 
 -- one lexeme is a constant
 pub one_taken : (text : List Lexeme) (at : ℕ) (first : Lexeme) (value : Value) → drop at text ≡ first ∷ drop (at + 1) text

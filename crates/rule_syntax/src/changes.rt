@@ -47,9 +47,9 @@ pub fn change_at(
     ensures { IfOk result (λ found.
         ChangeAt version room text.now at (option_map change_seen found)) }
 {
-    if text.named(at, b"add") {
-        match rule_at(alloc, text, version, room, at + 1)? {
-            Some((rule, next)) => Ok(Some((ReadChange::Add(rule), next))),
+    if text.named(at, b"env") {
+        match binding_at(alloc, text, at + 1)? {
+            Some((bound, next)) => Ok(Some((ReadChange::Env(bound.0, bound.1), next))),
             None => Ok(None),
         }
     } else if text.named(at, b"drop") {
@@ -58,9 +58,9 @@ pub fn change_at(
         }
         let name = name_at(alloc, text, at + 1)?;
         Ok(Some((ReadChange::Drop(name), at + 2)))
-    } else if text.named(at, b"env") {
-        match binding_at(alloc, text, at + 1)? {
-            Some((bound, next)) => Ok(Some((ReadChange::Env(bound.0, bound.1), next))),
+    } else if text.named(at, b"add") {
+        match rule_at(alloc, text, version, room, at + 1)? {
+            Some((rule, next)) => Ok(Some((ReadChange::Add(rule), next))),
             None => Ok(None),
         }
     } else {
