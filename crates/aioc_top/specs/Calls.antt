@@ -91,27 +91,41 @@ ReadsText asked = (found : Command) × (asked ≡ Some found) × (unread_reply f
 -- the table: what each status says of a call
 abbrev pub Happens : Call → Status → Type 0
 Happens call status.Usage =
-    (call.asked ≡ None) × (call.source_after ≡ call.source) × (call.out_after ≡ call.out)
+    (call.asked ≡ None)
+    × (call.source_after ≡ call.source)
+    × (call.out_after ≡ call.out)
     × SaysLine call.err call.err_after usage_line
 Happens call status.Memory =
-    (call.out_after ≡ call.out) × SaysLine call.err call.err_after memory_line
+    (call.out_after ≡ call.out)
+    × SaysLine call.err call.err_after memory_line
     × ReadsNothing call.asked call.source call.source_after
     × ReadsWithinLimit call.source call.source_after
 Happens call status.ReadFault =
-    ReadsText call.asked × Rose call.source.faults call.source_after.faults
+    ReadsText call.asked
+    × Rose call.source.faults call.source_after.faults
     × ReadsWithinLimit call.source call.source_after
     × (call.out_after ≡ call.out)
     × SaysLine call.err call.err_after read_fault_line
 Happens call status.WriteFault =
-    (reply : Reply) × Judges call (Replied reply) × Rose call.out.faults call.out_after.faults
-    × TakesPart call.out.taken call.out_after.taken reply.text × SaysLine call.err call.err_after
-    write_fault_line
-Happens call result = (verdict : Verdict) × Judges call verdict × (result ≡ status_of verdict)
-    × Writes verdict call.out call.out_after × Says verdict call.err call.err_after
+    (reply : Reply)
+    × Judges call (Replied reply)
+    × Rose call.out.faults call.out_after.faults
+    × TakesPart call.out.taken call.out_after.taken reply.text
+    × SaysLine call.err call.err_after write_fault_line
+Happens call result =
+    (verdict : Verdict)
+    × Judges call verdict
+    × (result ≡ status_of verdict)
+    × Writes verdict call.out call.out_after
+    × Says verdict call.err call.err_after
 
 -- a reply is written whole, or a part of it and the fault is said
 abbrev pub PrintsReply : Reply → SinkState → SinkState → SinkState → SinkState → Status → Type 0
-PrintsReply reply out out_after err err_after status.WriteFault = Rose out.faults out_after.faults
-    × TakesPart out.taken out_after.taken reply.text × SaysLine err err_after write_fault_line
-PrintsReply reply out out_after err err_after result = (result ≡ status_of_end reply.end)
-    × WritesText reply.text out out_after × (err_after ≡ err)
+PrintsReply reply out out_after err err_after status.WriteFault =
+    Rose out.faults out_after.faults
+    × TakesPart out.taken out_after.taken reply.text
+    × SaysLine err err_after write_fault_line
+PrintsReply reply out out_after err err_after result =
+    (result ≡ status_of_end reply.end)
+    × WritesText reply.text out out_after
+    × (err_after ≡ err)

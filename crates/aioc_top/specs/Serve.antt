@@ -65,15 +65,21 @@ pub record RunPrinted (options : Options) (result : Status) (source : SourceStat
 
 -- with `run` the roles' threads have made the printed history, and each change that was due came
 -- before any entry of a role
-abbrev pub RunText : Option Command → Status → SourceState → SinkState → SinkState → Type 0
+abbrev pub RunText : Option Command → Status → SourceState → SinkState → SinkState
+    → Type 0
 RunText asked result source out out_after =
-    (options : Options) → asked ≡ Some (command.Run options) → has_printed result ≡ true
+    (options : Options)
+    → asked ≡ Some (command.Run options)
+    → has_printed result ≡ true
     → (run : RunPrinted options result source out out_after) × IsPrompt run.bundle run.history
 
 -- with `step` the printed history is the one that the schedule takes
-abbrev pub StepText : Option Command → Status → SourceState → SinkState → SinkState → Type 0
+abbrev pub StepText : Option Command → Status → SourceState → SinkState → SinkState
+    → Type 0
 StepText asked result source out out_after =
-    (options : Options) → asked ≡ Some (command.Step options) → has_printed result ≡ true
+    (options : Options)
+    → asked ≡ Some (command.Step options)
+    → has_printed result ≡ true
     → (run : RunPrinted options result source out out_after)
     × (run.history ≡ step_history options run.bundle)
 
@@ -82,10 +88,14 @@ abbrev pub RunsBundle : Command → Options → Type 0
 RunsBundle found options = (found ≡ command.Run options) ⊎ (found ≡ command.Step options)
 
 -- the headline, of the very history behind the text
-abbrev pub HeadlineHolds : Option Command → Status → SourceState → SinkState → SinkState → Type 0
+abbrev pub HeadlineHolds : Option Command → Status → SourceState → SinkState → SinkState
+    → Type 0
 HeadlineHolds asked result source out out_after =
-    (options : Options) (found : Command) → asked ≡ Some found → RunsBundle found options
-    → has_printed result ≡ true → RunPrinted options result source out out_after
+    (options : Options) (found : Command)
+    → asked ≡ Some found
+    → RunsBundle found options
+    → has_printed result ≡ true
+    → RunPrinted options result source out out_after
 
 -- The text of a command that says something of a bundle was printed: that of an accepted bundle
 -- which the bytes spell, and these are the source's where it tells them.
@@ -100,15 +110,19 @@ pub record TextPrinted (text_of : PlainBundle → List ℕ) (result : Status) (s
   pub done : result ≡ status.Done
 
 -- with `check` it is the line that tells how large the bundle is
-abbrev pub CheckText : Option Command → Status → SourceState → SinkState → SinkState → Type 0
+abbrev pub CheckText : Option Command → Status → SourceState → SinkState → SinkState
+    → Type 0
 CheckText asked result source out out_after =
-    asked ≡ Some command.Check → has_printed result ≡ true
+    asked ≡ Some command.Check
+    → has_printed result ≡ true
     → TextPrinted (λ b. line_of_text (check_line b)) result source out out_after
 
 -- with `project` a line for each role
-abbrev pub ProjectText : Option Command → Status → SourceState → SinkState → SinkState → Type 0
+abbrev pub ProjectText : Option Command → Status → SourceState → SinkState → SinkState
+    → Type 0
 ProjectText asked result source out out_after =
-    asked ≡ Some command.Project → has_printed result ≡ true
+    asked ≡ Some command.Project
+    → has_printed result ≡ true
     → TextPrinted project_text result source out out_after
 
 -- The judgement of the trace of an accepted bundle was printed, and the status tells it: `Done`
@@ -124,15 +138,20 @@ pub record JudgementPrinted (judge : PlainBundle → Reply) (result : Status) (s
   pub told : result ≡ status_of_end (judge bundle).end
 
 -- with `replay` it is the judgement of the trace section
-abbrev pub ReplayText : Option Command → Status → SourceState → SinkState → SinkState → Type 0
+abbrev pub ReplayText : Option Command → Status → SourceState → SinkState → SinkState
+    → Type 0
 ReplayText asked result source out out_after =
-    asked ≡ Some command.Replay → has_printed result ≡ true
+    asked ≡ Some command.Replay
+    → has_printed result ≡ true
     → JudgementPrinted replay_reply result source out out_after
 
 -- with `monitor` that of one role, which is in the cast
-abbrev pub MonitorText : Option Command → Status → SourceState → SinkState → SinkState → Type 0
+abbrev pub MonitorText : Option Command → Status → SourceState → SinkState → SinkState
+    → Type 0
 MonitorText asked result source out out_after =
-    (role : Role) → asked ≡ Some (command.Monitor role) → has_printed result ≡ true
+    (role : Role)
+    → asked ≡ Some (command.Monitor role)
+    → has_printed result ≡ true
     → (judged : JudgementPrinted (monitor_reply role) result source out out_after)
     × (member role judged.bundle.cast ≡ true)
 
@@ -146,9 +165,12 @@ ResumePrinted options result source out out_after =
     × (resume_stray options judged.bundle ≡ Some n))
 
 -- so it is with `resume`
-abbrev pub ResumeText : Option Command → Status → SourceState → SinkState → SinkState → Type 0
+abbrev pub ResumeText : Option Command → Status → SourceState → SinkState → SinkState
+    → Type 0
 ResumeText asked result source out out_after =
-    (options : Options) → asked ≡ Some (command.Resume options) → has_printed result ≡ true
+    (options : Options)
+    → asked ≡ Some (command.Resume options)
+    → has_printed result ≡ true
     → ResumePrinted options result source out out_after
 
 -- the history is the driven one of the visible entries of the trace section, which are exactly what
@@ -174,9 +196,12 @@ DriveTold options b status.Limit = options.steps < length (visible b.trace.entri
 DriveTold options b _ = Unit {0}
 
 -- with `drive` it is the text of the driven run, or `no` with the number of an entry, or nothing
-abbrev pub DriveText : Option Command → Status → SourceState → SinkState → SinkState → Type 0
+abbrev pub DriveText : Option Command → Status → SourceState → SinkState → SinkState
+    → Type 0
 DriveText asked result source out out_after =
-    (options : Options) → asked ≡ Some (command.Drive options) → has_printed result ≡ true
+    (options : Options)
+    → asked ≡ Some (command.Drive options)
+    → has_printed result ≡ true
     → (judged : JudgementPrinted (drive_reply options) result source out out_after)
     × DriveTold options judged.bundle result
 
@@ -184,17 +209,21 @@ DriveText asked result source out out_after =
 -- the same first refusal, plays, runs and schedules as before.
 pub record IsUpgraded (b : PlainBundle) : Type 0 where
   pub accepted : IsAccepted (with_version 2 b)
-  pub spelled : length (upgrade_text b) ≤ most_bytes → Spells (upgrade_text b) (with_version 2 b)
+  pub spelled : length (upgrade_text b) ≤ most_bytes
+      → Spells (upgrade_text b) (with_version 2 b)
   pub refusals : refusal (with_version 2 b) ≡ refusal b
   pub plays : (trace : List Entry) → play (with_version 2 b) trace ≡ play b trace
-  pub runs : (history : List Entry) → network_run (with_version 2 b) history ≡ network_run b history
-  pub schedules : (seed : Option ℕ) (limit : ℕ) → sched (with_version 2 b) seed limit
-      ≡ sched b seed limit
+  pub runs : (history : List Entry)
+      → network_run (with_version 2 b) history ≡ network_run b history
+  pub schedules : (seed : Option ℕ) (limit : ℕ)
+      → sched (with_version 2 b) seed limit ≡ sched b seed limit
 
 -- with `upgrade` it is the bundle as it is written with version 2
-abbrev pub UpgradeText : Option Command → Status → SourceState → SinkState → SinkState → Type 0
+abbrev pub UpgradeText : Option Command → Status → SourceState → SinkState → SinkState
+    → Type 0
 UpgradeText asked result source out out_after =
-    asked ≡ Some command.Upgrade → has_printed result ≡ true
+    asked ≡ Some command.Upgrade
+    → has_printed result ≡ true
     → (text : TextPrinted upgrade_text result source out out_after) × IsUpgraded text.bundle
 
 -- The text of a mended bundle was printed: that of a bundle which the bytes spell, and these are
@@ -214,27 +243,32 @@ pub record MendedPrinted (result : Status) (source : SourceState) (out out_after
   pub done : result ≡ status.Done
 
 -- with `mend` it is the mended bundle
-abbrev pub MendText : Option Command → Status → SourceState → SinkState → SinkState → Type 0
+abbrev pub MendText : Option Command → Status → SourceState → SinkState → SinkState
+    → Type 0
 MendText asked result source out out_after =
-    asked ≡ Some command.Mend → has_printed result ≡ true
+    asked ≡ Some command.Mend
+    → has_printed result ≡ true
     → MendedPrinted result source out out_after
 
 -- The line of the bundle that is made of these numbers was printed, and the status tells how its
 -- run ended. The bundle is accepted, and the headline holds of the very run that is counted there.
-pub record GenPrinted (number size : ℕ) (result : Status) (out out_after : SinkState) : Type 0 where
-  pub accepted : IsAccepted (made number size)
-  pub network : Network
-  pub headline : Headline (made number size) (gen_history number size) network
-  pub printed : Appends out.taken out_after.taken (line_of_text (gen_line number size
-      (made number size) (gen_history number size) network.updates))
-  pub done : (result ≡ status.Done) ↔ (network_ended (made number size).cast network ≡ true)
-  pub limit : (result ≡ status.Limit) ↔ ((length (gen_history number size) ≡ usual_steps Gen)
-      × (network_ended (made number size).cast network ≡ false))
+pub record GenPrinted (number size : ℕ) (result : Status) (out out_after : SinkState) : Type 0
+  where
+    pub accepted : IsAccepted (made number size)
+    pub network : Network
+    pub headline : Headline (made number size) (gen_history number size) network
+    pub printed : Appends out.taken out_after.taken (line_of_text (gen_line number size
+        (made number size) (gen_history number size) network.updates))
+    pub done : (result ≡ status.Done) ↔ (network_ended (made number size).cast network ≡ true)
+    pub limit : (result ≡ status.Limit) ↔ ((length (gen_history number size) ≡ usual_steps Gen)
+        × (network_ended (made number size).cast network ≡ false))
 
 -- with `gen` it is the line of the made bundle
 abbrev pub GenText : Option Command → Status → SinkState → SinkState → Type 0
 GenText asked result out out_after =
-    (number size : ℕ) → asked ≡ Some (command.Gen number size) → has_printed result ≡ true
+    (number size : ℕ)
+    → asked ≡ Some (command.Gen number size)
+    → has_printed result ≡ true
     → GenPrinted number size result out out_after
 
 -- The text of sessions was printed: that of some bundles which the bytes spell, and these are the
@@ -259,9 +293,11 @@ never_of_sessions status.No = true
 never_of_sessions _ = false
 
 -- with `sessions` it is the text of each of them, in their order
-abbrev pub SessionsText : Option Command → Status → SourceState → SinkState → SinkState → Type 0
+abbrev pub SessionsText : Option Command → Status → SourceState → SinkState → SinkState
+    → Type 0
 SessionsText asked result source out out_after =
-    (options : Options) → asked ≡ Some (command.Sessions options)
+    (options : Options)
+    → asked ≡ Some (command.Sessions options)
     → (never_of_sessions result ≡ false)
     × (has_printed result ≡ true → SessionsPrinted options result source out out_after)
 
@@ -282,9 +318,12 @@ decided _ result = result
 -- them, as far as these decide it; only want of memory and a fault of a device stand before it.
 pub record ComesExactly (wanted result : Status) (asked : Option Command) (source : SourceState) :
     Type 0 where
-  pub only : result ≡ wanted → (found : Command) × (asked ≡ Some found)
+  pub only : result ≡ wanted
+      → (found : Command)
+      × (asked ≡ Some found)
       × IfSome source.left (Cause found wanted)
-  pub always : (found : Command) → asked ≡ Some found
+  pub always : (found : Command)
+      → asked ≡ Some found
       → IfSome source.left (λ bytes. Cause found wanted bytes
       → (decided found result ≡ decided found wanted) ⊎ GivesUp result)
 
@@ -298,25 +337,36 @@ pub record UsageComes (result : Status) (asked : Option Command) : Type 0 where
 -- or want of memory; so do sessions that are spelled; and a command that reads nothing gets its
 -- reply, or want of memory.
 pub record IsComplete (result : Status) (found : Command) (source : SourceState) : Type 0 where
-  pub text : session_options found ≡ None → unread_reply found ≡ None → IfSome source.left
-      (λ bytes. (b : PlainBundle) → Spells bytes b → refusal_of found b ≡ None
+  pub text : session_options found ≡ None
+      → unread_reply found ≡ None
+      → IfSome source.left (λ bytes. (b : PlainBundle)
+      → Spells bytes b
+      → refusal_of found b ≡ None
       → ((reply : Reply) × Replies found b reply × (result ≡ status_of_end reply.end))
       ⊎ (result ≡ status.Memory))
-  pub sessions : (options : Options) → session_options found ≡ Some options → IfSome source.left
-      (λ bytes. (bundles : List PlainBundle) → SpellsSessions bytes bundles
+  pub sessions : (options : Options)
+      → session_options found ≡ Some options
+      → IfSome source.left (λ bytes. (bundles : List PlainBundle)
+      → SpellsSessions bytes bundles
       → (result ≡ status.Done) ⊎ (result ≡ status.Memory))
   pub unread : (reply : Reply) → unread_reply found ≡ Some reply
       → (result ≡ status_of_end reply.end) ⊎ (result ≡ status.Memory)
 
-abbrev pub Complete : Status → Option Command → SourceState → SourceState → SinkState → SinkState
-    → Type 0
-Complete result asked source source_after out out_after = (found : Command) → asked ≡ Some found
-    → (Rose source.faults source_after.faults → ⊥) → (Rose out.faults out_after.faults → ⊥)
+abbrev pub Complete : Status → Option Command → SourceState → SourceState
+    → SinkState → SinkState → Type 0
+Complete result asked source source_after out out_after =
+    (found : Command)
+    → asked ≡ Some found
+    → (Rose source.faults source_after.faults → ⊥)
+    → (Rose out.faults out_after.faults → ⊥)
     → IsComplete result found source
 
 -- what a text was read for comes after its end
 abbrev pub AfterEnd : Option Command → SourceState → Type 0
-AfterEnd asked source_after = (found : Command) → asked ≡ Some found → unread_reply found ≡ None
+AfterEnd asked source_after =
+    (found : Command)
+    → asked ≡ Some found
+    → unread_reply found ≡ None
     → IsAtEnd source_after.left
 
 -- How far a text was read: to its end; of one that is too long one byte more than the limit; and no
@@ -356,14 +406,17 @@ pub record PartPrinted (asked : Option Command) (source : SourceState) (out out_
 abbrev pub Silent : Status → Option Command → SourceState → SinkState → SinkState → Type 0
 Silent status.Done asked source out out_after = Unit {0}
 Silent status.Limit asked source out out_after =
-    (options : Options) → asked ≡ Some (command.Drive options) → out_after ≡ out
+    (options : Options)
+    → asked ≡ Some (command.Drive options)
+    → out_after ≡ out
 Silent status.No asked source out out_after = Unit {0}
 Silent status.WriteFault asked source out out_after = PartPrinted asked source out out_after
 Silent _ asked source out out_after = out_after ≡ out
 
 -- `err` isn't called where `out` took the whole text, and else it took the line of the status, or a
 -- part of it where it failed
-abbrev pub SaysWhy : Status → Option Command → SourceState → SinkState → SinkState → Type 0
+abbrev pub SaysWhy : Status → Option Command → SourceState → SinkState → SinkState
+    → Type 0
 SaysWhy status.Done asked source err err_after = err_after ≡ err
 SaysWhy status.Limit asked source err err_after = err_after ≡ err
 SaysWhy status.No asked source err err_after = err_after ≡ err
@@ -372,11 +425,15 @@ SaysWhy status.ReadFault asked source err err_after = SaysLine err err_after rea
 SaysWhy status.WriteFault asked source err err_after = SaysLine err err_after write_fault_line
 SaysWhy status.TooLong asked source err err_after = SaysLine err err_after too_long_line
 SaysWhy status.Syntax asked source err err_after =
-    (found : Command) × (asked ≡ Some found) × ((byte : ℕ)
+    (found : Command)
+    × (asked ≡ Some found)
+    × ((byte : ℕ)
     × SaysLine err err_after (syntax_line byte)
     × IfSome source.left (λ bytes. Comes found bytes (Unspelled byte)))
 SaysWhy status.Refused asked source err err_after =
-    (found : Command) × (asked ≡ Some found) × ((why : Reason)
+    (found : Command)
+    × (asked ≡ Some found)
+    × ((why : Reason)
     × SaysLine err err_after (refusal_line why)
     × IfSome source.left (λ bytes. Refuses found bytes why))
 SaysWhy status.Memory asked source err err_after = SaysLine err err_after memory_line

@@ -10,7 +10,7 @@ ghost use Rattle.rule_checks.specs.declared.refusals.Where.TheVariants as place;
 ghost use Rattle.aioc_top.specs.Replies.{monitor_refusal, monitor_reply, reply_of};
 
 use crate::replies::{Written, say_no, say_yes};
-use dioc_terms::{Bundle, Memory, Role};
+use dioc_terms::{Bundle, Memory, Role, is_among};
 use net_laws::accepted_is_sound;
 use role_monitor::{FeedFault, Monitor};
 use rule_checks::{Refusal, Where, accept};
@@ -61,10 +61,4 @@ fn known(alloc: Global, role: &Role, cast: &[Role]) -> Result<(), Refusal>
     } else {
         Err(Refusal::UnknownRole(Where::Program, role.copy(alloc)?))
     }
-}
-
-fn is_among(role: &Role, cast: &[Role]) -> bool
-    ensures { result ≡ member role.now cast.now }
-{
-    cast.iter().any(|other| role == other)
 }
