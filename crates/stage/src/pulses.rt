@@ -139,10 +139,10 @@ impl Pulses {
 fn make_bells(alloc: Global, cast: &[Role]) -> Result<Vec<Bell>, Memory> {
     let mut bells = Vec::with_capacity(alloc, cast.len())?;
     for _role in cast {
-        bells.push_reserved(Bell {
+        bells.push(Bell {
             pulse: Pulse::new(),
             mail: AtomicU64::new(0),
-        });
+        })?;
     }
     Ok(bells)
 }
