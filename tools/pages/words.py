@@ -1,6 +1,6 @@
 """Whether completions/ and the manual page know the commands and their options, and no others.
 
-What there is comes from the definition: the table of command_words.
+What there is comes from the definition: the table of command_words; of aioc-tool from the lines of usage that it tells.
 """
 import re
 import subprocess
@@ -10,6 +10,7 @@ from pages.table import read
 TABLE = "crates/command_words/specs/Commands.antt"
 BASH, ZSH, FISH = (f"completions/aioc.{it}" for it in ("bash", "zsh", "fish"))
 MANUAL = "docs/aioc.1"
+TOOL = "crates/aioc_tool/src/main.rt"
 
 
 def table_of_commands():
@@ -64,11 +65,41 @@ def explained():
     return {name: kind == "I" for kind, name in re.findall(r"^\.TP\n\.B(I?) \\-\\-(\w+)", section, re.M)}
 
 
+# ---- aioc-tool
+
+def commands_of_tool():
+    """The commands of aioc-tool with their options, by its lines of usage."""
+    rows = re.findall(r'b"(?:usage:|      ) aioc-tool (\w+) ([^"]*)\\n"', read(TOOL))
+    return {command: set(re.findall(r"--(\w+)", rest)) for command, rest in rows}
+
+
+def tool_knows():
+    """What each file of the completions knows of aioc-tool."""
+    bash, zsh, fish = (read(f"completions/aioc-tool.{it}") for it in ("bash", "zsh", "fish"))
+    listed = re.search(r"compgen -W '([^']+)'", bash)[1].split()
+    rows = {it: re.search(rf"^    {it}\) .*options='([^']+)'", bash, re.M) for it in listed}
+    yield "bash", {it: set(re.findall(r"--(\w+)", row[1] if row else "")) for it, row in rows.items()}
+    cases = dict(re.findall(r"^    (\w+)\)\n        _arguments ((?:.|\n)*?)\n        ;;", zsh, re.M))
+    commands = re.findall(r"^ +'(\w+):[^']+'$", zsh, re.M)
+    yield "zsh", {it: set(re.findall(r"--(\w+)\[", cases.get(it, ""))) for it in commands}
+    commands = re.findall(r"^complete -c aioc-tool -n __fish_use_subcommand -a (\w+)", fish, re.M)
+    row = r"^complete -c aioc-tool -n '__fish_seen_subcommand_from {}' -l (\w+) -d"
+    yield "fish", {it: set(re.findall(row.format(it), fish, re.M)) for it in commands}
+
+
+def check_tool():
+    wanted = commands_of_tool()
+    if not wanted:
+        return [f"the commands of aioc-tool can't be read from {TOOL}"]
+    return [f"completions/aioc-tool.{shell}: it knows {known}, and the program {wanted}"
+            for shell, known in tool_knows() if known != wanted]
+
+
 def check_words():
     wanted = table_of_commands()
     if not wanted:
         return [f"the commands can't be read from {TABLE}"]
-    problems = []
+    problems = check_tool()
     for file, knows in ((BASH, bash_knows()), (ZSH, zsh_knows()), (FISH, fish_knows()), (MANUAL, manual_knows())):
         for command in sorted(wanted.keys() | knows.keys()):
             if command not in knows:

@@ -11,7 +11,9 @@ NAMES = ("aioc", "aioc-diagram", "aioc-tool")
 HELLO, GREETED = "aioc { hi: a(1) -> b(x) }", ["put a -> b hi#0.0 = 1", "take a -> b hi#0.0 x", "ended 2"]
 WRONG_SUM = "{0}: release/{0} is not run: its sum is not the one in release/SHA256SUMS"
 INSTALLED = {"bin/aioc", "bin/aioc-diagram", "share/man/man1/aioc.1", "share/bash-completion/completions/aioc",
-             "share/zsh/site-functions/_aioc", "share/fish/vendor_completions.d/aioc.fish"}
+             "share/zsh/site-functions/_aioc", "share/fish/vendor_completions.d/aioc.fish",
+             "share/bash-completion/completions/aioc-tool", "share/zsh/site-functions/_aioc-tool",
+             "share/fish/vendor_completions.d/aioc-tool.fish"}
 
 
 class Copy:

@@ -3,3 +3,4 @@ pub mod Places
 pub mod Verdicts
 pub mod Rendering
 pub mod Calls
+pub mod Marked

@@ -5,6 +5,7 @@ mod calls;
 mod crowds;
 mod diagnostic;
 mod examining;
+pub mod laws;
 mod mending;
 mod places;
 mod refusals;
