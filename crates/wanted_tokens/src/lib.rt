@@ -13,4 +13,5 @@ mod tokens;
 mod traces;
 
 pub use goals::Goal;
-pub use stack::first_unwanted;
+pub use looks::{Look, look_at};
+pub use stack::{first_unwanted, is_over, take};

@@ -125,8 +125,9 @@ fn put_before(stack: &mut Vec<Goal>, wanted: &[Goal], last: Option<Goal>) -> Res
     put_all(stack, wanted)
 }
 
-/// Takes a token off what is wanted, and says whether it is wanted at all.
-fn take(stack: &mut Vec<Goal>, second: &mut bool, look: Look) -> Result<bool, Memory>
+/// Takes a token off what is wanted, whose last goal comes first, and says whether it is wanted at
+/// all. After `false` nothing of the goals is kept.
+pub fn take(stack: &mut Vec<Goal>, second: &mut bool, look: Look) -> Result<bool, Memory>
     ensures { IfOk result (λ is_wanted. reading_behind second.old (reverse stack.old.items) look
         ≡ (if is_wanted
         then Some (record { second = second.new; wanted = reverse stack.new.items })
@@ -147,7 +148,7 @@ fn take(stack: &mut Vec<Goal>, second: &mut bool, look: Look) -> Result<bool, Me
 }
 
 /// Whether none of the goals wants a token.
-fn is_over(stack: &[Goal], second: bool) -> bool
+pub fn is_over(stack: &[Goal], second: bool) -> bool
     ensures { result ≡ may_end second stack.now }
 {
     stack.iter().all(|goal| is_passed(second, *goal))
