@@ -12,7 +12,7 @@ ghost use Rattle.limits.specs.Limits.{most_text_bytes};
 use crate::kinds::{Kind, Token};
 use crate::packed::Packed;
 use crate::scan::{name_length, number_length, text_length};
-use crate::words::{Sort, find_punctuator, find_word};
+use crate::words::{Sort, find_punctuator, find_word, lone_word};
 use limits::{MOST_NAME_BYTES, MOST_TEXT_BYTES};
 use std::alloc::{AllocError, Global};
 use std::marker::Model;
@@ -74,14 +74,35 @@ fn copied_value(alloc: Global, bytes: &[u8]) -> Result<Vec<u8>, AllocError>
     Ok(value)
 }
 
-/// The sort of a name: a reserved word, or one that is short enough, or too long.
-pub(crate) fn name_sort(bytes: &[u8]) -> Sort
+/// The sort of a name of one byte.
+fn lone_sort(byte: u8) -> Sort
+    ensures { result ≡ sort_of (lexeme Kind.Name (byte ∷ []) ∷ []) }
+{
+    match lone_word(byte) {
+        Some(word) => Sort::Reserved(word),
+        None => Sort::Name,
+    }
+}
+
+/// The sort of a name of any length.
+fn long_sort(bytes: &[u8]) -> Sort
     ensures { result ≡ sort_of (lexeme Kind.Name bytes.now ∷ []) }
 {
     match find_word(bytes) {
         Some(word) => Sort::Reserved(word),
         None if bytes.len() <= MOST_NAME_BYTES => Sort::Name,
         None => Sort::Long,
+    }
+}
+
+/// The sort of a name: a reserved word, or one that is short enough, or too long.
+pub(crate) fn name_sort(bytes: &[u8]) -> Sort
+    ensures { result ≡ sort_of (lexeme Kind.Name bytes.now ∷ []) }
+{
+    // Many names have one byte, of which little is to be asked.
+    match bytes {
+        [byte] => lone_sort(*byte),
+        _ => long_sort(bytes),
     }
 }
 

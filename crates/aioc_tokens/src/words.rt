@@ -119,7 +119,7 @@ fn words_from(first: u8) -> &'static [Word]
 
 /// The reserved word of this one byte.
 #[tactic(auto, unfolding(crate::specs::Words::word_of))]
-fn lone_word(byte: u8) -> Option<Word>
+pub(crate) fn lone_word(byte: u8) -> Option<Word>
     ensures { result ≡ word_of (byte ∷ []) }
 {
     match byte {
@@ -134,10 +134,9 @@ fn lone_word(byte: u8) -> Option<Word>
 pub fn find_word(bytes: &[u8]) -> Option<Word>
     ensures { result ≡ word_of bytes.now }
 {
-    // Most names are short, and no word is longer than five bytes.
+    // No word is longer than five bytes.
     match bytes {
         [] => None,
-        [byte] => lone_word(*byte),
         [first, ..] if bytes.len() <= LONGEST_WORD => find_spelled(words_from(*first), bytes),
         _ => None,
     }

@@ -6,7 +6,7 @@ use Rattle.aioc_tokens.specs.Words.{word_spelling, word_of}
 use Rattle.aioc_tokens.proofs.words.find_word.Goals as goal
 
 -- words among which each word with this first byte is found
-found_among : (bytes : List ℕ) (words : List Word) → 2 ≤ length bytes
+found_among : (bytes : List ℕ) (words : List Word) → 1 ≤ length bytes
     → ((others : List ℕ) → word_of (slice_index_or bytes 0 0 ∷ others) ≡ find (λ word. bytes_eq (slice_index_or bytes 0 0 ∷ others) (word_spelling word)) words)
     → find (λ word. bytes_eq bytes (word_spelling word)) words ≡ word_of bytes
 found_among [] words more all = absurd (omega arith)
