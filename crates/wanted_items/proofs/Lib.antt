@@ -1,1 +1,2 @@
-mod TrialTexts
+mod Tries
+mod Walking

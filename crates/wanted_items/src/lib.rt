@@ -3,6 +3,7 @@
 
 mod items;
 mod trials;
+mod walks;
 
 pub use items::{Item, Placed};
 pub use trials::{ITEMS, may_end, wanted};

@@ -1,19 +1,19 @@
-//! Trials: a text up to a place with one token behind it, to see whether that may stand there.
+//! Trials: each item in the place of a token, to see whether it may stand there.
 
 ghost use Rattle.std.specs.Prelude.{◌≡◌, ◌≤◌, ◌∷◌, ◌++◌, [], take, filter, length, List, IfOk, OnOk, if◌then◌else◌};
 ghost use Rattle.aioc_tokens.specs.Lexing.{Lexes};
-ghost use Rattle.aioc_tokens.specs.Lexemes.{Lexeme, lexemes, HasLexemes};
-ghost use Rattle.text_places.specs.Laws.{HasTokens, up_to};
-ghost use Rattle.wanted_tokens.specs.declared.goals.Goal.TheVariants as goal;
-ghost use Rattle.wanted_tokens.specs.Wanted.{unwanted};
-ghost use Rattle.wanted_items.specs.Items.{lexeme_of, stops_at, is_wanted, may_end};
+ghost use Rattle.aioc_tokens.specs.Lexemes.{Lexeme, lexemes};
+ghost use Rattle.wanted_tokens.specs.Looks.{look};
+ghost use Rattle.wanted_items.specs.Items.{lexeme_of, is_wanted, may_end};
+ghost use Rattle.wanted_items.specs.Walks.{IsWalk, TakesItem};
 
 use crate::items::{Item, Placed};
-use aioc_tokens::{Lexed, Punctuator, Token, Word, place};
+use crate::walks::{Walk, walk_to};
+use aioc_tokens::{Lexed, Punctuator, Token, Word};
 use dioc_terms::Memory;
 use std::alloc::Global;
 use text_places::tokens_of;
-use wanted_tokens::{Goal, first_unwanted};
+use wanted_tokens::{Goal, Look, look_at};
 
 /// All items, in the order in which a person is told of them.
 pub const ITEMS: [Item; 78] = [
@@ -97,71 +97,52 @@ pub const ITEMS: [Item; 78] = [
     Item::Symbol(Punctuator::Bang),
 ];
 
-/// The text up to a token, and a line feed behind it.
-fn text_up_to(alloc: Global, bytes: &[u8], known: &[Token], at: usize) -> Result<Vec<u8>, Memory>
-    requires { Lexes 0 bytes.now known.now }
-    ensures bytes { IfOk result (λ text. text.items ≡ up_to bytes.now known.now at) }
-    ensures reads { IfOk result (λ text.
-        HasLexemes text.items (take at (lexemes bytes.now known.now))) }
+/// What is seen of the token of an item.
+fn look_of(alloc: Global, item: Item) -> Result<Look, Memory>
+    ensures { IfOk result (λ seen. seen ≡ look (lexeme_of item ∷ [])) }
 {
-    let mut text = Vec::from_slice(alloc, &bytes[..place(bytes, known, at)])?;
-    text.push(b'\n')?;
-    Ok(text)
+    let spelling = item.spelling();
+    let found = tokens_of(alloc, spelling)?;
+    Ok(look_at(&Lexed::new(spelling, &found), 0))
 }
 
-/// The text up to a token, and the token of an item on a line behind it.
-fn text_with(
-    alloc: Global,
-    bytes: &[u8],
-    known: &[Token],
-    at: usize,
-    item: Item,
-) -> Result<Vec<u8>, Memory>
-    requires { Lexes 0 bytes.now known.now }
-    ensures { IfOk result (λ text. HasLexemes text.items
-        (take at (lexemes bytes.now known.now) ++ lexeme_of item ∷ [])) }
+/// A goal that takes the token of an item.
+fn goal_of(item: Item) -> Goal
+    ensures { TakesItem result item }
 {
-    let mut text = text_up_to(alloc, bytes, known, at)?;
-    text.extend_from_slice(item.spelling())?;
-    Ok(text)
-}
-
-/// The first token of a text that may not stand there in a bundle.
-fn first_in(alloc: Global, text: &[u8]) -> Result<Option<usize>, Memory>
-    requires { HasTokens text.now }
-    ensures { IfOk result (λ first. (found : List Lexeme) → HasLexemes text.now found
-        → first ≡ unwanted goal.Bundle found) }
-{
-    let found = tokens_of(alloc, text)?;
-    first_unwanted(alloc, &Lexed::new(text, &found), Goal::Bundle)
-}
-
-/// Whether the place is that of the first token that may not stand there.
-fn stops_at(first: Option<usize>, at: usize) -> bool
-    ensures { result ≡ stops_at at first }
-{
-    match first {
-        Some(place) => place == at,
-        None => false,
+    match item {
+        Item::Name | Item::Placed(_) => Goal::Name,
+        Item::Number | Item::Two => Goal::Number(2),
+        Item::Text => Goal::Value,
+        Item::Reserved(word) => Goal::Reserved(word),
+        Item::Symbol(punctuator) => Goal::Symbol(punctuator),
     }
 }
 
-/// Whether the token of an item would be taken at a place of a text, in place of what stands there.
-fn is_wanted(
+/// What is wanted behind the tokens before a place of a text.
+fn walk_before(
     alloc: Global,
     bytes: &[u8],
     known: &[Token],
     at: usize,
-    item: Item,
-) -> Result<bool, Memory>
+) -> Result<Option<Walk>, Memory>
     requires lexes { Lexes 0 bytes.now known.now }
     requires within { at ≤ length known.now }
-    ensures { IfOk result (λ wanted. wanted
-        ≡ is_wanted (take at (lexemes bytes.now known.now)) item) }
+    ensures { IfOk result (IsWalk (take at (lexemes bytes.now known.now))) }
 {
-    let trial = text_with(alloc, bytes, known, at, item)?;
-    let first = first_in(alloc, &trial)?;
-    Ok(!stops_at(first, at))
+    walk_to(alloc, &Lexed::new(bytes, known), at)
+}
+
+/// Whether the token of an item would be taken behind the tokens of a walk, or one of these isn't
+/// wanted itself.
+fn is_wanted(alloc: Global, walk: &Option<Walk>, item: Item) -> Result<bool, Memory>
+    ensures { IfOk result (λ wanted. (front : List Lexeme) → IsWalk front walk.now
+        → wanted ≡ is_wanted front item) }
+{
+    match walk {
+        Some(walk) => walk.takes(alloc, look_of(alloc, item)?, goal_of(item)),
+        None => Ok(true),
+    }
 }
 
 /// Whether a bundle may end before a token of a text.
@@ -170,9 +151,10 @@ pub fn may_end(alloc: Global, bytes: &[u8], known: &[Token], at: usize) -> Resul
     requires within { at ≤ length known.now }
     ensures { IfOk result (λ over. over ≡ may_end (take at (lexemes bytes.now known.now))) }
 {
-    let trial = text_up_to(alloc, bytes, known, at)?;
-    let first = first_in(alloc, &trial)?;
-    Ok(first.is_none())
+    match walk_before(alloc, bytes, known, at)? {
+        Some(walk) => Ok(walk.is_over()),
+        None => Ok(false),
+    }
 }
 
 /// Puts an item behind the others where it is wanted.
@@ -186,35 +168,28 @@ fn push_where(items: &mut Vec<Item>, item: Item, wanted: bool) -> Result<(), Mem
     Ok(())
 }
 
-/// Those of these items that may stand at a place of a text.
-fn wanted_among(
-    alloc: Global,
-    bytes: &[u8],
-    known: &[Token],
-    at: usize,
-    all: &[Item],
-) -> Result<Vec<Item>, Memory>
-    requires lexes { Lexes 0 bytes.now known.now }
-    requires within { at ≤ length known.now }
-    ensures { IfOk result (λ items. items.items
-        ≡ filter (is_wanted (take at (lexemes bytes.now known.now))) all.now) }
+/// Those of these items that would be taken behind the tokens of a walk.
+fn wanted_among(alloc: Global, walk: &Option<Walk>, all: &[Item]) -> Result<Vec<Item>, Memory>
+    ensures { IfOk result (λ items. (front : List Lexeme) → IsWalk front walk.now
+        → items.items ≡ filter (is_wanted front) all.now) }
 {
     let mut items = Vec::new(alloc);
     for item in all {
-        let wanted = is_wanted(alloc, bytes, known, at, *item)?;
+        let wanted = is_wanted(alloc, walk, *item)?;
         push_where(&mut items, *item, wanted)?;
     }
     Ok(items)
 }
 
 /// The items that may stand at a place of a text, in place of the token there: those whose token
-/// would be taken behind the tokens before it, in the order of [`ITEMS`]. The time grows with the
-/// length of the text for each of them. The error says that memory ran out.
+/// would be taken behind the tokens before it, in the order of [`ITEMS`]. The text up to the place
+/// is read once. The error says that memory ran out.
 pub fn wanted(alloc: Global, bytes: &[u8], known: &[Token], at: usize) -> Result<Vec<Item>, Memory>
     requires lexes { Lexes 0 bytes.now known.now }
     requires within { at ≤ length known.now }
     ensures { IfOk result (λ items. items.items
         ≡ filter (is_wanted (take at (lexemes bytes.now known.now))) ITEMS) }
 {
-    wanted_among(alloc, bytes, known, at, ITEMS.as_slice())
+    let walk = walk_before(alloc, bytes, known, at)?;
+    wanted_among(alloc, &walk, ITEMS.as_slice())
 }
