@@ -14,7 +14,6 @@ use Rattle.command_words.specs.declared.commands.Command.TheVariants as command
 use Rattle.command_words.specs.declared.commands.Verb.{Verb}
 use Rattle.command_words.specs.declared.commands.Verb.TheVariants.{Run, Step, Check, Project, Replay, Gen, Upgrade, Mend, Drive, Resume, Monitor, Sessions}
 use Rattle.aioc_top.specs.Words.{asked, is_threaded, needs_threads, IsShort}
-use Rattle.aioc_top.specs.Replies.{session_options}
 
 -- where a chain of two answers something, the first answered
 first_answered : {A B : Type 0} (f : A → Option B) (o : Option A) (y : B) → option_and_then f o ≡ Some y → (x : A) × (o ≡ Some x) × (f x ≡ Some y)
@@ -183,8 +182,3 @@ asked_alone words found alone h = by_words words alone (kept_words (list_all is_
         let given = first_answered (λ g. command_with verb.0 (text_of g)) (given_by (known_options verb.0) (positional_names verb.0) others) found verb.2 in
         let parts = or_parts (bytes_eq name (codes "run")) (bytes_eq name (codes "sessions")) quiet in
         alone_with verb.0 (text_of given.0) found (other_verb name verb.0 Run parts.0 verb.1) (other_verb name verb.0 Sessions parts.1 verb.1) given.2
-
--- a command that threads don't do reads one bundle, where it reads
-pub alone_single : (found : Command) → needs_threads found ≡ false → session_options found ≡ None
-alone_single (command.Sessions options) h = absurd (true≢false h)
-alone_single _ h = refl

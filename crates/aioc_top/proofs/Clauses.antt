@@ -6,7 +6,6 @@ use Rattle.std.specs.List.{All}
 use Rattle.std.proofs.lemmas.List.Elements.{All-weaker}
 use Rattle.std.specs.Io.KnownBytes.{Appends, IsAtEnd}
 use Rattle.aioc_io.specs.Faults.{Rose}
-use Rattle.aioc_io.specs.Sink.{SinkState}
 use Rattle.aioc_io.specs.Source.{SourceState}
 use Rattle.dioc_terms.specs.declared.entries.Entry.{Entry}
 use Rattle.dioc_terms.specs.Plain.{PlainBundle}
@@ -101,7 +100,7 @@ asked_for call status.TooLong h none = absurd (none_some (sym none ∙ h.1.asked
 asked_for call status.Syntax h none = absurd (none_some (sym none ∙ h.1.asked))
 asked_for call status.Refused h none = absurd (none_some (sym none ∙ h.1.asked))
 
-pub usage : (call : Call) (s : Status) → Happens call s → UsageComes s call.asked
+pub usage : (call : Call) (s : Status) → Happens call s → UsageComes call s
 usage call s h = record { only = λ e. (subst (Happens call) e h).0; always = asked_for call s h }
 
 pub read_fault : (call : Call) (s : Status) → Happens call s → s ≡ status.ReadFault → ReadsText call.asked × Rose call.source.faults call.source_after.faults
@@ -171,7 +170,7 @@ reads_nothing call status.TooLong h = judged_nothing call h.0 h.1
 reads_nothing call status.Syntax h = judged_nothing call h.0 h.1
 reads_nothing call status.Refused h = judged_nothing call h.0 h.1
 
-reads_so_far : (call : Call) (s : Status) → Happens call s → ReadsSoFar s call.asked call.source call.source_after
+reads_so_far : (call : Call) (s : Status) → Happens call s → ReadsSoFar call s
 reads_so_far call status.Usage h = h.1
 reads_so_far call status.Done h = after_end call h.0 h.1 status.Done h.2 (λ e. cc)
 reads_so_far call status.Limit h = after_end call h.0 h.1 status.Limit h.2 (λ e. cc)
@@ -184,7 +183,7 @@ reads_so_far call status.ReadFault h = h.2
 reads_so_far call status.TooLong h = passes_limit call h.0 h.1 h.2
 reads_so_far call status.Memory h = h.3
 
-pub reads_all : (call : Call) (s : Status) → Happens call s → ReadsAll s call.asked call.source call.source_after
+pub reads_all : (call : Call) (s : Status) → Happens call s → ReadsAll call s
 reads_all call s h = record { so_far = reads_so_far call s h; nothing = reads_nothing call s h }
 
 -- nothing was written where nothing was printed
@@ -211,7 +210,7 @@ idle_drive call h options asked =
     let limit : status.Limit ≡ status_of_end (drive_reply options comes.bundle).end = its.2 ∙ ap (λ (r : Reply). status_of_end r.end) comes.replies in
     its.3.1 (ap (λ (r : Reply). r.text) comes.replies ∙ limit_is_silent options comes.bundle limit)
 
-pub silent : (call : Call) (s : Status) → Happens call s → Silent s call.asked call.source call.out call.out_after
+pub silent : (call : Call) (s : Status) → Happens call s → Silent call s
 silent call status.Done h = tt
 silent call status.Limit h = idle_drive call h
 silent call status.No h = tt
@@ -256,15 +255,15 @@ refuses_by : (o : Option Reply) (c : Command) (bytes : List ℕ) (why : Reason) 
 refuses_by (Some reply) c bytes why h = absurd (true≢false (sym (ap is_reply h)))
 refuses_by None c bytes why h = refused_input (session_options c) c bytes why h
 
-line_told : (call : Call) (s : Status) → has_printed s ≡ false → tells_verdict s ≡ true → Told call s → SaysWhy s call.asked call.source call.err call.err_after
-line_told call s unprinted is (TooLong, judges, same, writes, says) = subst (λ t. SaysWhy t call.asked call.source call.err call.err_after) (sym same) says
-line_told call s unprinted is (Unspelled byte, judges, same, writes, says) = subst (λ t. SaysWhy t call.asked call.source call.err call.err_after) (sym same)
+line_told : (call : Call) (s : Status) → has_printed s ≡ false → tells_verdict s ≡ true → Told call s → SaysWhy call s
+line_told call s unprinted is (TooLong, judges, same, writes, says) = subst (λ t. SaysWhy call t) (sym same) says
+line_told call s unprinted is (Unspelled byte, judges, same, writes, says) = subst (λ t. SaysWhy call t) (sym same)
     (judges.command, judges.asked, (byte, says, comes_told call (Unspelled byte) judges))
-line_told call s unprinted is (Refused why, judges, same, writes, says) = subst (λ t. SaysWhy t call.asked call.source call.err call.err_after) (sym same)
+line_told call s unprinted is (Refused why, judges, same, writes, says) = subst (λ t. SaysWhy call t) (sym same)
     (judges.command, judges.asked, (why, says, mapped (λ told comes. refuses_by (unread_reply judges.command) judges.command told why comes) call.source.left (comes_told call (Refused why) judges)))
 line_told call s unprinted is (Replied reply, judges, same, writes, says) = absurd (prints_always s reply.end same unprinted)
 
-pub says : (call : Call) (s : Status) → Happens call s → SaysWhy s call.asked call.source call.err call.err_after
+pub says : (call : Call) (s : Status) → Happens call s → SaysWhy call s
 says call status.Usage h = h.3
 says call status.Memory h = h.1
 says call status.ReadFault h = h.4
@@ -305,7 +304,7 @@ sessions_read (command.Gen number size) options h = absurd (none_some h)
 sessions_read _ options h = refl
 
 module _ (one : OneBundle) (call : Call) where
-  pub comes_exactly : (wanted s : Status) → tells_verdict wanted ≡ true → Happens call s → ComesExactly wanted s call.asked call.source
+  pub comes_exactly : (wanted s : Status) → tells_verdict wanted ≡ true → Happens call s → ComesExactly wanted call s
   comes_exactly wanted s tells h = record { only = only; always = always }
     where
       only : s ≡ wanted → (found : Command) × (call.asked ≡ Some found) × IfSome call.source.left (Cause found wanted)
@@ -359,11 +358,11 @@ module _ (one : OneBundle) (call : Call) where
       by_verdict bytes (Refused why) comes e bundles spells = absurd comes
       by_verdict bytes (Replied reply) comes e bundles spells = e ∙ ap (λ (r : Reply). status_of_end r.end) comes.replies
 
-  pub complete : (s : Status) → Happens call s → Complete s call.asked call.source call.source_after call.out call.out_after
+  pub complete : (s : Status) → Happens call s → Complete call s
   complete s h found is reads writes = by s h
     where
       Wanted : Status → Type 0
-      Wanted t = IsComplete t found call.source
+      Wanted t = IsComplete found call.source t
 
       answered : (t : Status) → Told call t → Wanted t
       answered t its = record {
@@ -424,11 +423,11 @@ ends_limit true h = (λ e. absurd (not_limit e), λ e. absurd (true≢false (e.1
 ends_limit false h = (λ e. (⊎_elim (λ is. absurd (true≢false (sym is))) (λ a. a) h, refl), λ e. refl)
 
 -- what was printed is a run, where its history leads to a network which has ended or is as long as it may be
-module _ (options : Options) (bytes : List ℕ) (source : SourceState) (out out_after : SinkState) (read : IsRead source bytes) (b : PlainBundle) (spells : Spells bytes b)
+module _ (options : Options) (bytes : List ℕ) (call : Call) (read : IsRead call.source bytes) (b : PlainBundle) (spells : Spells bytes b)
     (accepted : IsAccepted b) (H : List Entry) (N : Network) (headline : Headline b H N) (within : length H ≤ options.steps)
     (over : (network_ended b.cast N ≡ true) ⊎ (length H ≡ options.steps)) where
-  abbrev run_arrived : (s : Status) → s ≡ status_of_end (run_reply options b H).end → Appends out.taken out_after.taken (run_reply options b H).text
-      → RunPrinted options s source out out_after
+  abbrev run_arrived : (s : Status) → s ≡ status_of_end (run_reply options b H).end → Appends call.out.taken call.out_after.taken (run_reply options b H).text
+      → RunPrinted options call s
   run_arrived s is wrote =
       let status_is : s ≡ status_of_end (if network_ended b.cast N then end.Done else end.Limit) =
       is ∙ ap (λ t. status_of_end (if t then end.Done else end.Limit)) (end_is b H N headline.runs) in
@@ -453,49 +452,49 @@ module _ (formed : SpelledIsFormed) (every : EveryRun) (options : Options) where
   accepted_of : (bytes : List ℕ) (b : PlainBundle) → Spells bytes b → option_map MayNotRun (refusal b) ≡ None → IsAccepted b
   accepted_of bytes b spells none = record { formed = formed bytes b spells; no_refusal = unrefused MayNotRun (refusal b) none }
 
-  step_printed : RunsAreSound → (bytes : List ℕ) (source : SourceState) (out out_after : SinkState) (s : Status) (reply : Reply) → IsRead source bytes
-      → MayReply (command.Step options) bytes reply → s ≡ status_of_end reply.end → Appends out.taken out_after.taken reply.text
-      → (run : RunPrinted options s source out out_after) × (run.history ≡ step_history options run.bundle)
-  step_printed sound bytes source out out_after s reply read h is wrote =
+  step_printed : RunsAreSound → (bytes : List ℕ) (call : Call) (s : Status) (reply : Reply) → IsRead call.source bytes
+      → MayReply (command.Step options) bytes reply → s ≡ status_of_end reply.end → Appends call.out.taken call.out_after.taken reply.text
+      → (run : RunPrinted options call s) × (run.history ≡ step_history options run.bundle)
+  step_printed sound bytes call s reply read h is wrote =
       let b = h.bundle in
       let H = step_history options b in
       let accepted : IsAccepted b = accepted_of bytes b h.spells h.accepted in
       let arrives = sound b [] (network_start b) options.seed options.steps accepted refl (omega arith) in (
-        run_arrived options bytes source out out_after read b h.spells accepted H arrives.network (every b H arrives.network accepted arrives.runs) arrives.within arrives.finished s
-            (is ∙ ap (λ (r : Reply). status_of_end r.end) h.replies) (subst (λ (r : Reply). Appends out.taken out_after.taken r.text) h.replies wrote),
+        run_arrived options bytes call read b h.spells accepted H arrives.network (every b H arrives.network accepted arrives.runs) arrives.within arrives.finished s
+            (is ∙ ap (λ (r : Reply). status_of_end r.end) h.replies) (subst (λ (r : Reply). Appends call.out.taken call.out_after.taken r.text) h.replies wrote),
         refl,
       )
 
-  run_printed : (bytes : List ℕ) (source : SourceState) (out out_after : SinkState) (s : Status) (reply : Reply) → IsRead source bytes
-      → MayReply (command.Run options) bytes reply → s ≡ status_of_end reply.end → Appends out.taken out_after.taken reply.text
-      → (run : RunPrinted options s source out out_after) × IsPrompt run.bundle run.history
-  run_printed bytes source out out_after s reply read h is wrote =
+  run_printed : (bytes : List ℕ) (call : Call) (s : Status) (reply : Reply) → IsRead call.source bytes
+      → MayReply (command.Run options) bytes reply → s ≡ status_of_end reply.end → Appends call.out.taken call.out_after.taken reply.text
+      → (run : RunPrinted options call s) × IsPrompt run.bundle run.history
+  run_printed bytes call s reply read h is wrote =
       let b = h.bundle in
       let H = h.replies.0 in
       let made : IsThreadRun b options.steps H = h.replies.1 in
       let accepted : IsAccepted b = accepted_of bytes b h.spells h.accepted in (
-        run_arrived options bytes source out out_after read b h.spells accepted H made.network (every b H made.network accepted made.runs) made.within made.finished s
-            (is ∙ ap (λ (r : Reply). status_of_end r.end) h.replies.2) (subst (λ (r : Reply). Appends out.taken out_after.taken r.text) h.replies.2 wrote),
+        run_arrived options bytes call read b h.spells accepted H made.network (every b H made.network accepted made.runs) made.within made.finished s
+            (is ∙ ap (λ (r : Reply). status_of_end r.end) h.replies.2) (subst (λ (r : Reply). Appends call.out.taken call.out_after.taken r.text) h.replies.2 wrote),
         made.prompt,
       )
 
   pub step_text : RunsAreSound → (call : Call) (s : Status) → Happens call s → call.asked ≡ Some (command.Step options) → has_printed s ≡ true
-      → (run : RunPrinted options s call.source call.out call.out_after) × (run.history ≡ step_history options run.bundle)
+      → (run : RunPrinted options call s) × (run.history ≡ step_history options run.bundle)
   step_text sound call s h is prints =
       let its = reply_told call s prints (told call s (printing s prints) h) in
       let same : its.1.command ≡ command.Step options = some_same (sym its.1.asked ∙ is) in
       let read : CommandReads (command.Step options) (Replied its.0) its.1.bytes call.source call.source_after = reads_by call (Replied its.0) its.1 (command.Step options) is in
-      step_printed sound its.1.bytes call.source call.out call.out_after s its.0 read.0 (subst (λ c. Comes c its.1.bytes (Replied its.0)) same its.1.comes) its.2 its.3.0
+      step_printed sound its.1.bytes call s its.0 read.0 (subst (λ c. Comes c its.1.bytes (Replied its.0)) same its.1.comes) its.2 its.3.0
 
   pub run_text : (call : Call) (s : Status) → Happens call s → call.asked ≡ Some (command.Run options) → has_printed s ≡ true
-      → (run : RunPrinted options s call.source call.out call.out_after) × IsPrompt run.bundle run.history
+      → (run : RunPrinted options call s) × IsPrompt run.bundle run.history
   run_text call s h is prints =
       let its = reply_told call s prints (told call s (printing s prints) h) in
       let same : its.1.command ≡ command.Run options = some_same (sym its.1.asked ∙ is) in
       let read : CommandReads (command.Run options) (Replied its.0) its.1.bytes call.source call.source_after = reads_by call (Replied its.0) its.1 (command.Run options) is in
-      run_printed its.1.bytes call.source call.out call.out_after s its.0 read.0 (subst (λ c. Comes c its.1.bytes (Replied its.0)) same its.1.comes) its.2 its.3.0
+      run_printed its.1.bytes call s its.0 read.0 (subst (λ c. Comes c its.1.bytes (Replied its.0)) same its.1.comes) its.2 its.3.0
 
-pub headline : SpelledIsFormed → EveryRun → RunsAreSound → (call : Call) (s : Status) → Happens call s → HeadlineHolds call.asked s call.source call.out call.out_after
+pub headline : SpelledIsFormed → EveryRun → RunsAreSound → (call : Call) (s : Status) → Happens call s → HeadlineHolds call s
 headline formed every sound call s h options found is runs prints = ⊎_elim
     (λ same. (run_text formed every options call s h (is ∙ ap Some same) prints).0)
     (λ same. (step_text formed every options sound call s h (is ∙ ap Some same) prints).0)
@@ -508,7 +507,7 @@ module _ (formed : SpelledIsFormed) (wanted : Command) (single : session_options
     (only : (b : PlainBundle) (reply : Reply) → Replies wanted b reply → reply ≡ record { end = end.Done; text = text_of b })
     (runs : (b : PlainBundle) → refusal_of wanted b ≡ option_map MayNotRun (refusal b)) where
   pub text_printed : (call : Call) (s : Status) → Happens call s → call.asked ≡ Some wanted → has_printed s ≡ true
-      → TextPrinted text_of s call.source call.out call.out_after
+      → TextPrinted text_of call s
   text_printed call s h is prints =
       let its = reply_told call s prints (told call s (printing s prints) h) in
       let same : its.1.command ≡ wanted = some_same (sym its.1.asked ∙ is) in
@@ -525,10 +524,10 @@ module _ (formed : SpelledIsFormed) (wanted : Command) (single : session_options
         done = its.2 ∙ ap (λ (r : Reply). status_of_end r.end) replies;
       }
 
-pub check_text : SpelledIsFormed → (call : Call) (s : Status) → Happens call s → CheckText call.asked s call.source call.out call.out_after
+pub check_text : SpelledIsFormed → (call : Call) (s : Status) → Happens call s → CheckText call s
 check_text formed call s h is prints = text_printed formed command.Check refl refl (λ b. line_of_text (check_line b)) (λ b reply e. e) (λ b. refl) call s h is prints
 
-pub project_text : SpelledIsFormed → (call : Call) (s : Status) → Happens call s → ProjectText call.asked s call.source call.out call.out_after
+pub project_text : SpelledIsFormed → (call : Call) (s : Status) → Happens call s → ProjectText call s
 project_text formed call s h is prints = text_printed formed command.Project refl refl project_lines (λ b reply e. e) (λ b. refl) call s h is prints
 
 -- ---- the judgement of a trace
@@ -538,7 +537,7 @@ module _ (formed : SpelledIsFormed) (wanted : Command) (single : session_options
     (only : (b : PlainBundle) (reply : Reply) → Replies wanted b reply → reply ≡ judge b)
     (runs : (b : PlainBundle) → refusal_of wanted b ≡ None → refusal b ≡ None) where
   pub judged_text : (call : Call) (s : Status) → Happens call s → call.asked ≡ Some wanted → has_printed s ≡ true
-      → (judged : JudgementPrinted judge s call.source call.out call.out_after) × (refusal_of wanted judged.bundle ≡ None)
+      → (judged : JudgementPrinted judge call s) × (refusal_of wanted judged.bundle ≡ None)
   judged_text call s h is prints =
       let its = reply_told call s prints (told call s (printing s prints) h) in
       let same : its.1.command ≡ wanted = some_same (sym its.1.asked ∙ is) in
@@ -557,7 +556,7 @@ module _ (formed : SpelledIsFormed) (wanted : Command) (single : session_options
         comes.accepted,
       )
 
-pub replay_text : SpelledIsFormed → (call : Call) (s : Status) → Happens call s → ReplayText call.asked s call.source call.out call.out_after
+pub replay_text : SpelledIsFormed → (call : Call) (s : Status) → Happens call s → ReplayText call s
 replay_text formed call s h is prints =
     (judged_text formed command.Replay refl refl replay_reply (λ b reply e. e) (λ b. unrefused MayNotRun (refusal b)) call s h is prints).0
 
@@ -582,9 +581,9 @@ in_cast cast role h = by_test (member role cast) refl
     by_test true e = e
     by_test false e = let why : unknown_role place.Program cast (role ∷ []) ≡ Some (UnknownRole place.Program role) = rw e refl in absurd (none_some (sym h ∙ why))
 
-pub monitor_text : SpelledIsFormed → (call : Call) (s : Status) → Happens call s → MonitorText call.asked s call.source call.out call.out_after
+pub monitor_text : SpelledIsFormed → (call : Call) (s : Status) → Happens call s → MonitorText call s
 monitor_text formed call s h role is prints =
-    let its : (judged : JudgementPrinted (monitor_reply role) s call.source call.out call.out_after) × (refusal_of (command.Monitor role) judged.bundle ≡ None) =
+    let its : (judged : JudgementPrinted (monitor_reply role) call s) × (refusal_of (command.Monitor role) judged.bundle ≡ None) =
     judged_text formed (command.Monitor role) refl refl (monitor_reply role) (λ b reply e. e) (λ b none. (monitor_free role b none).0) call s h is prints in
     let b = its.0.bundle in
     (its.0, in_cast b.cast role (monitor_free role b its.1).1)
@@ -592,7 +591,7 @@ monitor_text formed call s h role is prints =
 -- ---- a driven trace
 
 pub drive_judged : SpelledIsFormed → (options : Options) (call : Call) (s : Status) → Happens call s → call.asked ≡ Some (command.Drive options)
-    → has_printed s ≡ true → JudgementPrinted (drive_reply options) s call.source call.out call.out_after
+    → has_printed s ≡ true → JudgementPrinted (drive_reply options) call s
 drive_judged formed options call s h is prints =
     (judged_text formed (command.Drive options) refl refl (drive_reply options) (λ b reply e. e) (λ b. unrefused MayNotRun (refusal b)) call s h is prints).0
 
@@ -600,29 +599,29 @@ drive_judged formed options call s h is prints =
 
 module _ (resumed : ResumedRuns) (strays : RunStraysAreExact) (options : Options) where
   -- where no entry strays, what was printed is a run with its headline
-  run_resumed : (s : Status) (source : SourceState) (out out_after : SinkState) (judged : JudgementPrinted (resume_reply options) s source out out_after)
-      → resume_stray options judged.bundle ≡ None → (run : RunPrinted options s source out out_after) × (run.history ≡ resume_history options run.bundle)
-  run_resumed s source out out_after judged none =
+  run_resumed : (call : Call) (s : Status) (judged : JudgementPrinted (resume_reply options) call s)
+      → resume_stray options judged.bundle ≡ None → (run : RunPrinted options call s) × (run.history ≡ resume_history options run.bundle)
+  run_resumed call s judged none =
       let b = judged.bundle in
       let H = resume_history options b in
       let arrives = resumed b b.trace.entries options.seed options.steps judged.accepted ((strays.none b (take options.steps b.trace.entries)).0 none) in
       let reply : resume_reply options b ≡ run_reply options b H = ap (resumed_or_no options b) none in (
-        run_arrived options judged.bytes source out out_after judged.read b judged.spells judged.accepted H arrives.network arrives.headline arrives.within arrives.finished s
-            (judged.told ∙ ap (λ (r : Reply). status_of_end r.end) reply) (subst (λ (r : Reply). Appends out.taken out_after.taken r.text) reply judged.printed),
+        run_arrived options judged.bytes call judged.read b judged.spells judged.accepted H arrives.network arrives.headline arrives.within arrives.finished s
+            (judged.told ∙ ap (λ (r : Reply). status_of_end r.end) reply) (subst (λ (r : Reply). Appends call.out.taken call.out_after.taken r.text) reply judged.printed),
         refl,
       )
 
-  by_stray : (s : Status) (source : SourceState) (out out_after : SinkState) (judged : JudgementPrinted (resume_reply options) s source out out_after)
-      (o : Option ℕ) → resume_stray options judged.bundle ≡ o → ResumePrinted options s source out out_after
-  by_stray s source out out_after judged None is = inl (run_resumed s source out out_after judged is)
-  by_stray s source out out_after judged (Some n) is = inr (judged, n, is)
+  by_stray : (call : Call) (s : Status) (judged : JudgementPrinted (resume_reply options) call s)
+      (o : Option ℕ) → resume_stray options judged.bundle ≡ o → ResumePrinted options call s
+  by_stray call s judged None is = inl (run_resumed call s judged is)
+  by_stray call s judged (Some n) is = inr (judged, n, is)
 
 pub resume_text : ResumedRuns → RunStraysAreExact → SpelledIsFormed → (options : Options) (call : Call) (s : Status) → Happens call s
-    → call.asked ≡ Some (command.Resume options) → has_printed s ≡ true → ResumePrinted options s call.source call.out call.out_after
+    → call.asked ≡ Some (command.Resume options) → has_printed s ≡ true → ResumePrinted options call s
 resume_text resumed strays formed options call s h is prints =
-    let judged : JudgementPrinted (resume_reply options) s call.source call.out call.out_after =
+    let judged : JudgementPrinted (resume_reply options) call s =
     (judged_text formed (command.Resume options) refl refl (resume_reply options) (λ b reply e. e) (λ b. unrefused MayNotRun (refusal b)) call s h is prints).0 in
-    by_stray resumed strays options s call.source call.out call.out_after judged (resume_stray options judged.bundle) refl
+    by_stray resumed strays options call s judged (resume_stray options judged.bundle) refl
 
 -- ---- the bundle in its second version
 
@@ -652,14 +651,14 @@ module _ (written : WrittenIsSpelled) (runs : RunsReadNoVersion) (schedules : Sc
     schedules = schedules.schedules b 2;
   }
 
-  pub upgrade_text : SpelledIsFormed → (call : Call) (s : Status) → Happens call s → UpgradeText call.asked s call.source call.out call.out_after
+  pub upgrade_text : SpelledIsFormed → (call : Call) (s : Status) → Happens call s → UpgradeText call s
   upgrade_text formed call s h is prints =
-      let text : TextPrinted upgraded s call.source call.out call.out_after = text_printed formed command.Upgrade refl refl upgraded (λ b reply e. e) (λ b. refl) call s h is prints in
+      let text : TextPrinted upgraded call s = text_printed formed command.Upgrade refl refl upgraded (λ b reply e. e) (λ b. refl) call s h is prints in
       (text, upgraded_so text.bundle text.accepted)
 
 -- ---- the mended bundle
 
-pub mend_text : WrittenIsSpelled → MendedAccepted → SpelledIsFormed → (call : Call) (s : Status) → Happens call s → MendText call.asked s call.source call.out call.out_after
+pub mend_text : WrittenIsSpelled → MendedAccepted → SpelledIsFormed → (call : Call) (s : Status) → Happens call s → MendText call s
 mend_text written mends formed call s h is prints =
     let its = reply_told call s prints (told call s (printing s prints) h) in
     let same : its.1.command ≡ command.Mend = some_same (sym its.1.asked ∙ is) in
@@ -683,9 +682,9 @@ mend_text written mends formed call s h is prints =
 -- ---- the line of a made bundle
 
 module _ (accepted : MadeAreAccepted) (every : EveryRun) (sound : RunsAreSound) (number size : ℕ) where
-  gen_printed : IsAccepted (made number size) → (s : Status) (out out_after : SinkState) → s ≡ status_of_end (gen_reply number size).end
-      → Appends out.taken out_after.taken (gen_reply number size).text → GenPrinted number size s out out_after
-  gen_printed may s out out_after is wrote =
+  gen_printed : IsAccepted (made number size) → (call : Call) (s : Status) → s ≡ status_of_end (gen_reply number size).end
+      → Appends call.out.taken call.out_after.taken (gen_reply number size).text → GenPrinted number size call s
+  gen_printed may call s is wrote =
       let b = made number size in
       let H = gen_history number size in
       let arrives = sound b [] (network_start b) None (usual_steps Gen) may refl (omega arith) in
@@ -698,21 +697,21 @@ module _ (accepted : MadeAreAccepted) (every : EveryRun) (sound : RunsAreSound) 
         accepted = may;
         network = N;
         headline = every b H N may arrives.runs;
-        printed = subst (λ u. Appends out.taken out_after.taken (line_of_text (gen_line number size b H u))) updates wrote;
+        printed = subst (λ u. Appends call.out.taken call.out_after.taken (line_of_text (gen_line number size b H u))) updates wrote;
         done = subst (λ t. (t ≡ status.Done) ↔ (network_ended b.cast N ≡ true)) (sym status_is) (ends_done (network_ended b.cast N));
         limit = subst (λ t. (t ≡ status.Limit) ↔ ((length H ≡ usual_steps Gen) × (network_ended b.cast N ≡ false))) (sym status_is)
             (ends_limit (network_ended b.cast N) arrives.finished);
       }
 
   pub gen_text : (call : Call) (s : Status) → ((found : Command) → call.asked ≡ Some found → IsShort found) → Happens call s → call.asked ≡ Some (command.Gen number size)
-      → has_printed s ≡ true → GenPrinted number size s call.out call.out_after
+      → has_printed s ≡ true → GenPrinted number size call s
   gen_text call s short h is prints =
       let its = reply_told call s prints (told call s (printing s prints) h) in
       let same : its.1.command ≡ command.Gen number size = some_same (sym its.1.asked ∙ is) in
       let comes : Replied its.0 ≡ Replied (gen_reply number size) = subst (λ c. Comes c its.1.bytes (Replied its.0)) same its.1.comes in
       let reply : its.0 ≡ gen_reply number size = ap (reply_in its.0) comes in
       let small = short (command.Gen number size) is in
-      gen_printed (accepted number size small.0 small.1) s call.out call.out_after (its.2 ∙ ap (λ (r : Reply). status_of_end r.end) reply)
+      gen_printed (accepted number size small.0 small.1) call s (its.2 ∙ ap (λ (r : Reply). status_of_end r.end) reply)
       (subst (λ (r : Reply). Appends call.out.taken call.out_after.taken r.text) reply its.3.0)
 
 -- ---- the text of sessions
@@ -725,14 +724,14 @@ module _ (every : EveryRun) (sound : RunsAreSound) (options : Options) where
       let arrives = sound b [] (network_start b) options.seed options.steps accepted refl (omega arith) in
       (arrives.network, every b (step_history options b) arrives.network accepted arrives.runs)) bundles formed
 
-  sessions_printed : (bytes : List ℕ) (source : SourceState) (out out_after : SinkState) (s : Status) (reply : Reply) → IsRead source bytes → RepliesToSessions options bytes reply
-      → s ≡ status_of_end reply.end → Appends out.taken out_after.taken reply.text → SessionsPrinted options s source out out_after
-  sessions_printed bytes source out out_after s reply read h is wrote = record {
+  sessions_printed : (bytes : List ℕ) (call : Call) (s : Status) (reply : Reply) → IsRead call.source bytes → RepliesToSessions options bytes reply
+      → s ≡ status_of_end reply.end → Appends call.out.taken call.out_after.taken reply.text → SessionsPrinted options call s
+  sessions_printed bytes call s reply read h is wrote = record {
     bytes = bytes;
     read = read;
     bundles = h.bundles;
     spells = h.spells;
-    printed = subst (λ (r : Reply). Appends out.taken out_after.taken r.text) h.replies wrote;
+    printed = subst (λ (r : Reply). Appends call.out.taken call.out_after.taken r.text) h.replies wrote;
     done = is ∙ ap (λ (r : Reply). status_of_end r.end) h.replies;
     headlines = headlines h.bundles h.formed;
   }
@@ -756,7 +755,7 @@ never_given_up status.TooLong h = absurd h
 never_given_up status.Syntax h = absurd h
 never_given_up status.Refused h = absurd h
 
-pub sessions_text : EveryRun → RunsAreSound → (call : Call) (s : Status) → Happens call s → SessionsText call.asked s call.source call.out call.out_after
+pub sessions_text : EveryRun → RunsAreSound → (call : Call) (s : Status) → Happens call s → SessionsText call s
 sessions_text every sound call s h options is = (
   ⊎_elim (never_given_up s)
       (λ (its : Told call s).
@@ -768,5 +767,5 @@ sessions_text every sound call s h options is = (
       let same : its.1.command ≡ command.Sessions options = some_same (sym its.1.asked ∙ is) in
       let comes : RepliesToSessions options its.1.bytes its.0 = subst (λ c. Comes c its.1.bytes (Replied its.0)) same its.1.comes in
       let read : CommandReads (command.Sessions options) (Replied its.0) its.1.bytes call.source call.source_after = reads_by call (Replied its.0) its.1 (command.Sessions options) is in
-      sessions_printed every sound options its.1.bytes call.source call.out call.out_after s its.0 read.0 comes its.2 its.3.0,
+      sessions_printed every sound options its.1.bytes call s its.0 read.0 comes its.2 its.3.0,
 )

@@ -1,185 +1,148 @@
--- What comes of a command and the bytes that were read, from what its parts answered.
-use Rattle.std.proofs.Common.{◌≡◌, ◌≢◌, ◌<◌, ◌≤◌, ℕ, suc, List, [], length, true, true≢false, Option, Some, None, IfSome, Result, Ok, Err, IfOk, IfErr, refl, sym, ap, ◌∙◌, subst, arith}
-use Rattle.std.specs.Prelude.{option_map, replicate}
+-- What comes of a command and of what it has read, from what its parts answered.
+use Rattle.std.proofs.Common.{◌≡◌, ◌≢◌, ◌<◌, ◌≤◌, ℕ, suc, List, length, Option, Some, None, IfSome, refl, sym, ap, ◌∙◌, subst, arith}
+use Rattle.std.specs.Prelude.{map, option_map, replicate}
 use Rattle.std.proofs.lemmas.List.{length-replicate}
-use Rattle.std.specs.Io.KnownBytes.{Consumes, IsAtEnd}
+use Rattle.std.proofs.lemmas.List.Elements.{All-map}
+use Rattle.std.specs.Io.KnownBytes.{IsAtEnd}
 use Rattle.aioc_io.specs.Source.{SourceState}
 use Rattle.limits.specs.Limits.{most_bytes}
-use Rattle.dioc_terms.specs.declared.names.Role.{Role}
 use Rattle.dioc_terms.specs.declared.faults.SyntaxFault.{SyntaxFault}
-use Rattle.dioc_terms.specs.declared.faults.SyntaxFault.TheVariants.{Syntax, Memory}
-use Rattle.dioc_terms.specs.Plain.{PlainBundle}
-use Rattle.bundle_text.specs.Grammar.{Spells, SpellsNone}
+use Rattle.dioc_terms.specs.declared.faults.SyntaxFault.TheVariants as syntax
+use Rattle.dioc_terms.specs.Bundles.{IsFormed}
+use Rattle.dioc_terms.specs.Plain.{plain}
+use Rattle.bundle_text.specs.Grammar.{SpellsNone}
 use Rattle.bundle_text.specs.Sessions.{SessionsEndAtByte, SpellsNoSessions}
 use Rattle.bundle_text.specs.Stops.{EndsAtByte}
-use Rattle.rule_checks.specs.Answers.{IsRefusalOf}
-use Rattle.rule_checks.specs.Refusals.{IsAccepted, refusal}
-use Rattle.rule_checks.specs.declared.refusals.Refusal.{Refusal}
-use Rattle.mend.specs.Refusals.{mend_refusal, IsMendRefusalOf}
-use Rattle.mend.specs.declared.refusals.MendRefusal.{MendRefusal}
 use Rattle.command_words.specs.declared.commands.Options.{Options}
 use Rattle.command_words.specs.declared.commands.Command.{Command}
 use Rattle.command_words.specs.declared.commands.Command.TheVariants as command
-use Rattle.aioc_top.specs.Calls.{IsRead, ReadsBy, ReadsNothing, ReadsPastLimit, ReadsTo, ReadsWithinLimit}
-use Rattle.aioc_top.specs.Faults.{IsJudgedSo, IsMendRefusalFault, IsRefusalFault, IsRefusedSo, IsSyntaxFault, IsUnspelledSo, ReadSo, Stops, StopsReading}
-use Rattle.aioc_top.specs.Reasons.{MayNotRun, CannotBeMended}
-use Rattle.aioc_top.specs.Replies.{Replies, monitor_refusal, refusal_of, reply_of, mend_text, session_options, takes_accepted, unread_reply}
-use Rattle.aioc_top.specs.Verdicts.{Verdict, TooLong, Unspelled, Refused, Replied, IsReplied, ComesBy, ComesOfInput, ComesOfSessions, ComesOfText}
+use Rattle.aioc_top.specs.Calls.{IsRead, Judged, ReadsBy, ReadsPastLimit, ReadsWhole, ReadsWithinLimit, StaysWithin}
+use Rattle.aioc_top.specs.Faults.{IsRefusedSo, Stops, StopsReading, syntax_fault}
+use Rattle.aioc_top.specs.Reasons.{Reason, MayNotRun, CannotBeMended}
+use Rattle.aioc_top.specs.Replies.{Reply, gen_reply, session_options, unread_reply}
+use Rattle.aioc_top.specs.Spelled.{Admits, Fits, HasRead, IsMendable, IsSpelled, RepliesTo, refusal_in}
+use Rattle.aioc_top.specs.Verdicts.{Verdict, TooLong, Unspelled, Refused, Replied, Comes, ComesBy, ComesOfInput, ComesOfSessions, ComesOfText}
 use Rattle.aioc_top.specs.declared.faults.Fault.{Fault}
 use Rattle.aioc_top.specs.declared.faults.Fault.TheVariants as fault
-use Rattle.aioc_top.specs.declared.replies.Written.{Written}
-use Rattle.aioc_top.specs.declared.replies.End.TheVariants as end
+use Rattle.aioc_top.specs.declared.reading.Spelled.{Spelled}
+use Rattle.aioc_top.specs.declared.reading.Spelled.TheVariants as spelled
 use Rattle.aioc_top.proofs.Clauses.{mapped, none_is_some}
+use Rattle.marked_laws.proofs.Shapes.{none_some}
 
-pub mapped_fault : {A E : Type 0} {P Q : E → Type 0} → ((e : E) → P e → Q e) → (r : Result A E) → IfErr r P → IfErr r Q
-mapped_fault f (Ok x) h = h
-mapped_fault f (Err e) h = f e h
+-- a bundle that the command takes, and that it has mended where that is asked for, isn't refused
+not_refused : (asked : Command) (read : Spelled) → Admits asked read → IsMendable asked read → refusal_in asked read ≡ None
+not_refused asked spelled.Nothing takes mendable = refl
+not_refused asked (spelled.Sessions bundles) takes mendable = refl
+not_refused command.Mend (spelled.Bundle b) takes mendable = ap (option_map CannotBeMended) mendable
+not_refused (command.Monitor role) (spelled.Bundle b) takes mendable = ap (option_map MayNotRun) takes.1
+not_refused (command.Run options) (spelled.Bundle b) takes mendable = ap (option_map MayNotRun) takes.no_refusal
+not_refused (command.Step options) (spelled.Bundle b) takes mendable = ap (option_map MayNotRun) takes.no_refusal
+not_refused command.Check (spelled.Bundle b) takes mendable = ap (option_map MayNotRun) takes.no_refusal
+not_refused command.Project (spelled.Bundle b) takes mendable = ap (option_map MayNotRun) takes.no_refusal
+not_refused command.Replay (spelled.Bundle b) takes mendable = ap (option_map MayNotRun) takes.no_refusal
+not_refused (command.Gen number size) (spelled.Bundle b) takes mendable = ap (option_map MayNotRun) takes.no_refusal
+not_refused command.Upgrade (spelled.Bundle b) takes mendable = ap (option_map MayNotRun) takes.no_refusal
+not_refused (command.Drive options) (spelled.Bundle b) takes mendable = ap (option_map MayNotRun) takes.no_refusal
+not_refused (command.Resume options) (spelled.Bundle b) takes mendable = ap (option_map MayNotRun) takes.no_refusal
+not_refused (command.Sessions options) (spelled.Bundle b) takes mendable = ap (option_map MayNotRun) takes.no_refusal
 
-pub mapped_reply : {A E : Type 0} {P Q : A → Type 0} → ((x : A) → P x → Q x) → (r : Result A E) → IfOk r P → IfOk r Q
-mapped_reply f (Ok x) h = f x h
-mapped_reply f (Err e) h = h
-
--- an answer that is said of each fault but want of memory
-pub told_syntax : {P : Type 0} (f : SyntaxFault) (byte : ℕ) → (f ≢ Memory → P) → f ≡ Syntax byte → P
-told_syntax f byte says is = says (λ e. cc)
-
-pub syntax_is : (asked : Command) (bytes : List ℕ) (byte : ℕ) (f : Fault) → length bytes ≤ most_bytes → SpellsNone bytes → EndsAtByte bytes byte → IsSyntaxFault byte f → IsJudgedSo asked bytes f
-syntax_is asked bytes byte (fault.Syntax line) small none ends h = (byte, (small, none, ends), h)
-syntax_is asked bytes byte fault.Memory small none ends h = h
-syntax_is asked bytes byte fault.Usage small none ends h = absurd h
-syntax_is asked bytes byte fault.ReadFault small none ends h = absurd h
-syntax_is asked bytes byte fault.WriteFault small none ends h = absurd h
-syntax_is asked bytes byte fault.TooLong small none ends h = absurd h
-syntax_is asked bytes byte (fault.Refused line) small none ends h = absurd h
-
--- a command that takes what is accepted refuses what isn't
-of_others : (asked : Command) (b : PlainBundle) → takes_accepted asked ≡ true → refusal_of asked b ≡ option_map MayNotRun (refusal b)
-of_others command.Mend b other = absurd (true≢false (sym other))
-of_others (command.Monitor role) b other = absurd (true≢false (sym other))
-of_others _ b other = refl
-
-pub accepted_so : (asked : Command) (b : PlainBundle) (written : Written) → takes_accepted asked ≡ true → IsAccepted b → Replies asked b (reply_of written) → IsReplied asked b written
-accepted_so asked b written other may replies = record {
-  accepted = of_others asked b other ∙ ap (option_map MayNotRun) may.no_refusal;
-  replies = replies;
-}
-
-pub refused_so : (asked : Command) (b : PlainBundle) (why : Refusal) (f : Fault) → takes_accepted asked ≡ true → IsRefusalOf (refusal b) why → IsRefusalFault why f → IsRefusedSo asked b f
-refused_so asked b why (fault.Refused line) other told h = (MayNotRun why, of_others asked b other ∙ ap (option_map MayNotRun) (told h.0), h.1)
-refused_so asked b why fault.Memory other told h = h
-refused_so asked b why fault.Usage other told h = absurd h
-refused_so asked b why fault.ReadFault other told h = absurd h
-refused_so asked b why fault.WriteFault other told h = absurd h
-refused_so asked b why fault.TooLong other told h = absurd h
-refused_so asked b why (fault.Syntax line) other told h = absurd h
-
--- the role is in the cast of a bundle that may run, or it is refused
-pub monitored_so : (role : Role) (b : PlainBundle) (written : Written) → monitor_refusal role b ≡ None → Replies (command.Monitor role) b (reply_of written)
-    → IsReplied (command.Monitor role) b written
-monitored_so role b written none replies = record {
-  accepted = ap (option_map MayNotRun) none;
-  replies = replies;
-}
-
-pub unmonitored_so : (role : Role) (b : PlainBundle) (why : Refusal) (f : Fault) → IsRefusalOf (monitor_refusal role b) why → IsRefusalFault why f → IsRefusedSo (command.Monitor role) b f
-unmonitored_so role b why (fault.Refused line) told h = (MayNotRun why, ap (option_map MayNotRun) (told h.0), h.1)
-unmonitored_so role b why fault.Memory told h = h
-unmonitored_so role b why fault.Usage told h = absurd h
-unmonitored_so role b why fault.ReadFault told h = absurd h
-unmonitored_so role b why fault.WriteFault told h = absurd h
-unmonitored_so role b why fault.TooLong told h = absurd h
-unmonitored_so role b why (fault.Syntax line) told h = absurd h
-
-pub mended_so : (b : PlainBundle) (written : Written) → mend_refusal b ≡ None → reply_of written ≡ record { end = end.Done; text = mend_text b } → IsReplied command.Mend b written
-mended_so b written free replied = record {
-  accepted = ap (option_map CannotBeMended) free;
-  replies = replied;
-}
-
-pub unmended_so : (b : PlainBundle) (why : MendRefusal) (f : Fault) → IsMendRefusalOf (mend_refusal b) why → IsMendRefusalFault why f → IsRefusedSo command.Mend b f
-unmended_so b why (fault.Refused line) told h = (CannotBeMended why, ap (option_map CannotBeMended) (told h.0), h.1)
-unmended_so b why fault.Memory told h = h
-unmended_so b why fault.Usage told h = absurd h
-unmended_so b why fault.ReadFault told h = absurd h
-unmended_so b why fault.WriteFault told h = absurd h
-unmended_so b why fault.TooLong told h = absurd h
-unmended_so b why (fault.Syntax line) told h = absurd h
-
-pub refused_is : (asked : Command) (bytes : List ℕ) (b : PlainBundle) → Spells bytes b → (f : Fault) → IsRefusedSo asked b f → IsJudgedSo asked bytes f
-refused_is asked bytes b spells (fault.Refused line) h = (h.0, record { bundle = b; spells = spells; refused = h.1 }, h.2)
-refused_is asked bytes b spells fault.Memory h = h
-refused_is asked bytes b spells fault.Usage h = absurd h
-refused_is asked bytes b spells fault.ReadFault h = absurd h
-refused_is asked bytes b spells fault.WriteFault h = absurd h
-refused_is asked bytes b spells fault.TooLong h = absurd h
-refused_is asked bytes b spells (fault.Syntax line) h = absurd h
-
-pub replied_is : (asked : Command) (bytes : List ℕ) (b : PlainBundle) → Spells bytes b → (written : Written) → IsReplied asked b written
-    → ComesOfText asked bytes (Replied (reply_of written))
-replied_is asked bytes b spells written h = record { bundle = b; spells = spells; accepted = h.accepted; replies = h.replies }
+-- ---- what was read
 
 -- the bytes that were read are the source's, where it tells them
 pub is_read : (source : SourceState) (all : List ℕ) → IfSome source.left (λ told. all ≡ told) → IsRead source all
 is_read source all h = mapped (λ told e. sym e) source.left h
 
--- of a source that isn't called nothing was read
-pub within_itself : (source : SourceState) → ReadsWithinLimit source source
-within_itself source = ([], omega arith, kept source.left)
-  where
-    kept : (left : Option (List ℕ)) → Consumes left left []
-    kept None = tt
-    kept (Some told) = refl
+-- what is read whole is read for any verdict but that it is too long
+whole_refused : (o : Option Reply) (why : Reason) (bytes : List ℕ) (source source_after : SourceState) → ReadsWhole o bytes source source_after → ReadsBy o (Refused why) bytes source source_after
+whole_refused None why bytes source source_after h = h
+whole_refused (Some reply) why bytes source source_after h = h
 
--- what comes of the bytes of a bundle, by a command that reads one
-module _ (asked : Command) (source source_after : SourceState) (single : session_options asked ≡ None) (reads : unread_reply asked ≡ None) where
-  pub read_so : (bytes : List ℕ) (verdict : Verdict) → IsRead source bytes → ReadsTo verdict source source_after → ComesOfText asked bytes verdict → ReadSo asked source source_after verdict
-  read_so bytes verdict read end comes = record {
-    bytes = bytes;
-    read = subst (λ o. ReadsBy o verdict bytes source source_after) (sym reads) (read, end);
-    comes = subst (λ o. ComesBy o asked bytes verdict) (sym reads) (subst (λ o. ComesOfInput o asked bytes verdict) (sym single) comes);
+whole_replied : (o : Option Reply) (reply : Reply) (bytes : List ℕ) (source source_after : SourceState) → ReadsWhole o bytes source source_after → ReadsBy o (Replied reply) bytes source source_after
+whole_replied None reply bytes source source_after h = h
+whole_replied (Some own) reply bytes source source_after h = h
+
+-- what comes of the bytes of one bundle, and of those of sessions
+comes_of_text : (asked : Command) (bytes : List ℕ) (verdict : Verdict) → unread_reply asked ≡ None → session_options asked ≡ None → ComesOfText asked bytes verdict → Comes asked bytes verdict
+comes_of_text asked bytes verdict reads single h = subst (λ o. ComesBy o asked bytes verdict) (sym reads) (subst (λ o. ComesOfInput o asked bytes verdict) (sym single) h)
+
+comes_of_sessions : (options : Options) (bytes : List ℕ) (verdict : Verdict) → ComesOfSessions options bytes verdict → Comes (command.Sessions options) bytes verdict
+comes_of_sessions options bytes verdict h = h
+
+-- more bytes than are allowed, whichever the command reads
+comes_too_long : (o : Option Options) (asked : Command) (bytes : List ℕ) → most_bytes < length bytes → ComesOfInput o asked bytes TooLong
+comes_too_long None asked bytes long = long
+comes_too_long (Some options) asked bytes long = long
+
+-- what is refused comes of the bytes of one bundle
+module _ (asked : Command) (source source_after : SourceState) where
+  refused_in : (read : Spelled) → HasRead asked source source_after read → (why : Reason) → refusal_in asked read ≡ Some why → Judged (Some asked) source source_after (Refused why)
+  refused_in spelled.Nothing h why is = absurd (none_some is)
+  refused_in (spelled.Sessions bundles) h why is = absurd (none_some is)
+  refused_in (spelled.Bundle b) h why is = record {
+    command = asked;
+    asked = refl;
+    bytes = h.bytes;
+    read = whole_refused (unread_reply asked) why h.bytes source source_after h.whole;
+    comes = comes_of_text asked h.bytes (Refused why) h.fits.0 h.fits.1 (record { bundle = plain b; spells = h.spells; refused = is });
   }
 
-  pub reads_text : ReadsNothing (Some asked) source source_after
-  reads_text some = absurd (none_is_some (unread_reply asked) reads some)
+  -- why there is no reply to what was read
+  pub refusal_stops : (read : Spelled) → HasRead asked source source_after read → (f : Fault) → IsRefusedSo (refusal_in asked read) f → Stops (Some asked) source source_after f
+  refusal_stops read h (fault.Refused why) is = (refused_in read h (MayNotRun why) is, h.stays)
+  refusal_stops read h (fault.Unmendable why) is = (refused_in read h (CannotBeMended why) is, h.stays)
+  refusal_stops read h fault.Memory is = h.stays
+  refusal_stops read h fault.Usage is = absurd is
+  refusal_stops read h fault.ReadFault is = absurd is
+  refusal_stops read h fault.TooLong is = absurd is
+  refusal_stops read h (fault.Syntax byte) is = absurd is
 
-  -- the fault of the bytes that were read
-  pub stops : (all : List ℕ) → IsRead source all → IsAtEnd source_after.left → ReadsWithinLimit source source_after → (f : Fault) → IsJudgedSo asked all f → Stops asked source source_after f
-  stops all read end within (fault.Syntax line) h = (h.0, read_so all (Unspelled h.0) read end h.1, h.2)
-  stops all read end within (fault.Refused line) h = (h.0, read_so all (Refused h.0) read end h.1, h.2)
-  stops all read end within fault.Memory h = (reads_text, within)
-  stops all read end within fault.Usage h = absurd h
-  stops all read end within fault.ReadFault h = absurd h
-  stops all read end within fault.WriteFault h = absurd h
-  stops all read end within fault.TooLong h = absurd h
+-- the reply comes of what was read
+reply_comes : (asked : Command) (bytes : List ℕ) (read : Spelled) (reply : Reply) → Fits asked read → IsSpelled bytes read → refusal_in asked read ≡ None → RepliesTo asked read reply
+    → Comes asked bytes (Replied reply)
+reply_comes asked bytes spelled.Nothing reply fits spells free is = subst (λ o. ComesBy o asked bytes (Replied reply)) (sym is) refl
+reply_comes asked bytes (spelled.Bundle b) reply fits spells free is =
+    comes_of_text asked bytes (Replied reply) fits.0 fits.1 (record { bundle = plain b; spells = spells; accepted = free; replies = is })
+reply_comes (command.Sessions options) bytes (spelled.Sessions bundles) reply fits spells free is =
+    comes_of_sessions options bytes (Replied reply) (record {
+      bundles = map plain bundles.items;
+      spells = spells;
+      formed = All-map IsFormed plain bundles.items fits.2;
+      replies = is;
+    })
+reply_comes _ bytes (spelled.Sessions bundles) reply fits spells free is = absurd is
 
--- what comes of the bytes of sessions
-module _ (options : Options) (source source_after : SourceState) where
-  pub read_sessions_so : (bytes : List ℕ) (verdict : Verdict) → IsRead source bytes → ReadsTo verdict source source_after → ComesOfSessions options bytes verdict
-      → ReadSo (command.Sessions options) source source_after verdict
-  read_sessions_so bytes verdict read end comes = record { bytes = bytes; read = (read, end); comes = comes }
+-- `gen` has read nothing, has its reply without, and isn't refused
+module _ (asked : Command) (number size : ℕ) (is : asked ≡ command.Gen number size) (read : Spelled) where
+  pub gen_replies : (reply : Reply) → Fits asked read → reply ≡ gen_reply number size → RepliesTo asked read reply
+  gen_replies reply fits replied = by_read read fits
+    where
+      own : unread_reply asked ≡ Some reply
+      own = ap unread_reply is ∙ ap Some (sym replied)
 
-  reads_sessions : ReadsNothing (Some (command.Sessions options)) source source_after
-  reads_sessions some = absurd (none_is_some (unread_reply (command.Sessions options)) refl some)
+      by_read : (read : Spelled) → Fits asked read → RepliesTo asked read reply
+      by_read spelled.Nothing fits = own
+      by_read (spelled.Bundle b) fits = absurd (none_some (sym fits.0 ∙ own))
+      by_read (spelled.Sessions bundles) fits = absurd (none_some (sym fits.0 ∙ own))
 
-  pub sessions_stop : (all : List ℕ) → IsRead source all → IsAtEnd source_after.left → ReadsWithinLimit source source_after → (f : Fault) → IsUnspelledSo options all f
-      → Stops (command.Sessions options) source source_after f
-  sessions_stop all read end within (fault.Syntax line) h = (h.0, read_sessions_so all (Unspelled h.0) read end h.1, h.2)
-  sessions_stop all read end within fault.Memory h = (reads_sessions, within)
-  sessions_stop all read end within (fault.Refused line) h = absurd h
-  sessions_stop all read end within fault.Usage h = absurd h
-  sessions_stop all read end within fault.ReadFault h = absurd h
-  sessions_stop all read end within fault.WriteFault h = absurd h
-  sessions_stop all read end within fault.TooLong h = absurd h
+  pub gen_is_mendable : IsMendable asked read
+  gen_is_mendable = subst (λ found. IsMendable found read) (sym is) (by_read read)
+    where
+      by_read : (read : Spelled) → IsMendable (command.Gen number size) read
+      by_read spelled.Nothing = tt
+      by_read (spelled.Bundle b) = tt
+      by_read (spelled.Sessions bundles) = tt
 
-pub unspelled_sessions : (options : Options) (bytes : List ℕ) (byte : ℕ) (f : Fault) → length bytes ≤ most_bytes → SpellsNoSessions bytes → SessionsEndAtByte bytes byte → IsSyntaxFault byte f
-    → IsUnspelledSo options bytes f
-unspelled_sessions options bytes byte (fault.Syntax line) small none ends h = (byte, (small, none, ends), h)
-unspelled_sessions options bytes byte fault.Memory small none ends h = h
-unspelled_sessions options bytes byte fault.Usage small none ends h = absurd h
-unspelled_sessions options bytes byte fault.ReadFault small none ends h = absurd h
-unspelled_sessions options bytes byte fault.WriteFault small none ends h = absurd h
-unspelled_sessions options bytes byte fault.TooLong small none ends h = absurd h
-unspelled_sessions options bytes byte (fault.Refused line) small none ends h = absurd h
+pub replied_so : (asked : Command) (source source_after : SourceState) (read : Spelled) (reply : Reply) → HasRead asked source source_after read → Admits asked read → IsMendable asked read
+    → RepliesTo asked read reply → Judged (Some asked) source source_after (Replied reply)
+replied_so asked source source_after read reply h takes mendable is = record {
+  command = asked;
+  asked = refl;
+  bytes = h.bytes;
+  read = whole_replied (unread_reply asked) reply h.bytes source source_after h.whole;
+  comes = reply_comes asked h.bytes read reply h.fits h.spells (not_refused asked read takes mendable) is;
+}
+
+-- ---- bytes that aren't had, and bytes that spell nothing
 
 -- some bytes are as long as is asked
 long_enough : (n : ℕ) → (bytes : List ℕ) × (n < length bytes)
@@ -189,36 +152,57 @@ too_many : (left : Option (List ℕ)) → IfSome left (λ told. most_bytes < len
 too_many None h = let long = long_enough most_bytes in (long.0, tt, long.1)
 too_many (Some told) h = (told, refl, h)
 
--- more bytes were given than are allowed, whether the source tells them or not
-too_long : (asked : Command) (source source_after : SourceState) → session_options asked ≡ None → unread_reply asked ≡ None → IfSome source.left (λ told. most_bytes < length told)
-    → ReadsPastLimit source source_after → ReadSo asked source source_after TooLong
-too_long asked source source_after single reads h past =
-    let many = too_many source.left h in
-    read_so asked source source_after single reads many.0 TooLong many.1 past many.2
+module _ (asked : Command) (source source_after : SourceState) (reads : unread_reply asked ≡ None) where
+  -- a command that reads has no reply without
+  pub stays_so : ReadsWithinLimit source source_after → StaysWithin (Some asked) source source_after
+  stays_so within = record { nothing = λ some. absurd (none_is_some (unread_reply asked) reads some); within = within }
 
-sessions_too_long : (options : Options) (source source_after : SourceState) → IfSome source.left (λ told. most_bytes < length told) → ReadsPastLimit source source_after
-    → ReadSo (command.Sessions options) source source_after TooLong
-sessions_too_long options source source_after h past =
-    let many = too_many source.left h in
-    read_sessions_so options source source_after many.0 TooLong many.1 past many.2
+  read_so : (verdict : Verdict) (bytes : List ℕ) → ReadsBy None verdict bytes source source_after → Comes asked bytes verdict → Judged (Some asked) source source_after verdict
+  read_so verdict bytes read comes = record {
+    command = asked;
+    asked = refl;
+    bytes = bytes;
+    read = subst (λ o. ReadsBy o verdict bytes source source_after) (sym reads) read;
+    comes = comes;
+  }
 
--- bytes that aren't had stop a command that reads a bundle
-pub unread : (asked : Command) (source source_after : SourceState) → session_options asked ≡ None → unread_reply asked ≡ None → (f : Fault) → StopsReading source source_after f
-    → Stops asked source source_after f
-unread asked source source_after single reads fault.ReadFault h = (reads, h.0, h.1)
-unread asked source source_after single reads fault.TooLong h = too_long asked source source_after single reads h.0 h.1
-unread asked source source_after single reads fault.Memory h = (reads_text asked source source_after single reads, h)
-unread asked source source_after single reads fault.Usage h = absurd h
-unread asked source source_after single reads fault.WriteFault h = absurd h
-unread asked source source_after single reads (fault.Syntax line) h = absurd h
-unread asked source source_after single reads (fault.Refused line) h = absurd h
+  -- more bytes were given than are allowed, whether the source tells them or not
+  too_long : IfSome source.left (λ told. most_bytes < length told) → ReadsPastLimit source source_after → Judged (Some asked) source source_after TooLong
+  too_long h past =
+      let many = too_many source.left h in
+      read_so TooLong many.0 (many.1, past) (subst (λ o. ComesBy o asked many.0 TooLong) (sym reads) (comes_too_long (session_options asked) asked many.0 many.2))
 
--- and one that reads sessions
-pub unread_sessions : (options : Options) (source source_after : SourceState) (f : Fault) → StopsReading source source_after f → Stops (command.Sessions options) source source_after f
-unread_sessions options source source_after fault.ReadFault h = (refl, h.0, h.1)
-unread_sessions options source source_after fault.TooLong h = sessions_too_long options source source_after h.0 h.1
-unread_sessions options source source_after fault.Memory h = (reads_sessions options source source_after, h)
-unread_sessions options source source_after fault.Usage h = absurd h
-unread_sessions options source source_after fault.WriteFault h = absurd h
-unread_sessions options source source_after (fault.Syntax line) h = absurd h
-unread_sessions options source source_after (fault.Refused line) h = absurd h
+  -- bytes that aren't had
+  pub unread : (f : Fault) → StopsReading source source_after f → Stops (Some asked) source source_after f
+  unread fault.ReadFault h = ((asked, refl, reads), h.0, h.1)
+  unread fault.TooLong h = too_long h.0 h.1
+  unread fault.Memory h = stays_so h
+  unread fault.Usage h = absurd h
+  unread (fault.Syntax byte) h = absurd h
+  unread (fault.Refused why) h = absurd h
+  unread (fault.Unmendable why) h = absurd h
+
+  module _ (bytes : List ℕ) (read : IsRead source bytes) (end : IsAtEnd source_after.left) (small : length bytes ≤ most_bytes) (within : ReadsWithinLimit source source_after) where
+    -- bytes that spell no bundle
+    pub no_bundle : session_options asked ≡ None → (f : SyntaxFault) → (f ≢ syntax.Memory → SpellsNone bytes) → ((byte : ℕ) → f ≡ syntax.Syntax byte → EndsAtByte bytes byte)
+        → Stops (Some asked) source source_after (syntax_fault f)
+    no_bundle single syntax.Memory none ends = stays_so within
+    no_bundle single (syntax.Syntax byte) none ends =
+        (read_so (Unspelled byte) bytes (read, end) (comes_of_text asked bytes (Unspelled byte) reads single (small, none (λ e. cc), ends byte refl)), stays_so within)
+
+-- a command that is neither `gen` nor `sessions` reads one bundle
+pub reads_one : (asked : Command) → ((number size : ℕ) → asked ≡ command.Gen number size → ⊥) → ((options : Options) → asked ≡ command.Sessions options → ⊥)
+    → (unread_reply asked ≡ None) × (session_options asked ≡ None)
+reads_one (command.Gen number size) not_gen not_sessions = absurd (not_gen number size refl)
+reads_one (command.Sessions options) not_gen not_sessions = absurd (not_sessions options refl)
+reads_one _ not_gen not_sessions = (refl, refl)
+
+-- bytes that spell no sessions
+pub no_sessions : (options : Options) (source source_after : SourceState) (bytes : List ℕ) → IsRead source bytes → IsAtEnd source_after.left → length bytes ≤ most_bytes
+    → ReadsWithinLimit source source_after → (f : SyntaxFault) → (f ≢ syntax.Memory → SpellsNoSessions bytes) → ((byte : ℕ) → f ≡ syntax.Syntax byte → SessionsEndAtByte bytes byte)
+    → Stops (Some (command.Sessions options)) source source_after (syntax_fault f)
+no_sessions options source source_after bytes read end small within syntax.Memory none ends = stays_so (command.Sessions options) source source_after refl within
+no_sessions options source source_after bytes read end small within (syntax.Syntax byte) none ends = (
+  read_so (command.Sessions options) source source_after refl (Unspelled byte) bytes (read, end) (small, none (λ e. cc), ends byte refl),
+  stays_so (command.Sessions options) source source_after refl within,
+)

@@ -1,5 +1,5 @@
 -- What is judged entry by entry is judged as a whole.
-use Rattle.std.proofs.Common.{◌≡◌, ◌≤◌, ◌+◌, ℕ, suc, List, [], ◌∷◌, Bool, true, false, Option, Some, None, Result, IfOk, refl, sym, ap, ◌∙◌, subst, arith}
+use Rattle.std.proofs.Common.{◌≡◌, ◌≤◌, ◌+◌, ℕ, suc, List, [], ◌∷◌, Bool, true, false, Option, Some, None, Result, Ok, Err, IfOk, refl, sym, ap, ◌∙◌, subst, arith}
 use Rattle.std.specs.Prelude.{not, length, if◌then◌else◌, option_and_then}
 use Rattle.std.specs.Option.{option_map_or}
 use Rattle.dioc_terms.specs.declared.entries.Entry.{Entry}
@@ -71,6 +71,10 @@ module _ (goes : PlaysGoOn) (b : Setting) (S T : State) (e : Entry) where
   seen h = seen_by (is_aux e) h
 
 -- ---- what is replied
+
+pub mapped_reply : {P Q : Written → Type 0} → ((written : Written) → P written → Q written) → (r : Result Written Memory) → IfOk r P → IfOk r Q
+mapped_reply f (Ok written) h = f written h
+mapped_reply f (Err memory) h = h
 
 pub with_reply : (r : Result Written Memory) (x y : Reply) → x ≡ y → IfOk r (λ written. reply_of written ≡ x) → IfOk r (λ written. reply_of written ≡ y)
 with_reply r x y same h = subst (λ reply. IfOk r (λ written. reply_of written ≡ reply)) same h

@@ -4,7 +4,6 @@ use Rattle.std.specs.Prelude.{unwrap_or, if◌then◌else◌}
 use Rattle.std.specs.Option.{option_map_or}
 use Rattle.dioc_terms.specs.declared.entries.Entry.{Entry}
 use Rattle.dioc_terms.specs.Plain.{PlainBundle}
-use Rattle.trace_text.specs.Runs.{run_text}
 use Rattle.network_steps.specs.Network.{network_run, network_start, network_ended, Network}
 use Rattle.net_laws.specs.Laws.{RunsAreSound, Arrives}
 use Rattle.network_steps.specs.Schedule.{IsPrompt}
@@ -20,7 +19,7 @@ use Rattle.command_words.specs.declared.commands.Verb.TheVariants.{Gen}
 use Rattle.load_gen.specs.Made.{made}
 use Rattle.aioc_top.specs.declared.replies.End.TheVariants as end
 use Rattle.aioc_top.specs.declared.replies.Written.{Written}
-use Rattle.aioc_top.specs.Replies.{IsThreadRun, Replies, gen_history, gen_line, gen_reply, line_of_text, updates_of, reply_of, last_of, is_finished, step_history}
+use Rattle.aioc_top.specs.Replies.{IsThreadRun, Replies, ended_reply, gen_history, gen_line, gen_reply, line_of_text, updates_of, reply_of, is_finished, step_history}
 use Rattle.aioc_top.specs.Endings.{end_of}
 
 abbrev is_end : Finish → Bool
@@ -51,10 +50,9 @@ module _ (options : Options) (b : PlainBundle) (is : IsAccepted b) (sound : Runs
 
 pub run_replied : (options : Options) (b : PlainBundle) (H : List Entry) (over : Bool) (written : Written) → IsRun b H → IsPrompt b H → length H ≤ options.steps
     → over ≡ network_ended b.cast (network_at b H) → (over ≡ false → length H ≡ options.steps)
-    → written.end ≡ (if over then end.Done else end.Limit)
-    → written.text.items ≡ run_text options.aux options.json H (last_of over (length H))
+    → reply_of written ≡ ended_reply options H over
     → Replies (command.Run options) b (reply_of written)
-run_replied options b H over written run prompt within told full ends wrote = (H, made, λ j. record { end = end_is j; text = text_is j })
+run_replied options b H over written run prompt within told full replied = (H, made, replied ∙ ap (ended_reply options H) finished)
   where
     stands : over ≡ network_ended b.cast run.network
     stands = told ∙ ap (λ o. network_ended b.cast (unwrap_or o (network_start b))) run.runs
@@ -68,12 +66,6 @@ run_replied options b H over written run prompt within told full ends wrote = (H
 
     made : IsThreadRun b options.steps H
     made = record { network = run.network; runs = run.runs; prompt = prompt; within = within; finished = by_end over refl }
-
-    end_is : written.end ≡ (if is_finished b H then end.Done else end.Limit)
-    end_is = ends ∙ ap (λ t. if t then end.Done else end.Limit) finished
-
-    text_is : written.text.items ≡ run_text options.aux options.json H (last_of (is_finished b H) (length H))
-    text_is = wrote ∙ ap (λ t. run_text options.aux options.json H (last_of t (length H))) finished
 
 -- ---- the line of a made bundle
 

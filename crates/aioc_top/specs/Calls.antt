@@ -22,6 +22,19 @@ pub record Call : Type 0 where
   pub err : SinkState
   pub err_after : SinkState
 
+-- a call that asks for this, with each of its devices before and after it
+abbrev pub called : Option Command → SourceState → SourceState
+    → SinkState → SinkState → SinkState → SinkState → Call
+called asked source source_after out out_after err err_after = record {
+  asked = asked;
+  source = source;
+  source_after = source_after;
+  out = out;
+  out_after = out_after;
+  err = err;
+  err_after = err_after;
+}
+
 -- the bytes were read: the source's own, where it tells them
 abbrev pub IsRead : SourceState → List ℕ → Type 0
 IsRead source bytes = IfSome source.left (λ told. told ≡ bytes)
@@ -40,14 +53,22 @@ abbrev pub ReadsTo : Verdict → SourceState → SourceState → Type 0
 ReadsTo TooLong source source_after = ReadsPastLimit source source_after
 ReadsTo _ source source_after = IsAtEnd source_after.left
 
+-- the bytes were read to their end; a command that has its reply without reads nothing
+abbrev pub ReadsWhole : Option Reply → List ℕ → SourceState → SourceState → Type 0
+ReadsWhole (Some reply) bytes source source_after = source_after ≡ source
+ReadsWhole None bytes source source_after = IsRead source bytes × IsAtEnd source_after.left
+
 -- What was read of the source: its bytes, where it tells them, to their end but where they are too
 -- many; and nothing by a command that has its reply without.
-abbrev pub ReadsBy : Option Reply → Verdict → List ℕ → SourceState → SourceState → Type 0
+abbrev pub ReadsBy : Option Reply → Verdict → List ℕ → SourceState → SourceState
+    → Type 0
 ReadsBy (Some reply) verdict bytes source source_after = source_after ≡ source
 ReadsBy None verdict bytes source source_after =
-    IsRead source bytes × ReadsTo verdict source source_after
+    IsRead source bytes
+    × ReadsTo verdict source source_after
 
-abbrev pub CommandReads : Command → Verdict → List ℕ → SourceState → SourceState → Type 0
+abbrev pub CommandReads : Command → Verdict → List ℕ → SourceState → SourceState
+    → Type 0
 CommandReads asked verdict bytes source source_after =
     ReadsBy (unread_reply asked) verdict bytes source source_after
 
@@ -59,6 +80,11 @@ NeedsNoSource None = Unit {0}
 -- then nothing is read
 abbrev pub ReadsNothing : Option Command → SourceState → SourceState → Type 0
 ReadsNothing asked source source_after = NeedsNoSource asked → source_after ≡ source
+
+-- how the source is left where memory ran out
+pub record StaysWithin (asked : Option Command) (source source_after : SourceState) : Type 0 where
+  pub nothing : ReadsNothing asked source source_after
+  pub within : ReadsWithinLimit source source_after
 
 -- all of a text was written, and nothing else; with an empty one the sink isn't called
 abbrev pub WritesText : List ℕ → SinkState → SinkState → Type 0
@@ -76,17 +102,30 @@ Says (Unspelled byte) err err_after = SaysLine err err_after (syntax_line byte)
 Says (Refused why) err err_after = SaysLine err err_after (refusal_line why)
 Says (Replied reply) err err_after = err_after ≡ err
 
+-- this line was said, and the status tells why
+pub record SaysSo (told : Status) (line : List ℕ) (err err_after : SinkState) (result : Status) :
+    Type 0 where
+  pub is : result ≡ told
+  pub says : SaysLine err err_after line
+
 -- the verdict comes of the command that was asked for and of the bytes that were read
-pub record Judges (call : Call) (verdict : Verdict) : Type 0 where
+pub record Judged (asked_for : Option Command) (source source_after : SourceState)
+    (verdict : Verdict) : Type 0 where
   pub command : Command
-  pub asked : call.asked ≡ Some command
+  pub asked : asked_for ≡ Some command
   pub bytes : List ℕ
-  pub read : CommandReads command verdict bytes call.source call.source_after
+  pub read : CommandReads command verdict bytes source source_after
   pub comes : Comes command bytes verdict
+
+abbrev pub Judges : Call → Verdict → Type 0
+Judges call verdict = Judged call.asked call.source call.source_after verdict
 
 -- a command is asked for that reads a bundle
 abbrev pub ReadsText : Option Command → Type 0
-ReadsText asked = (found : Command) × (asked ≡ Some found) × (unread_reply found ≡ None)
+ReadsText asked =
+    (found : Command)
+    × (asked ≡ Some found)
+    × (unread_reply found ≡ None)
 
 -- the table: what each status says of a call
 abbrev pub Happens : Call → Status → Type 0
@@ -120,7 +159,8 @@ Happens call result =
     × Says verdict call.err call.err_after
 
 -- a reply is written whole, or a part of it and the fault is said
-abbrev pub PrintsReply : Reply → SinkState → SinkState → SinkState → SinkState → Status → Type 0
+abbrev pub PrintsReply : Reply → SinkState → SinkState → SinkState → SinkState
+    → Status → Type 0
 PrintsReply reply out out_after err err_after status.WriteFault =
     Rose out.faults out_after.faults
     × TakesPart out.taken out_after.taken reply.text

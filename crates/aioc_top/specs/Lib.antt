@@ -2,10 +2,12 @@ pub mod Calls
 pub mod Endings
 pub mod Faults
 pub mod Judging
+pub mod Laws
 pub mod Messages
 pub mod Reasons
 pub mod Replies
 pub mod Serve
+pub mod Spelled
 pub mod Status
 pub mod Verdicts
 pub mod Words

@@ -59,12 +59,16 @@ is_finished b H = option_map_or (network_ended b.cast) (network_run b H) false
 abbrev pub last_of : Bool → ℕ → Last
 last_of finished n = if finished then last.Ended n else last.Stopped n
 
+-- the reply that prints a history, where it is known whether the network has ended
+abbrev pub ended_reply : Options → List Entry → Bool → Reply
+ended_reply options H ended = record {
+  end = if ended then end.Done else end.Limit;
+  text = run_text options.aux options.json H (last_of ended (length H));
+}
+
 -- the reply that prints a history
 abbrev pub run_reply : Options → PlainBundle → List Entry → Reply
-run_reply options b H = record {
-  end = if is_finished b H then end.Done else end.Limit;
-  text = run_text options.aux options.json H (last_of (is_finished b H) (length H));
-}
+run_reply options b H = ended_reply options H (is_finished b H)
 
 -- the history of `step`: the run that the schedule takes
 abbrev pub step_history : Options → PlainBundle → List Entry

@@ -2,7 +2,7 @@
 use Rattle.std.specs.Prelude.{◌≡◌, ◌⊎◌, ◌↔◌, ◌≤◌, ◌<◌, ℕ, List, length, Bool, true, false, Option, Some, None, IfSome, All}
 use Rattle.std.specs.Io.KnownBytes.{Appends, IsAtEnd}
 use Rattle.aioc_io.specs.Faults.{Rose}
-use Rattle.aioc_io.specs.Sink.{SaysLine, SinkState, TakesPart}
+use Rattle.aioc_io.specs.Sink.{SaysLine, TakesPart}
 use Rattle.aioc_io.specs.Source.{SourceState}
 use Rattle.dioc_terms.specs.declared.names.Role.{Role}
 use Rattle.dioc_terms.specs.declared.entries.Entry.{Entry}
@@ -28,7 +28,7 @@ use Rattle.command_words.specs.declared.commands.Verb.TheVariants.{Gen}
 use Rattle.load_gen.specs.Made.{made}
 use Rattle.command_words.specs.declared.commands.Command.{Command}
 use Rattle.command_words.specs.declared.commands.Command.TheVariants as command
-use Rattle.aioc_top.specs.Calls.{IsRead, ReadsNothing, ReadsPastLimit, ReadsWithinLimit}
+use Rattle.aioc_top.specs.Calls.{Call, IsRead, ReadsNothing, ReadsPastLimit, ReadsText, ReadsWithinLimit}
 use Rattle.aioc_top.specs.Judging.{is_cut_short}
 use Rattle.aioc_top.specs.Messages.{usage_line, read_fault_line, write_fault_line, too_long_line, memory_line, syntax_line, refusal_line}
 use Rattle.aioc_top.specs.Reasons.{Reason}
@@ -47,16 +47,15 @@ has_printed _ = false
 -- The text of a run was printed: that of some history of an accepted bundle which the bytes spell,
 -- and these are the source's where it tells them. The headline holds of this very history. It is no
 -- longer than the options allow; the status tells how it ended.
-pub record RunPrinted (options : Options) (result : Status) (source : SourceState)
-    (out out_after : SinkState) : Type 0 where
+pub record RunPrinted (options : Options) (call : Call) (result : Status) : Type 0 where
   pub bytes : List ℕ
-  pub read : IsRead source bytes
+  pub read : IsRead call.source bytes
   pub bundle : PlainBundle
   pub spells : Spells bytes bundle
   pub accepted : IsAccepted bundle
   pub history : List Entry
   pub network : Network
-  pub printed : Appends out.taken out_after.taken (run_reply options bundle history).text
+  pub printed : Appends call.out.taken call.out_after.taken (run_reply options bundle history).text
   pub headline : Headline bundle history network
   pub within : length history ≤ options.steps
   pub done : (result ≡ status.Done) ↔ (network_ended bundle.cast network ≡ true)
@@ -65,22 +64,20 @@ pub record RunPrinted (options : Options) (result : Status) (source : SourceStat
 
 -- with `run` the roles' threads have made the printed history, and each change that was due came
 -- before any entry of a role
-abbrev pub RunText : Option Command → Status → SourceState → SinkState → SinkState
-    → Type 0
-RunText asked result source out out_after =
+abbrev pub RunText : Call → Status → Type 0
+RunText call result =
     (options : Options)
-    → asked ≡ Some (command.Run options)
+    → call.asked ≡ Some (command.Run options)
     → has_printed result ≡ true
-    → (run : RunPrinted options result source out out_after) × IsPrompt run.bundle run.history
+    → (run : RunPrinted options call result) × IsPrompt run.bundle run.history
 
 -- with `step` the printed history is the one that the schedule takes
-abbrev pub StepText : Option Command → Status → SourceState → SinkState → SinkState
-    → Type 0
-StepText asked result source out out_after =
+abbrev pub StepText : Call → Status → Type 0
+StepText call result =
     (options : Options)
-    → asked ≡ Some (command.Step options)
+    → call.asked ≡ Some (command.Step options)
     → has_printed result ≡ true
-    → (run : RunPrinted options result source out out_after)
+    → (run : RunPrinted options call result)
     × (run.history ≡ step_history options run.bundle)
 
 -- a command that runs a bundle from its start, with these options
@@ -88,90 +85,84 @@ abbrev pub RunsBundle : Command → Options → Type 0
 RunsBundle found options = (found ≡ command.Run options) ⊎ (found ≡ command.Step options)
 
 -- the headline, of the very history behind the text
-abbrev pub HeadlineHolds : Option Command → Status → SourceState → SinkState → SinkState
-    → Type 0
-HeadlineHolds asked result source out out_after =
+abbrev pub HeadlineHolds : Call → Status → Type 0
+HeadlineHolds call result =
     (options : Options) (found : Command)
-    → asked ≡ Some found
+    → call.asked ≡ Some found
     → RunsBundle found options
     → has_printed result ≡ true
-    → RunPrinted options result source out out_after
+    → RunPrinted options call result
 
 -- The text of a command that says something of a bundle was printed: that of an accepted bundle
 -- which the bytes spell, and these are the source's where it tells them.
-pub record TextPrinted (text_of : PlainBundle → List ℕ) (result : Status) (source : SourceState)
-    (out out_after : SinkState) : Type 0 where
-  pub bytes : List ℕ
-  pub read : IsRead source bytes
-  pub bundle : PlainBundle
-  pub spells : Spells bytes bundle
-  pub accepted : IsAccepted bundle
-  pub printed : Appends out.taken out_after.taken (text_of bundle)
-  pub done : result ≡ status.Done
+pub record TextPrinted (text_of : PlainBundle → List ℕ) (call : Call) (result : Status) : Type 0
+  where
+    pub bytes : List ℕ
+    pub read : IsRead call.source bytes
+    pub bundle : PlainBundle
+    pub spells : Spells bytes bundle
+    pub accepted : IsAccepted bundle
+    pub printed : Appends call.out.taken call.out_after.taken (text_of bundle)
+    pub done : result ≡ status.Done
 
 -- with `check` it is the line that tells how large the bundle is
-abbrev pub CheckText : Option Command → Status → SourceState → SinkState → SinkState
-    → Type 0
-CheckText asked result source out out_after =
-    asked ≡ Some command.Check
+abbrev pub CheckText : Call → Status → Type 0
+CheckText call result =
+    call.asked ≡ Some command.Check
     → has_printed result ≡ true
-    → TextPrinted (λ b. line_of_text (check_line b)) result source out out_after
+    → TextPrinted (λ b. line_of_text (check_line b)) call result
 
 -- with `project` a line for each role
-abbrev pub ProjectText : Option Command → Status → SourceState → SinkState → SinkState
-    → Type 0
-ProjectText asked result source out out_after =
-    asked ≡ Some command.Project
+abbrev pub ProjectText : Call → Status → Type 0
+ProjectText call result =
+    call.asked ≡ Some command.Project
     → has_printed result ≡ true
-    → TextPrinted project_text result source out out_after
+    → TextPrinted project_text call result
 
 -- The judgement of the trace of an accepted bundle was printed, and the status tells it: `Done`
 -- where it is `yes`, `No` where it is `no`. The bytes that were read spell this bundle.
-pub record JudgementPrinted (judge : PlainBundle → Reply) (result : Status) (source : SourceState)
-    (out out_after : SinkState) : Type 0 where
-  pub bytes : List ℕ
-  pub read : IsRead source bytes
-  pub bundle : PlainBundle
-  pub spells : Spells bytes bundle
-  pub accepted : IsAccepted bundle
-  pub printed : Appends out.taken out_after.taken (judge bundle).text
-  pub told : result ≡ status_of_end (judge bundle).end
+pub record JudgementPrinted (judge : PlainBundle → Reply) (call : Call) (result : Status) : Type 0
+  where
+    pub bytes : List ℕ
+    pub read : IsRead call.source bytes
+    pub bundle : PlainBundle
+    pub spells : Spells bytes bundle
+    pub accepted : IsAccepted bundle
+    pub printed : Appends call.out.taken call.out_after.taken (judge bundle).text
+    pub told : result ≡ status_of_end (judge bundle).end
 
 -- with `replay` it is the judgement of the trace section
-abbrev pub ReplayText : Option Command → Status → SourceState → SinkState → SinkState
-    → Type 0
-ReplayText asked result source out out_after =
-    asked ≡ Some command.Replay
+abbrev pub ReplayText : Call → Status → Type 0
+ReplayText call result =
+    call.asked ≡ Some command.Replay
     → has_printed result ≡ true
-    → JudgementPrinted replay_reply result source out out_after
+    → JudgementPrinted replay_reply call result
 
 -- with `monitor` that of one role, which is in the cast
-abbrev pub MonitorText : Option Command → Status → SourceState → SinkState → SinkState
-    → Type 0
-MonitorText asked result source out out_after =
+abbrev pub MonitorText : Call → Status → Type 0
+MonitorText call result =
     (role : Role)
-    → asked ≡ Some (command.Monitor role)
+    → call.asked ≡ Some (command.Monitor role)
     → has_printed result ≡ true
-    → (judged : JudgementPrinted (monitor_reply role) result source out out_after)
+    → (judged : JudgementPrinted (monitor_reply role) call result)
     × (member role judged.bundle.cast ≡ true)
 
 -- the run was printed that goes on from the entries of the trace section, with its headline; or
 -- `no` with the number of the first of them that the network can't do
-abbrev pub ResumePrinted : Options → Status → SourceState → SinkState → SinkState → Type 0
-ResumePrinted options result source out out_after =
-    ((run : RunPrinted options result source out out_after)
+abbrev pub ResumePrinted : Options → Call → Status → Type 0
+ResumePrinted options call result =
+    ((run : RunPrinted options call result)
     × (run.history ≡ resume_history options run.bundle))
-    ⊎ ((judged : JudgementPrinted (resume_reply options) result source out out_after) × (n : ℕ)
+    ⊎ ((judged : JudgementPrinted (resume_reply options) call result) × (n : ℕ)
     × (resume_stray options judged.bundle ≡ Some n))
 
 -- so it is with `resume`
-abbrev pub ResumeText : Option Command → Status → SourceState → SinkState → SinkState
-    → Type 0
-ResumeText asked result source out out_after =
+abbrev pub ResumeText : Call → Status → Type 0
+ResumeText call result =
     (options : Options)
-    → asked ≡ Some (command.Resume options)
+    → call.asked ≡ Some (command.Resume options)
     → has_printed result ≡ true
-    → ResumePrinted options result source out out_after
+    → ResumePrinted options call result
 
 -- the history is the driven one of the visible entries of the trace section, which are exactly what
 -- is visible of it, and the headline holds of it
@@ -196,13 +187,12 @@ DriveTold options b status.Limit = options.steps < length (visible b.trace.entri
 DriveTold options b _ = Unit {0}
 
 -- with `drive` it is the text of the driven run, or `no` with the number of an entry, or nothing
-abbrev pub DriveText : Option Command → Status → SourceState → SinkState → SinkState
-    → Type 0
-DriveText asked result source out out_after =
+abbrev pub DriveText : Call → Status → Type 0
+DriveText call result =
     (options : Options)
-    → asked ≡ Some (command.Drive options)
+    → call.asked ≡ Some (command.Drive options)
     → has_printed result ≡ true
-    → (judged : JudgementPrinted (drive_reply options) result source out out_after)
+    → (judged : JudgementPrinted (drive_reply options) call result)
     × DriveTold options judged.bundle result
 
 -- A bundle with version 2: it is accepted, and its text spells it where it isn't too long. It has
@@ -219,67 +209,62 @@ pub record IsUpgraded (b : PlainBundle) : Type 0 where
       → sched (with_version 2 b) seed limit ≡ sched b seed limit
 
 -- with `upgrade` it is the bundle as it is written with version 2
-abbrev pub UpgradeText : Option Command → Status → SourceState → SinkState → SinkState
-    → Type 0
-UpgradeText asked result source out out_after =
-    asked ≡ Some command.Upgrade
+abbrev pub UpgradeText : Call → Status → Type 0
+UpgradeText call result =
+    call.asked ≡ Some command.Upgrade
     → has_printed result ≡ true
-    → (text : TextPrinted upgrade_text result source out out_after) × IsUpgraded text.bundle
+    → (text : TextPrinted upgrade_text call result) × IsUpgraded text.bundle
 
 -- The text of a mended bundle was printed: that of a bundle which the bytes spell, and these are
 -- the source's where it tells them. Nothing keeps it from being mended. The mended bundle is
 -- accepted, and that text spells it where it isn't too long.
-pub record MendedPrinted (result : Status) (source : SourceState) (out out_after : SinkState) :
-    Type 0 where
+pub record MendedPrinted (call : Call) (result : Status) : Type 0 where
   pub bytes : List ℕ
-  pub read : IsRead source bytes
+  pub read : IsRead call.source bytes
   pub bundle : PlainBundle
   pub spells : Spells bytes bundle
   pub free : mend_refusal bundle ≡ None
-  pub printed : Appends out.taken out_after.taken (mend_text bundle)
+  pub printed : Appends call.out.taken call.out_after.taken (mend_text bundle)
   pub accepted : IsAccepted (mended_bundle bundle)
   pub spelled : length (mend_text bundle) ≤ most_bytes
       → Spells (mend_text bundle) (mended_bundle bundle)
   pub done : result ≡ status.Done
 
 -- with `mend` it is the mended bundle
-abbrev pub MendText : Option Command → Status → SourceState → SinkState → SinkState
-    → Type 0
-MendText asked result source out out_after =
-    asked ≡ Some command.Mend
+abbrev pub MendText : Call → Status → Type 0
+MendText call result =
+    call.asked ≡ Some command.Mend
     → has_printed result ≡ true
-    → MendedPrinted result source out out_after
+    → MendedPrinted call result
 
 -- The line of the bundle that is made of these numbers was printed, and the status tells how its
 -- run ended. The bundle is accepted, and the headline holds of the very run that is counted there.
-pub record GenPrinted (number size : ℕ) (result : Status) (out out_after : SinkState) : Type 0
-  where
-    pub accepted : IsAccepted (made number size)
-    pub network : Network
-    pub headline : Headline (made number size) (gen_history number size) network
-    pub printed : Appends out.taken out_after.taken (line_of_text (gen_line number size
-        (made number size) (gen_history number size) network.updates))
-    pub done : (result ≡ status.Done) ↔ (network_ended (made number size).cast network ≡ true)
-    pub limit : (result ≡ status.Limit) ↔ ((length (gen_history number size) ≡ usual_steps Gen)
-        × (network_ended (made number size).cast network ≡ false))
+pub record GenPrinted (number size : ℕ) (call : Call) (result : Status) : Type 0 where
+  pub accepted : IsAccepted (made number size)
+  pub network : Network
+  pub headline : Headline (made number size) (gen_history number size) network
+  pub printed : Appends call.out.taken call.out_after.taken (line_of_text (gen_line number size
+      (made number size) (gen_history number size) network.updates))
+  pub done : (result ≡ status.Done) ↔ (network_ended (made number size).cast network ≡ true)
+  pub limit : (result ≡ status.Limit) ↔ ((length (gen_history number size) ≡ usual_steps Gen)
+      × (network_ended (made number size).cast network ≡ false))
 
 -- with `gen` it is the line of the made bundle
-abbrev pub GenText : Option Command → Status → SinkState → SinkState → Type 0
-GenText asked result out out_after =
+abbrev pub GenText : Call → Status → Type 0
+GenText call result =
     (number size : ℕ)
-    → asked ≡ Some (command.Gen number size)
+    → call.asked ≡ Some (command.Gen number size)
     → has_printed result ≡ true
-    → GenPrinted number size result out out_after
+    → GenPrinted number size call result
 
 -- The text of sessions was printed: that of some bundles which the bytes spell, and these are the
 -- source's where it tells them. The headline holds of each run that is printed there.
-pub record SessionsPrinted (options : Options) (result : Status) (source : SourceState)
-    (out out_after : SinkState) : Type 0 where
+pub record SessionsPrinted (options : Options) (call : Call) (result : Status) : Type 0 where
   pub bytes : List ℕ
-  pub read : IsRead source bytes
+  pub read : IsRead call.source bytes
   pub bundles : List PlainBundle
   pub spells : SpellsSessions bytes bundles
-  pub printed : Appends out.taken out_after.taken (sessions_reply options bundles).text
+  pub printed : Appends call.out.taken call.out_after.taken (sessions_reply options bundles).text
   pub done : result ≡ status.Done
   pub headlines : All (λ b. refusal b ≡ None
       → (network : Network) × Headline b (step_history options b) network) bundles
@@ -293,13 +278,12 @@ never_of_sessions status.No = true
 never_of_sessions _ = false
 
 -- with `sessions` it is the text of each of them, in their order
-abbrev pub SessionsText : Option Command → Status → SourceState → SinkState → SinkState
-    → Type 0
-SessionsText asked result source out out_after =
+abbrev pub SessionsText : Call → Status → Type 0
+SessionsText call result =
     (options : Options)
-    → asked ≡ Some (command.Sessions options)
+    → call.asked ≡ Some (command.Sessions options)
     → (never_of_sessions result ≡ false)
-    × (has_printed result ≡ true → SessionsPrinted options result source out out_after)
+    × (has_printed result ≡ true → SessionsPrinted options call result)
 
 -- memory ran out, or a device failed: nothing in the bytes makes it come
 abbrev pub GivesUp : Status → Type 0
@@ -316,27 +300,40 @@ decided _ result = result
 
 -- A status comes exactly where its cause is in the bytes of the source, where the source tells
 -- them, as far as these decide it; only want of memory and a fault of a device stand before it.
-pub record ComesExactly (wanted result : Status) (asked : Option Command) (source : SourceState) :
-    Type 0 where
+pub record ComesExactly (wanted : Status) (call : Call) (result : Status) : Type 0 where
   pub only : result ≡ wanted
       → (found : Command)
-      × (asked ≡ Some found)
-      × IfSome source.left (Cause found wanted)
+      × (call.asked ≡ Some found)
+      × IfSome call.source.left (Cause found wanted)
   pub always : (found : Command)
-      → asked ≡ Some found
-      → IfSome source.left (λ bytes. Cause found wanted bytes
+      → call.asked ≡ Some found
+      → IfSome call.source.left (λ bytes.
+      Cause found wanted bytes
       → (decided found result ≡ decided found wanted) ⊎ GivesUp result)
 
 -- words that ask for no command get no other answer, but for want of memory; and nothing else gets
 -- it
-pub record UsageComes (result : Status) (asked : Option Command) : Type 0 where
-  pub only : result ≡ status.Usage → asked ≡ None
-  pub always : asked ≡ None → (result ≡ status.Usage) ⊎ (result ≡ status.Memory)
+pub record UsageComes (call : Call) (result : Status) : Type 0 where
+  pub only : result ≡ status.Usage → call.asked ≡ None
+  pub always : call.asked ≡ None → (result ≡ status.Usage) ⊎ (result ≡ status.Memory)
+
+-- with a read fault a source was to be read, and its count of faults rose
+abbrev pub ReadFaultComes : Call → Status → Type 0
+ReadFaultComes call result =
+    result ≡ status.ReadFault
+    → ReadsText call.asked
+    × Rose call.source.faults call.source_after.faults
+
+-- with a write fault the count of faults of `out` rose
+abbrev pub WriteFaultComes : Call → Status → Type 0
+WriteFaultComes call result =
+    result ≡ status.WriteFault
+    → Rose call.out.faults call.out_after.faults
 
 -- Where no device failed, a bundle that is spelled and not refused gets an answer of its command,
 -- or want of memory; so do sessions that are spelled; and a command that reads nothing gets its
 -- reply, or want of memory.
-pub record IsComplete (result : Status) (found : Command) (source : SourceState) : Type 0 where
+pub record IsComplete (found : Command) (source : SourceState) (result : Status) : Type 0 where
   pub text : session_options found ≡ None
       → unread_reply found ≡ None
       → IfSome source.left (λ bytes. (b : PlainBundle)
@@ -349,17 +346,17 @@ pub record IsComplete (result : Status) (found : Command) (source : SourceState)
       → IfSome source.left (λ bytes. (bundles : List PlainBundle)
       → SpellsSessions bytes bundles
       → (result ≡ status.Done) ⊎ (result ≡ status.Memory))
-  pub unread : (reply : Reply) → unread_reply found ≡ Some reply
+  pub unread : (reply : Reply)
+      → unread_reply found ≡ Some reply
       → (result ≡ status_of_end reply.end) ⊎ (result ≡ status.Memory)
 
-abbrev pub Complete : Status → Option Command → SourceState → SourceState
-    → SinkState → SinkState → Type 0
-Complete result asked source source_after out out_after =
+abbrev pub Complete : Call → Status → Type 0
+Complete call result =
     (found : Command)
-    → asked ≡ Some found
-    → (Rose source.faults source_after.faults → ⊥)
-    → (Rose out.faults out_after.faults → ⊥)
-    → IsComplete result found source
+    → call.asked ≡ Some found
+    → (Rose call.source.faults call.source_after.faults → ⊥)
+    → (Rose call.out.faults call.out_after.faults → ⊥)
+    → IsComplete found call.source result
 
 -- what a text was read for comes after its end
 abbrev pub AfterEnd : Option Command → SourceState → Type 0
@@ -371,69 +368,112 @@ AfterEnd asked source_after =
 
 -- How far a text was read: to its end; of one that is too long one byte more than the limit; and no
 -- more than the limit where the source failed or memory ran out.
-abbrev pub ReadsSoFar : Status → Option Command → SourceState → SourceState → Type 0
-ReadsSoFar status.Usage asked source source_after = source_after ≡ source
-ReadsSoFar status.Done asked source source_after = AfterEnd asked source_after
-ReadsSoFar status.Limit asked source source_after = AfterEnd asked source_after
-ReadsSoFar status.No asked source source_after = AfterEnd asked source_after
-ReadsSoFar status.Syntax asked source source_after = AfterEnd asked source_after
-ReadsSoFar status.Refused asked source source_after = AfterEnd asked source_after
-ReadsSoFar status.WriteFault asked source source_after = AfterEnd asked source_after
-ReadsSoFar status.TooLong asked source source_after = ReadsPastLimit source source_after
-ReadsSoFar status.ReadFault asked source source_after = ReadsWithinLimit source source_after
-ReadsSoFar status.Memory asked source source_after = ReadsWithinLimit source source_after
+abbrev pub ReadsSoFar : Call → Status → Type 0
+ReadsSoFar call status.Usage = call.source_after ≡ call.source
+ReadsSoFar call status.Done = AfterEnd call.asked call.source_after
+ReadsSoFar call status.Limit = AfterEnd call.asked call.source_after
+ReadsSoFar call status.No = AfterEnd call.asked call.source_after
+ReadsSoFar call status.Syntax = AfterEnd call.asked call.source_after
+ReadsSoFar call status.Refused = AfterEnd call.asked call.source_after
+ReadsSoFar call status.WriteFault = AfterEnd call.asked call.source_after
+ReadsSoFar call status.TooLong = ReadsPastLimit call.source call.source_after
+ReadsSoFar call status.ReadFault = ReadsWithinLimit call.source call.source_after
+ReadsSoFar call status.Memory = ReadsWithinLimit call.source call.source_after
 
 -- Words that ask for no command, or for one that has its reply without reading, read nothing; a
 -- text is read so far.
-pub record ReadsAll (result : Status) (asked : Option Command) (source source_after : SourceState) :
-    Type 0 where
-  pub so_far : ReadsSoFar result asked source source_after
-  pub nothing : ReadsNothing asked source source_after
+pub record ReadsAll (call : Call) (result : Status) : Type 0 where
+  pub so_far : ReadsSoFar call result
+  pub nothing : ReadsNothing call.asked call.source call.source_after
 
 -- a part of a text that the command may write for the bytes
-pub record PartPrinted (asked : Option Command) (source : SourceState) (out out_after : SinkState) :
-    Type 0 where
+pub record PartPrinted (call : Call) : Type 0 where
   pub command : Command
-  pub asked_for : asked ≡ Some command
+  pub asked_for : call.asked ≡ Some command
   pub bytes : List ℕ
-  pub read : unread_reply command ≡ None → IsRead source bytes
+  pub read : unread_reply command ≡ None → IsRead call.source bytes
   pub reply : Reply
   pub comes : Comes command bytes (Replied reply)
-  pub part : TakesPart out.taken out_after.taken reply.text
+  pub part : TakesPart call.out.taken call.out_after.taken reply.text
 
 -- `out` isn't called before a refusal, and not by `drive` at its limit; with a fault of `out` it
 -- took a part of a text that it might have taken whole
-abbrev pub Silent : Status → Option Command → SourceState → SinkState → SinkState → Type 0
-Silent status.Done asked source out out_after = Unit {0}
-Silent status.Limit asked source out out_after =
+abbrev pub Silent : Call → Status → Type 0
+Silent call status.Done = Unit {0}
+Silent call status.Limit =
     (options : Options)
-    → asked ≡ Some (command.Drive options)
-    → out_after ≡ out
-Silent status.No asked source out out_after = Unit {0}
-Silent status.WriteFault asked source out out_after = PartPrinted asked source out out_after
-Silent _ asked source out out_after = out_after ≡ out
+    → call.asked ≡ Some (command.Drive options)
+    → call.out_after ≡ call.out
+Silent call status.No = Unit {0}
+Silent call status.WriteFault = PartPrinted call
+Silent call _ = call.out_after ≡ call.out
+
+-- the line of a text that spells nothing: at which byte its reading ends
+abbrev pub SaysSyntax : Call → Type 0
+SaysSyntax call =
+    (found : Command)
+    × (call.asked ≡ Some found)
+    × ((byte : ℕ)
+    × SaysLine call.err call.err_after (syntax_line byte)
+    × IfSome call.source.left (λ bytes. Comes found bytes (Unspelled byte)))
+
+-- the line of a bundle that is refused: why
+abbrev pub SaysRefusal : Call → Type 0
+SaysRefusal call =
+    (found : Command)
+    × (call.asked ≡ Some found)
+    × ((why : Reason)
+    × SaysLine call.err call.err_after (refusal_line why)
+    × IfSome call.source.left (λ bytes. Refuses found bytes why))
 
 -- `err` isn't called where `out` took the whole text, and else it took the line of the status, or a
 -- part of it where it failed
-abbrev pub SaysWhy : Status → Option Command → SourceState → SinkState → SinkState
-    → Type 0
-SaysWhy status.Done asked source err err_after = err_after ≡ err
-SaysWhy status.Limit asked source err err_after = err_after ≡ err
-SaysWhy status.No asked source err err_after = err_after ≡ err
-SaysWhy status.Usage asked source err err_after = SaysLine err err_after usage_line
-SaysWhy status.ReadFault asked source err err_after = SaysLine err err_after read_fault_line
-SaysWhy status.WriteFault asked source err err_after = SaysLine err err_after write_fault_line
-SaysWhy status.TooLong asked source err err_after = SaysLine err err_after too_long_line
-SaysWhy status.Syntax asked source err err_after =
-    (found : Command)
-    × (asked ≡ Some found)
-    × ((byte : ℕ)
-    × SaysLine err err_after (syntax_line byte)
-    × IfSome source.left (λ bytes. Comes found bytes (Unspelled byte)))
-SaysWhy status.Refused asked source err err_after =
-    (found : Command)
-    × (asked ≡ Some found)
-    × ((why : Reason)
-    × SaysLine err err_after (refusal_line why)
-    × IfSome source.left (λ bytes. Refuses found bytes why))
-SaysWhy status.Memory asked source err err_after = SaysLine err err_after memory_line
+abbrev pub SaysWhy : Call → Status → Type 0
+SaysWhy call status.Done = call.err_after ≡ call.err
+SaysWhy call status.Limit = call.err_after ≡ call.err
+SaysWhy call status.No = call.err_after ≡ call.err
+SaysWhy call status.Usage = SaysLine call.err call.err_after usage_line
+SaysWhy call status.ReadFault = SaysLine call.err call.err_after read_fault_line
+SaysWhy call status.WriteFault = SaysLine call.err call.err_after write_fault_line
+SaysWhy call status.TooLong = SaysLine call.err call.err_after too_long_line
+SaysWhy call status.Syntax = SaysSyntax call
+SaysWhy call status.Refused = SaysRefusal call
+SaysWhy call status.Memory = SaysLine call.err call.err_after memory_line
+
+-- What a call ensures: the clauses that `serve` and `serve_alone` share.
+pub record Serves (call : Call) (result : Status) : Type 0 where
+  -- What is printed: with `run` the text of a run that the roles' threads have made, and with
+  -- `step` that of the run which the schedule takes, and no other.
+  pub run_text : RunText call result
+  pub step_text : StepText call result
+  -- With `check` the line that says how large the bundle is, with `project` a line for each role,
+  -- with `replay` the judgement of the trace, with `monitor` that of one role, with `drive` the
+  -- run that shows exactly this trace, with `resume` the run that goes on from its entries, with
+  -- `sessions` what each of them is answered, with `gen` the line of the bundle that is made of
+  -- its numbers, with `upgrade` the bundle in its second version, with `mend` the bundle connected
+  -- by added messages.
+  pub check_text : CheckText call result
+  pub project_text : ProjectText call result
+  pub replay_text : ReplayText call result
+  pub monitor_text : MonitorText call result
+  pub drive_text : DriveText call result
+  pub resume_text : ResumeText call result
+  pub sessions_text : SessionsText call result
+  pub gen_text : GenText call result
+  pub upgrade_text : UpgradeText call result
+  pub mend_text : MendText call result
+  -- When each status comes.
+  pub usage : UsageComes call result
+  pub done : ComesExactly status.Done call result
+  pub limit : ComesExactly status.Limit call result
+  pub no : ComesExactly status.No call result
+  pub too_long : ComesExactly status.TooLong call result
+  pub syntax : ComesExactly status.Syntax call result
+  pub refused : ComesExactly status.Refused call result
+  pub read_fault : ReadFaultComes call result
+  pub write_fault : WriteFaultComes call result
+  pub complete : Complete call result
+  -- What is done with the source and the sinks.
+  pub reads_all : ReadsAll call result
+  pub silent : Silent call result
+  pub says : SaysWhy call result

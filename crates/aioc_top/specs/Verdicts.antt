@@ -10,11 +10,10 @@ use Rattle.command_words.specs.declared.commands.Options.{Options}
 use Rattle.command_words.specs.declared.commands.Command.{Command}
 use Rattle.aioc_top.specs.declared.replies.End.{End}
 use Rattle.aioc_top.specs.declared.replies.End.TheVariants as end
-use Rattle.aioc_top.specs.declared.replies.Written.{Written}
 use Rattle.aioc_top.specs.declared.status.Status.{Status}
 use Rattle.aioc_top.specs.declared.status.Status.TheVariants as status
 use Rattle.aioc_top.specs.Reasons.{Reason}
-use Rattle.aioc_top.specs.Replies.{Reply, Replies, refusal_of, reply_of, session_options, sessions_reply, unread_reply}
+use Rattle.aioc_top.specs.Replies.{Reply, Replies, refusal_of, session_options, sessions_reply, unread_reply}
 
 pub data Verdict : Type 0 where
   TooLong : Verdict
@@ -35,11 +34,6 @@ pub record MayReply (asked : Command) (bytes : List ℕ) (reply : Reply) : Type 
   pub spells : Spells bytes bundle
   pub accepted : refusal_of asked bundle ≡ None
   pub replies : Replies asked bundle reply
-
--- what was written is a reply of the command to a bundle that it takes
-pub record IsReplied (asked : Command) (bundle : PlainBundle) (written : Written) : Type 0 where
-  pub accepted : refusal_of asked bundle ≡ None
-  pub replies : Replies asked bundle (reply_of written)
 
 -- what comes of the bytes of one bundle
 abbrev pub ComesOfText : Command → List ℕ → Verdict → Type 0

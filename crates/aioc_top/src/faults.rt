@@ -1,57 +1,32 @@
-//! Why a command did not do its work, and the line that tells a person so.
+//! Why there is no reply, and the lines that tell a person so.
 
 ghost use Rattle.std.specs.Prelude.{◌≡◌, IfOk};
-ghost use Rattle.aioc_top.specs.Faults.{line_of, status_of};
 ghost use Rattle.aioc_top.specs.Messages.{refusal_line, syntax_line};
 ghost use Rattle.aioc_top.specs.Reasons.{MayNotRun, CannotBeMended};
 
-use crate::status::Status;
-use dioc_terms::Memory;
+use dioc_terms::{Memory, SyntaxFault};
 use mend::MendRefusal;
 use rule_checks::Refusal;
 use std::alloc::Global;
 use text_pieces::{write_bytes, write_number};
 
-/// Why a command did not do its work. Where its line has to be made it is here.
+/// Why there is no reply.
 #[derive(Drop)]
 pub enum Fault {
+    /// The words ask for nothing.
     Usage,
+    /// The source failed.
     ReadFault,
-    WriteFault,
+    /// The source gave more bytes than are allowed.
     TooLong,
-    Syntax(Vec<u8>),
-    Refused(Vec<u8>),
+    /// The bytes spell nothing that the command reads; their reading ends at this byte.
+    Syntax(usize),
+    /// The bundle may not run.
+    Refused(Refusal),
+    /// The bundle can't be mended.
+    Unmendable(MendRefusal),
+    /// Memory ran out.
     Memory,
-}
-
-impl Fault {
-    pub fn status(&self) -> Status
-        ensures { result ≡ status_of self.now }
-    {
-        match self {
-            Fault::Usage => Status::Usage,
-            Fault::ReadFault => Status::ReadFault,
-            Fault::WriteFault => Status::WriteFault,
-            Fault::TooLong => Status::TooLong,
-            Fault::Syntax(_) => Status::Syntax,
-            Fault::Refused(_) => Status::Refused,
-            Fault::Memory => Status::Memory,
-        }
-    }
-
-    pub fn line(&self) -> &[u8]
-        ensures { result.now ≡ line_of self.now }
-    {
-        match self {
-            Fault::Usage => b"usage: aioc COMMAND [OPTIONS]\n",
-            Fault::ReadFault => b"read fault\n",
-            Fault::WriteFault => b"write fault\n",
-            Fault::TooLong => b"too long\n",
-            Fault::Syntax(line) => line,
-            Fault::Refused(line) => line,
-            Fault::Memory => b"out of memory\n",
-        }
-    }
 }
 
 impl From<Memory> for Fault {
@@ -61,6 +36,45 @@ impl From<Memory> for Fault {
 
     fn from(_: Memory) -> Self {
         Fault::Memory
+    }
+}
+
+impl From<SyntaxFault> for Fault {
+    ghost use Rattle.aioc_top.specs.Faults.{syntax_fault};
+
+    ghost from_gives = { λ told made. made ≡ syntax_fault told };
+
+    fn from(fault: SyntaxFault) -> Self {
+        match fault {
+            SyntaxFault::Syntax(byte) => Fault::Syntax(byte),
+            SyntaxFault::Memory => Fault::Memory,
+        }
+    }
+}
+
+impl From<Refusal> for Fault {
+    ghost use Rattle.aioc_top.specs.Faults.{refusal_fault};
+
+    ghost from_gives = { λ told made. made ≡ refusal_fault told };
+
+    fn from(refusal: Refusal) -> Self {
+        match refusal {
+            Refusal::Memory => Fault::Memory,
+            _ => Fault::Refused(refusal),
+        }
+    }
+}
+
+impl From<MendRefusal> for Fault {
+    ghost use Rattle.aioc_top.specs.Faults.{mend_refusal_fault};
+
+    ghost from_gives = { λ told made. made ≡ mend_refusal_fault told };
+
+    fn from(refusal: MendRefusal) -> Self {
+        match refusal {
+            MendRefusal::Refused(Refusal::Memory) => Fault::Memory,
+            _ => Fault::Unmendable(refusal),
+        }
     }
 }
 

@@ -3,8 +3,9 @@
 #![tactic(auto)]
 
 mod commands;
+mod executing;
 mod faults;
-mod judging;
+mod preparing;
 mod reading;
 mod replies;
 mod service;

@@ -1,100 +1,51 @@
-//! From a source to the reply of a command.
+//! From a source to what its bytes spell.
 
-ghost use Rattle.std.specs.Prelude.{◌≡◌, ◌≤◌, false, length, None, IfErr, IfOk};
+ghost use Rattle.std.specs.Prelude.{◌≤◌, length, Some, IfErr, IfOk};
 ghost use Rattle.std.specs.Io.KnownBytes.{IsAtEnd};
 ghost use Rattle.limits.specs.Limits.{most_bytes};
 ghost use Rattle.aioc_top.specs.Calls.{IsRead, ReadsWithinLimit};
-ghost use Rattle.aioc_top.specs.Faults.{ReadSo, Stops, StopsReading};
-ghost use Rattle.aioc_top.specs.Replies.{reply_of, unread_reply};
-ghost use Rattle.aioc_top.specs.Verdicts.{Replied};
-ghost use Rattle.aioc_top.specs.Words.{IsShort, needs_threads};
-ghost use Rattle.command_words.specs.declared.commands.Command.TheVariants as command;
+ghost use Rattle.aioc_top.specs.Faults.{Stops, StopsReading};
+ghost use Rattle.aioc_top.specs.Spelled.{HasRead};
 
-use crate::commands::generate::generate;
 use crate::faults::Fault;
-use crate::judging::{judge, judge_run, judge_sessions};
-use crate::replies::Written;
 use aioc_io::{ReadAllFault, Source, read_all};
-use command_words::{Command, Options};
-use dioc_terms::Memory;
+use bundle_text::{read_bundle, read_sessions};
+use command_words::Command;
+use dioc_terms::Bundle;
 use limits::MOST_BYTES;
-use role_runner::Gate;
 use std::alloc::Global;
-use std::sync::Wait;
-use std::thread::Threads;
 
-/// What the command replies, to all the bytes of the source or without reading, or why it doesn't.
-pub fn answer<S: Source>(alloc: Global, command: &Command, source: &mut S) -> Result<Written, Fault>
-    requires short { IsShort command.now }
-    requires alone { needs_threads command.now ≡ false }
-    ensures reply { IfOk result (λ written.
-        ReadSo command.now (S.state source.old) (S.state source.new) (Replied (reply_of written))) }
-    ensures fault { IfErr result (Stops command.now (S.state source.old) (S.state source.new)) }
-{
-    match command {
-        Command::Gen { number, size } => match generate(alloc, *number, *size) {
-            Ok(written) => Ok(written),
-            Err(Memory) => Err(Fault::Memory),
-        },
-        _ => answer_text(alloc, command, source),
-    }
+/// What the bytes that a command read spell.
+#[derive(Drop)]
+pub enum Spelled {
+    /// Nothing: the command needs no source.
+    Nothing,
+    /// A bundle.
+    Bundle(Bundle),
+    /// The bundles of sessions.
+    Sessions(Vec<Bundle>),
 }
 
-// What a command that reads a bundle replies to all the bytes of the source, or why it doesn't.
-fn answer_text<S: Source>(
+/// What all the bytes of the source spell for the command, which may be nothing that it reads.
+pub fn read_spelled<S: Source>(
     alloc: Global,
     command: &Command,
     source: &mut S,
-) -> Result<Written, Fault>
-    requires short { IsShort command.now }
-    requires alone { needs_threads command.now ≡ false }
-    requires reads { unread_reply command.now ≡ None }
-    ensures reply { IfOk result (λ written.
-        ReadSo command.now (S.state source.old) (S.state source.new) (Replied (reply_of written))) }
-    ensures fault { IfErr result (Stops command.now (S.state source.old) (S.state source.new)) }
-{
-    match read_text(alloc, source) {
-        Ok(bytes) => judge(alloc, command, &bytes),
-        Err(fault) => Err(fault),
-    }
-}
-
-/// What `run` replies to all the bytes of the source, or why it doesn't.
-pub fn answer_run<R: Threads + Wait + Sync, G: Gate + Sync, S: Source>(
-    rt: &R,
-    alloc: Global,
-    options: &Options,
-    source: &mut S,
-    gate: &G,
-) -> Result<Written, Fault>
-    requires short { IsShort (command.Run options.now) }
-    ensures reply { IfOk result (λ written. ReadSo (command.Run options.now)
-        (S.state source.old) (S.state source.new) (Replied (reply_of written))) }
+) -> Result<Spelled, Fault>
+    ensures read { IfOk result (HasRead command.now (S.state source.old) (S.state source.new)) }
     ensures fault { IfErr result
-        (Stops (command.Run options.now) (S.state source.old) (S.state source.new)) }
+        (Stops (Some command.now) (S.state source.old) (S.state source.new)) }
 {
-    match read_text(alloc, source) {
-        Ok(bytes) => judge_run(rt, alloc, options, &bytes, gate),
-        Err(fault) => Err(fault),
-    }
-}
-
-/// What `sessions` replies to all the bytes of the source, or why it doesn't.
-pub fn answer_sessions<R: Threads + Wait + Sync, S: Source>(
-    rt: &R,
-    alloc: Global,
-    options: &Options,
-    source: &mut S,
-) -> Result<Written, Fault>
-    requires short { IsShort (command.Sessions options.now) }
-    ensures reply { IfOk result (λ written. ReadSo (command.Sessions options.now)
-        (S.state source.old) (S.state source.new) (Replied (reply_of written))) }
-    ensures fault { IfErr result
-        (Stops (command.Sessions options.now) (S.state source.old) (S.state source.new)) }
-{
-    match read_text(alloc, source) {
-        Ok(bytes) => judge_sessions(rt, alloc, options, &bytes),
-        Err(fault) => Err(fault),
+    match command {
+        Command::Gen { .. } => Ok(Spelled::Nothing),
+        Command::Sessions(_) => {
+            let bytes = read_text(alloc, source)?;
+            Ok(Spelled::Sessions(read_sessions(alloc, &bytes)?))
+        }
+        _ => {
+            let bytes = read_text(alloc, source)?;
+            Ok(Spelled::Bundle(read_bundle(alloc, &bytes)?))
+        }
     }
 }
 

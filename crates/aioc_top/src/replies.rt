@@ -3,14 +3,16 @@
 ghost use Rattle.std.specs.Prelude.{◌≡◌, if◌then◌else◌, IfOk};
 ghost use Rattle.dioc_terms.specs.Plain.{plain};
 ghost use Rattle.bundle_text.specs.Writing.{bundle_text};
-ghost use Rattle.aioc_top.specs.Replies.{last_of, no, reply_of, yes};
+ghost use Rattle.aioc_top.specs.Replies.{ended_reply, last_of, no, reply_of, yes};
 ghost use Rattle.aioc_top.specs.Verdicts.{status_of_end};
 
 use crate::status::Status;
 use bundle_text::write_bundle;
-use dioc_terms::{Bundle, Last, Memory};
+use command_words::Options;
+use dioc_terms::{Bundle, Entry, Last, Memory};
 use std::alloc::Global;
 use text_pieces::{write_bytes, write_number};
+use trace_text::write_text;
 
 /// How a command ended that has a text to write.
 #[derive(Clone, Copy)]
@@ -95,8 +97,27 @@ pub fn last_line(is_over: bool, entries: u64) -> Last
     }
 }
 
-/// How a run ends for a person: it did its work where its network has ended.
-pub fn run_end(is_over: bool) -> End
+/// The text of a run's entries, as the options want it, and how the run ended.
+pub fn run_written(
+    alloc: Global,
+    options: &Options,
+    entries: &[Entry],
+    is_over: bool,
+) -> Result<Written, Memory>
+    ensures { IfOk result (λ written. reply_of written
+        ≡ ended_reply options.now entries.now is_over) }
+{
+    let last = last_line(is_over, entries.len() as u64);
+    let mut text = Vec::new(alloc);
+    write_text(entries, options.aux, &last, options.json, &mut text)?;
+    Ok(Written {
+        end: run_end(is_over),
+        text,
+    })
+}
+
+// How a run ends for a person: it did its work where its network has ended.
+fn run_end(is_over: bool) -> End
     ensures { result ≡ (if is_over then End.Done else End.Limit) }
 {
     if is_over { End::Done } else { End::Limit }

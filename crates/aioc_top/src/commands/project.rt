@@ -38,7 +38,8 @@ fn write_roles(
     cast: &[Role],
     out: &mut Vec<u8>,
 ) -> Result<(), Memory>
-    requires named { (q : Role) → is_in q (term choreo.now) ≡ true → member q cast.now ≡ true }
+    requires named { (q : Role) → is_in q (term choreo.now) ≡ true
+        → member q cast.now ≡ true }
     ensures ok { OnOk result (out.new.items
         ≡ out.old.items ++ flat_map (role_line cast.now (term choreo.now)) cast.now) }
 {
@@ -56,7 +57,8 @@ fn write_role(
     cast: &[Role],
     out: &mut Vec<u8>,
 ) -> Result<(), Memory>
-    requires named { (q : Role) → is_in q (term choreo.now) ≡ true → member q cast.now ≡ true }
+    requires named { (q : Role) → is_in q (term choreo.now) ≡ true
+        → member q cast.now ≡ true }
     ensures ok { OnOk result (out.new.items
         ≡ out.old.items ++ role_line cast.now (term choreo.now) role.now) }
 {

@@ -2,7 +2,6 @@
 
 ghost use Rattle.std.specs.Prelude.{◌≡◌, ◌≤◌, IfOk};
 ghost use Rattle.dioc_terms.specs.Plain.{plain};
-ghost use Rattle.network_steps.specs.Schedule.{sched_from};
 ghost use Rattle.net_core.specs.Nets.{IsSoundRun};
 ghost use Rattle.rule_checks.specs.Refusals.{IsAccepted};
 ghost use Rattle.command_words.specs.Commands.{most_steps};
@@ -10,7 +9,7 @@ ghost use Rattle.command_words.specs.declared.commands.Verb.{Verb};
 ghost use Rattle.aioc_top.specs.Replies.{reply_of, resume_reply, run_reply};
 
 use crate::commands::drive::push_copy;
-use crate::replies::{End, Written, last_line, say_no};
+use crate::replies::{Written, run_written, say_no};
 use command_words::Options;
 use dioc_terms::{Bundle, Entry, Memory, give_up};
 use flat_role::FlatRole;
@@ -19,7 +18,6 @@ use net_drive::{ResumeFault, run_strays_are_exact};
 use schedule::run_seeded;
 use std::alloc::Global;
 use trace_book::History;
-use trace_text::write_text;
 
 /// The text of the run that goes on from the entries of the trace section, by the schedule and to
 /// at most as many entries as the options say, those of the section included; where these are more,
@@ -34,8 +32,11 @@ pub fn resume(alloc: Global, options: &Options, bundle: &Bundle) -> Result<Writt
     run_strays_are_exact();
     let entries = copy_entries(alloc, bundle.trace.entries.as_slice())?;
     match net_drive::resume(alloc, bundle, &entries, options.steps) {
-        Ok(net) => go_on(alloc, options, net),
-        Err(ResumeFault::Full(net)) => say_run(alloc, options, &net),
+        Ok(mut net) => match run_seeded(&mut net, options.seed) {
+            Ok(_) => say_run(alloc, options, net),
+            Err(fault) => give_up(net, fault),
+        },
+        Err(ResumeFault::Full(net)) => say_run(alloc, options, net),
         Err(ResumeFault::Stray(number)) => say_no(alloc, number),
         Err(ResumeFault::Memory) => Err(Memory),
     }
@@ -52,39 +53,15 @@ fn copy_entries(alloc: Global, entries: &[Entry]) -> Result<History, Memory>
     Ok(copies)
 }
 
-// The text of the run that goes on from a net by the schedule.
-pub(crate) fn go_on(alloc: Global, options: &Options, net: Net<FlatRole>) -> Result<Written, Memory>
-    requires limit { net.limit ≤ 4294967295 }
-    ensures { IfOk result (λ written. reply_of written ≡ run_reply options.now net.bundle
-        (sched_from net.bundle net.history options.now.seed net.limit)) }
-{
-    let mut going = net;
-    match run_seeded(&mut going, options.seed) {
-        Ok(_) => {
-            let said = say_run(alloc, options, &going);
-            drop(going);
-            said
-        }
-        Err(fault) => give_up(going, fault),
-    }
-}
-
-// The text of the run that a net has made, and whether it has ended.
-fn say_run(alloc: Global, options: &Options, net: &Net<FlatRole>) -> Result<Written, Memory>
-    requires run { IsSoundRun net.now }
+/// The text of the run that a net has made, and whether it has ended.
+pub(crate) fn say_run(
+    alloc: Global,
+    options: &Options,
+    net: Net<FlatRole>,
+) -> Result<Written, Memory>
+    requires run { IsSoundRun net }
     ensures { IfOk result (λ written. reply_of written
-        ≡ run_reply options.now net.now.bundle net.now.history) }
+        ≡ run_reply options.now net.bundle net.history) }
 {
-    let is_over = net.is_ended();
-    let last = last_line(is_over, net.history().len());
-    let mut text = Vec::new(alloc);
-    write_text(
-        net.history().as_slice(),
-        options.aux,
-        &last,
-        options.json,
-        &mut text,
-    )?;
-    let end = if is_over { End::Done } else { End::Limit };
-    Ok(Written { end, text })
+    run_written(alloc, options, net.history().as_slice(), net.is_ended())
 }

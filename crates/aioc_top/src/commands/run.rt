@@ -8,7 +8,7 @@ ghost use Rattle.command_words.specs.declared.commands.Command.TheVariants as co
 ghost use Rattle.command_words.specs.declared.commands.Verb.{Verb};
 ghost use Rattle.aioc_top.specs.Replies.{Replies, reply_of};
 
-use crate::replies::{Written, last_line, run_end};
+use crate::replies::{Written, run_written};
 use command_words::Options;
 use dioc_terms::{Bundle, Memory};
 use net_laws::accepted_is_sound;
@@ -16,7 +16,6 @@ use role_runner::Gate;
 use std::alloc::Global;
 use std::sync::Wait;
 use std::thread::Threads;
-use trace_text::write_text;
 
 /// The text of a run in which each role has a thread, to at most as many entries as the options
 /// say, and how it ended. The roles may interleave in any way, and a change that is due comes
@@ -36,17 +35,5 @@ pub fn run<R: Threads + Wait + Sync, G: Gate + Sync>(
 {
     accepted_is_sound();
     let outcome = role_runner::run(rt, alloc, bundle, options.steps, gate)?;
-    let last = last_line(outcome.ended, outcome.history.len());
-    let mut text = Vec::new(alloc);
-    write_text(
-        outcome.history.as_slice(),
-        options.aux,
-        &last,
-        options.json,
-        &mut text,
-    )?;
-    Ok(Written {
-        end: run_end(outcome.ended),
-        text,
-    })
+    run_written(alloc, options, outcome.history.as_slice(), outcome.ended)
 }

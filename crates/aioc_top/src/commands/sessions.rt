@@ -83,7 +83,8 @@ fn write_session(
 
 // Appends what a session is answered.
 fn write_answer(alloc: Global, answer: &Answer, out: &mut Vec<u8>) -> Result<(), Memory>
-    ensures { OnOk result (out.new.items ≡ out.old.items ++ answer_text (answer_seen answer.now)) }
+    ensures { OnOk result
+        (out.new.items ≡ out.old.items ++ answer_text (answer_seen answer.now)) }
 {
     match answer {
         Answer::Ran { history, ended } => {

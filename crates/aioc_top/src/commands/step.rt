@@ -8,14 +8,14 @@ ghost use Rattle.command_words.specs.declared.commands.Verb.{Verb};
 ghost use Rattle.aioc_top.specs.Replies.{reply_of, run_reply, step_history};
 ghost use Rattle.aioc_top.specs.Endings.{end_of};
 
-use crate::commands::resume::go_on;
+use crate::commands::resume::say_run;
 use crate::replies::{End, Written};
 use command_words::Options;
-use dioc_terms::{Bundle, Memory};
+use dioc_terms::{Bundle, Memory, give_up};
 use flat_role::FlatRole;
 use net_core::Net;
 use net_laws::accepted_is_sound;
-use schedule::Finish;
+use schedule::{Finish, run_seeded};
 use std::alloc::Global;
 
 /// The text of the run that the schedule takes from the start of the bundle's network, to at most
@@ -25,11 +25,15 @@ pub fn step(alloc: Global, options: &Options, bundle: &Bundle) -> Result<Written
     requires accepted { IsAccepted (plain bundle.now) }
     requires short { options.now.steps ≤ most_steps Verb.Step }
     ensures { IfOk result (λ written. reply_of written
-        ≡ run_reply options.now (plain bundle.now) (step_history options.now (plain bundle.now))) }
+        ≡ run_reply options.now (plain bundle.now)
+        (step_history options.now (plain bundle.now))) }
 {
     accepted_is_sound();
-    let net: Net<FlatRole> = Net::start(alloc, bundle, options.steps)?;
-    go_on(alloc, options, net)
+    let mut net: Net<FlatRole> = Net::start(alloc, bundle, options.steps)?;
+    match run_seeded(&mut net, options.seed) {
+        Ok(_) => say_run(alloc, options, net),
+        Err(fault) => give_up(net, fault),
+    }
 }
 
 pub(crate) fn end_of(finish: Finish) -> End

@@ -1,9 +1,8 @@
 -- The text is that of the threads' run.
-use Rattle.std.proofs.Common.{◌≡◌, length, arith}
-use Rattle.std.proofs.lemmas.Grind.{common_steps}
+use Rattle.std.proofs.Common.{◌≡◌, IfOk, subst, arith}
 use Rattle.dioc_terms.specs.Plain.{plain}
-use Rattle.trace_text.specs.Runs.{run_text}
-use Rattle.aioc_top.specs.Replies.{last_of}
+use Rattle.aioc_top.specs.Replies.{ended_reply, reply_of}
+use Rattle.aioc_top.proofs.Judged.{mapped_reply}
 use Rattle.aioc_top.proofs.Printing.{run_replied}
 use Rattle.aioc_top.proofs.Projected.{few_roles}
 use Rattle.aioc_top.proofs.commands.run.run.Goals as goal
@@ -18,7 +17,8 @@ pub returns : goal.returns
 returns g c =
     let ran = c.in_ok-outcome.ensures in
     let made = c.in_ok-outcome.outcome in
+    let options = c.args.options.now in
     let H = made.history.entries in
-    let wrote : c.write_text.new.out.items ≡ run_text c.args.options.now.aux c.args.options.now.json H (last_of made.ended (length H)) =
-    grind (arith, common_steps, c.in_ok-write_text.ensures.ok) in
-    run_replied c.args.options.now (plain c.args.bundle.now) H made.ended (record { end = c.run_end.result; text = c.write_text.new.out }) ran.run ran.prompt ran.within ran.ended ran.full c.run_end.ensures wrote
+    let replied : IfOk c.run_written.result (λ written. reply_of written ≡ ended_reply options H made.ended) =
+    subst (λ es. IfOk c.run_written.result (λ written. reply_of written ≡ ended_reply options es made.ended)) c.as_slice.ensures c.run_written.ensures in
+    mapped_reply (λ written e. run_replied options (plain c.args.bundle.now) H made.ended written ran.run ran.prompt ran.within ran.ended ran.full e) c.run_written.result replied

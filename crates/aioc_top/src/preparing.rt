@@ -1,0 +1,57 @@
+//! From words and a source to a command that is ready to be executed.
+
+ghost use Rattle.std.specs.Prelude.{IfErr, IfOk, OnOk};
+ghost use Rattle.aioc_top.specs.Faults.{IsRefusedSo, Stops};
+ghost use Rattle.aioc_top.specs.Spelled.{Admits, Fits, IsReady, refusal_in};
+ghost use Rattle.aioc_top.specs.Words.{asked};
+ghost use Rattle.command_words.specs.Commands.{word_texts};
+
+use crate::commands::monitor::accept_role;
+use crate::faults::Fault;
+use crate::reading::{Spelled, read_spelled};
+use aioc_io::Source;
+use command_words::{Command, read_words};
+use rule_checks::accept;
+use std::alloc::Global;
+
+/// A command with what it has read.
+#[derive(Drop)]
+pub struct Task {
+    /// What the words ask for.
+    pub command: Command,
+    /// What the bytes of the source spell.
+    pub spelled: Spelled,
+}
+
+/// The command that the words ask for, with what it reads of the source, where it takes that; or
+/// why it has no reply.
+pub fn prepare<S: Source>(alloc: Global, words: &[Vec<u8>], source: &mut S) -> Result<Task, Fault>
+    ensures ready { IfOk result (IsReady (asked (word_texts words.now))
+        (S.state source.old) (S.state source.new)) }
+    ensures fault { IfErr result (Stops (asked (word_texts words.now))
+        (S.state source.old) (S.state source.new)) }
+{
+    let Some(command) = read_words(alloc, words)? else {
+        return Err(Fault::Usage);
+    };
+    let spelled = read_spelled(alloc, &command, source)?;
+    accept_spelled(alloc, &command, &spelled)?;
+    Ok(Task { command, spelled })
+}
+
+// Whether the command takes what was read, or the first refusal. `mend` has tests of its own, and
+// makes them as it mends; and no session keeps the others from being answered.
+fn accept_spelled(alloc: Global, command: &Command, spelled: &Spelled) -> Result<(), Fault>
+    requires fits { Fits command.now spelled.now }
+    ensures admits { OnOk result (Admits command.now spelled.now) }
+    ensures fault { IfErr result (IsRefusedSo (refusal_in command.now spelled.now)) }
+{
+    let Spelled::Bundle(bundle) = spelled else {
+        return Ok(());
+    };
+    match command {
+        Command::Mend => Ok(()),
+        Command::Monitor(role) => Ok(accept_role(alloc, role, bundle)?),
+        _ => Ok(accept(alloc, bundle)?),
+    }
+}
