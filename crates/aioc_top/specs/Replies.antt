@@ -296,12 +296,6 @@ refusal_of command.Mend b = option_map CannotBeMended (mend_refusal b)
 refusal_of (command.Monitor role) b = option_map MayNotRun (monitor_refusal role b)
 refusal_of _ b = option_map MayNotRun (refusal b)
 
--- whether the command takes each accepted bundle
-abbrev pub takes_accepted : Command → Bool
-takes_accepted command.Mend = false
-takes_accepted (command.Monitor role) = false
-takes_accepted _ = true
-
 -- What a command may answer to a bundle that it doesn't refuse. A command without a row isn't
 -- defined yet.
 abbrev pub Replies : Command → PlainBundle → Reply → Type 0
