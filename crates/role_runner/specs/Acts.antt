@@ -20,6 +20,11 @@ is_alone (act.Input i) = true
 is_alone (act.Pick i) = true
 is_alone _ = false
 
+-- it begins a scope
+abbrev pub is_scope : Act → Bool
+is_scope (act.Scope i) = true
+is_scope _ = false
+
 -- the fault for which a commit of the act is refused, by the home that is found
 abbrev pub act_fault : Act → HomeState → Option CommitFault
 act_fault (act.Take k) = take_fault k

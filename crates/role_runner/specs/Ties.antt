@@ -5,10 +5,14 @@ use Rattle.dioc_terms.specs.declared.entries.Entry.{Entry}
 use Rattle.dioc_terms.specs.declared.names.Role.{Role}
 use Rattle.dioc_terms.specs.Equality.{member}
 use Rattle.dioc_terms.specs.Plain.{PlainBundle}
+use Rattle.dpoc_process.specs.declared.runs.Got.{Got}
+use Rattle.dpoc_process.specs.Handed.{handed, Brings, IsEnabled}
 use Rattle.dpoc_process.specs.LocalStates.{LocalState}
+use Rattle.dpoc_process.specs.RoleSteps.{IsStep}
+use Rattle.process_steps.specs.Steps.{Given}
 use Rattle.role_runner.specs.Acts.{act_fault}
 use Rattle.role_runner.specs.declared.acting.Tried.{Tried}
-use Rattle.role_runner.specs.declared.acting.Tried.TheVariants.{Behind, Refused}
+use Rattle.role_runner.specs.declared.acting.Tried.TheVariants.{Behind, Done, Refused}
 use Rattle.stage.specs.declared.faults.CommitFault.{CommitFault}
 use Rattle.stage.specs.declared.faults.CommitFault.TheVariants.{Full, Memory, NotYet}
 use Rattle.stage.specs.Holds.{SawLimit}
@@ -88,3 +92,18 @@ pub record LeftFor (fault_of : HomeState → Option CommitFault) (v w : View Ent
   pub came : WentOn v before
   pub refused : RefusedFor fault_of before after f
   pub left : LookedOn after w
+
+-- A commit of the act was made: with what came the role can do it, and where it has, its state is
+-- tied to the seat.
+pub record IsCommitted (bundle : PlainBundle) (q : Role) (v w : View Entry Base) (s : LocalState)
+    (a : Act) (got : Got) : Type 0 where
+  pub enabled : IsEnabled s a (handed got)
+  pub given : Given
+  pub brings : Brings s a (handed got) given
+  pub leaves : (next : LocalState) → IsStep s a given next → Leaves bundle q v w Done next
+
+-- a commit of the act was refused for this fault, and the role's state is tied to the seat still
+pub record IsUncommitted (bundle : PlainBundle) (q : Role) (v w : View Entry Base) (s : LocalState)
+    (a : Act) (f : CommitFault) : Type 0 where
+  pub leaves : Leaves bundle q v w (Refused f) s
+  pub tried : IsRefusedTry a v w s s f

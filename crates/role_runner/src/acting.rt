@@ -11,16 +11,17 @@ ghost use Rattle.dioc_terms.specs.Plain.{plain};
 ghost use Rattle.flat_role.specs.FlatStates.{local_of, IsReady};
 ghost use Rattle.dpoc_process.specs.RoleSteps.{IsPrepared};
 ghost use Rattle.marked_laws.specs.Laws.{IsSound};
-ghost use Rattle.role_runner.specs.Acts.{is_alone};
-ghost use Rattle.role_runner.specs.Ties.{IfRefused, IsRefusedTry, IsTied, Leaves, is_not_yet};
+ghost use Rattle.role_runner.specs.Acts.{is_alone, is_scope};
+ghost use Rattle.role_runner.specs.Ties.{IfRefused, IsCommitted, IsRefusedTry, IsTied, IsUncommitted, Leaves, is_not_yet};
 ghost use Rattle.stage.specs.Seats.{CanCommitOwn, CommittedOwn, RefusedFor};
 ghost use Rattle.stage.specs.Faults.{role_fault};
 ghost use Rattle.stage.specs.Stages.{IsSeatIn};
 ghost use Rattle.turn_lock.specs.Words.{view};
 
+use crate::actors::Actor;
 use crate::gates::{Gate, Place};
 use crate::known::known;
-use dioc_terms::{Act, Bundle, Entry, Key, Name, Payload, Role};
+use dioc_terms::{Act, Entry, Key, Name, Payload};
 use dpoc_process::{Got, Prepared, Runs};
 use flat_role::FlatRole;
 use stage::{CommitFault, Home, Stage};
@@ -48,29 +49,90 @@ impl Tried {
     }
 }
 
-/// Puts the message of a put for which the role is ready.
-pub(crate) fn put<R: Wait, G: Gate>(
+/// Commits an act for which the role is ready, and lets the role's own state do it. A scope is
+/// begun elsewhere.
+pub(crate) fn commit<R: Wait, G: Gate>(
     rt: &R,
-    stage: &Stage,
-    bundle: &Bundle,
-    gate: &G,
-    role: &Role,
+    actor: &Actor<'_, G>,
     seat: Seat<Home>,
     state: &mut FlatRole,
     act: &Act,
     prepared: Prepared,
 ) -> (Seat<Home>, Tried)
-    requires sound { IsSound (plain bundle.now) }
-    requires of { IsSeatIn stage.now seat }
-    requires tied { IsTied (plain bundle.now) role.now (view seat) (local_of state.old) }
-    requires ready { IsReady state.old act.now }
+    requires sound { IsSound (plain actor.now.bundle.now) }
+    requires of { IsSeatIn actor.now.stage.now seat }
+    requires tied { IsTied (plain actor.now.bundle.now) actor.now.role.now (view seat)
+        (local_of state.old) }
     requires shown { IsPrepared (local_of state.old) act.now prepared }
-    requires put { (k : OneKey) × (act.now ≡ acts.Put k) }
-    ensures of { IsSeatIn stage.now result.0 }
-    ensures leaves { Leaves (plain bundle.now) role.now (view seat) (view result.0) result.1
-        (local_of state.new) }
+    requires ready { IsReady state.old act.now }
+    requires no_scope { is_scope act.now ≡ false }
+    ensures of { IsSeatIn actor.now.stage.now result.0 }
+    ensures leaves { Leaves (plain actor.now.bundle.now) actor.now.role.now (view seat)
+        (view result.0) result.1 (local_of state.new) }
     ensures refused { IfRefused result.1 (IsRefusedTry act.now (view seat) (view result.0)
         (local_of state.old) (local_of state.new)) }
+{
+    let (seat, done) = on_stage(rt, actor, seat, state, act, prepared);
+    match done {
+        Ok(got) => {
+            actor.gate.pass(rt, Place::AfterStep(actor.role));
+            state.advance(act, got);
+            (seat, Tried::Done)
+        }
+        Err(fault) => (seat, Tried::Refused(fault)),
+    }
+}
+
+/// Commits an act for which the role is ready. The role's own state stays as it is; what the commit
+/// brings is what its step takes.
+fn on_stage<R: Wait, G: Gate>(
+    rt: &R,
+    actor: &Actor<'_, G>,
+    seat: Seat<Home>,
+    state: &FlatRole,
+    act: &Act,
+    prepared: Prepared,
+) -> (Seat<Home>, Result<Got, CommitFault>)
+    requires sound { IsSound (plain actor.now.bundle.now) }
+    requires of { IsSeatIn actor.now.stage.now seat }
+    requires tied { IsTied (plain actor.now.bundle.now) actor.now.role.now (view seat)
+        (local_of state.now) }
+    requires shown { IsPrepared (local_of state.now) act.now prepared }
+    requires no_scope { is_scope act.now ≡ false }
+    ensures of { IsSeatIn actor.now.stage.now result.0 }
+    ensures done { IfOk result.1 (IsCommitted (plain actor.now.bundle.now) actor.now.role.now
+        (view seat) (view result.0) (local_of state.now) act.now) }
+    ensures refused { IfErr result.1 (IsUncommitted (plain actor.now.bundle.now)
+        actor.now.role.now (view seat) (view result.0) (local_of state.now) act.now) }
+{
+    match act {
+        Act::Put(_) => put(rt, actor, seat, state, act, prepared),
+        Act::Take(_) => take(rt, actor, seat, state, act, prepared),
+        Act::Set(_) | Act::Input(_) | Act::Pick(_) => alone(rt, actor, seat, state, act, prepared),
+        Act::Scope(_) => unreachable!(),
+    }
+}
+
+/// Puts the message of a put for which the role is ready.
+fn put<R: Wait, G: Gate>(
+    rt: &R,
+    actor: &Actor<'_, G>,
+    seat: Seat<Home>,
+    state: &FlatRole,
+    act: &Act,
+    prepared: Prepared,
+) -> (Seat<Home>, Result<Got, CommitFault>)
+    requires sound { IsSound (plain actor.now.bundle.now) }
+    requires of { IsSeatIn actor.now.stage.now seat }
+    requires tied { IsTied (plain actor.now.bundle.now) actor.now.role.now (view seat)
+        (local_of state.now) }
+    requires shown { IsPrepared (local_of state.now) act.now prepared }
+    requires put { (k : OneKey) × (act.now ≡ acts.Put k) }
+    ensures of { IsSeatIn actor.now.stage.now result.0 }
+    ensures done { IfOk result.1 (IsCommitted (plain actor.now.bundle.now) actor.now.role.now
+        (view seat) (view result.0) (local_of state.now) act.now) }
+    ensures refused { IfErr result.1 (IsUncommitted (plain actor.now.bundle.now)
+        actor.now.role.now (view seat) (view result.0) (local_of state.now) act.now) }
 {
     known();
     process_steps::offers_are_steps();
@@ -84,14 +146,10 @@ pub(crate) fn put<R: Wait, G: Gate>(
     drop((entry, head));
     let Act::Put(key) = own else { unreachable!() };
     let payload = sent(payload);
-    let (seat, done) = stage.commit_put(rt, seat, key, payload);
+    let (seat, done) = actor.stage.commit_put(rt, seat, key, payload);
     match done {
-        Ok(()) => {
-            gate.pass(rt, Place::AfterStep(role));
-            state.advance(act, Got::Nothing);
-            (seat, Tried::Done)
-        }
-        Err(fault) => (seat, Tried::Refused(fault)),
+        Ok(()) => (seat, Ok(Got::Nothing)),
+        Err(fault) => (seat, Err(fault)),
     }
 }
 
@@ -104,28 +162,25 @@ fn sent(payload: Option<Payload>) -> Payload
 }
 
 /// Takes the message of a take for which the role is ready.
-pub(crate) fn take<R: Wait, G: Gate>(
+fn take<R: Wait, G: Gate>(
     rt: &R,
-    stage: &Stage,
-    bundle: &Bundle,
-    gate: &G,
-    role: &Role,
+    actor: &Actor<'_, G>,
     seat: Seat<Home>,
-    state: &mut FlatRole,
+    state: &FlatRole,
     act: &Act,
     prepared: Prepared,
-) -> (Seat<Home>, Tried)
-    requires sound { IsSound (plain bundle.now) }
-    requires of { IsSeatIn stage.now seat }
-    requires tied { IsTied (plain bundle.now) role.now (view seat) (local_of state.old) }
-    requires ready { IsReady state.old act.now }
-    requires shown { IsPrepared (local_of state.old) act.now prepared }
+) -> (Seat<Home>, Result<Got, CommitFault>)
+    requires sound { IsSound (plain actor.now.bundle.now) }
+    requires of { IsSeatIn actor.now.stage.now seat }
+    requires tied { IsTied (plain actor.now.bundle.now) actor.now.role.now (view seat)
+        (local_of state.now) }
+    requires shown { IsPrepared (local_of state.now) act.now prepared }
     requires take { (k : OneKey) × (act.now ≡ acts.Take k) }
-    ensures of { IsSeatIn stage.now result.0 }
-    ensures leaves { Leaves (plain bundle.now) role.now (view seat) (view result.0) result.1
-        (local_of state.new) }
-    ensures refused { IfRefused result.1 (IsRefusedTry act.now (view seat) (view result.0)
-        (local_of state.old) (local_of state.new)) }
+    ensures of { IsSeatIn actor.now.stage.now result.0 }
+    ensures done { IfOk result.1 (IsCommitted (plain actor.now.bundle.now) actor.now.role.now
+        (view seat) (view result.0) (local_of state.now) act.now) }
+    ensures refused { IfErr result.1 (IsUncommitted (plain actor.now.bundle.now)
+        actor.now.role.now (view seat) (view result.0) (local_of state.now) act.now) }
 {
     known();
     process_steps::offers_are_steps();
@@ -138,15 +193,11 @@ pub(crate) fn take<R: Wait, G: Gate>(
     } = prepared;
     drop((own, head, payload));
     let (key, var) = taken(entry);
-    let (seat, done) = stage.commit_take(rt, seat, &key, var);
+    let (seat, done) = actor.stage.commit_take(rt, seat, &key, var);
     drop(key);
     match done {
-        Ok(payload) => {
-            gate.pass(rt, Place::AfterStep(role));
-            state.advance(act, Got::Payload(payload));
-            (seat, Tried::Done)
-        }
-        Err(fault) => (seat, Tried::Refused(fault)),
+        Ok(payload) => (seat, Ok(Got::Payload(payload))),
+        Err(fault) => (seat, Err(fault)),
     }
 }
 
@@ -160,28 +211,25 @@ fn taken(entry: Option<Entry>) -> (Key, Option<Name>)
 
 /// Does what a role does alone, for which it is ready: it sets a variable, reads an input or picks
 /// a branch.
-pub(crate) fn alone<R: Wait, G: Gate>(
+fn alone<R: Wait, G: Gate>(
     rt: &R,
-    stage: &Stage,
-    bundle: &Bundle,
-    gate: &G,
-    role: &Role,
+    actor: &Actor<'_, G>,
     seat: Seat<Home>,
-    state: &mut FlatRole,
+    state: &FlatRole,
     act: &Act,
     prepared: Prepared,
-) -> (Seat<Home>, Tried)
-    requires sound { IsSound (plain bundle.now) }
-    requires of { IsSeatIn stage.now seat }
-    requires tied { IsTied (plain bundle.now) role.now (view seat) (local_of state.old) }
-    requires ready { IsReady state.old act.now }
-    requires shown { IsPrepared (local_of state.old) act.now prepared }
+) -> (Seat<Home>, Result<Got, CommitFault>)
+    requires sound { IsSound (plain actor.now.bundle.now) }
+    requires of { IsSeatIn actor.now.stage.now seat }
+    requires tied { IsTied (plain actor.now.bundle.now) actor.now.role.now (view seat)
+        (local_of state.now) }
+    requires shown { IsPrepared (local_of state.now) act.now prepared }
     requires alone { is_alone act.now ≡ true }
-    ensures of { IsSeatIn stage.now result.0 }
-    ensures leaves { Leaves (plain bundle.now) role.now (view seat) (view result.0) result.1
-        (local_of state.new) }
-    ensures refused { IfRefused result.1 (IsRefusedTry act.now (view seat) (view result.0)
-        (local_of state.old) (local_of state.new)) }
+    ensures of { IsSeatIn actor.now.stage.now result.0 }
+    ensures done { IfOk result.1 (IsCommitted (plain actor.now.bundle.now) actor.now.role.now
+        (view seat) (view result.0) (local_of state.now) act.now) }
+    ensures refused { IfErr result.1 (IsUncommitted (plain actor.now.bundle.now)
+        actor.now.role.now (view seat) (view result.0) (local_of state.now) act.now) }
 {
     known();
     process_steps::offers_are_steps();
@@ -194,14 +242,10 @@ pub(crate) fn alone<R: Wait, G: Gate>(
     } = prepared;
     drop((own, head, payload));
     let entry = shown(entry);
-    let (seat, done) = commit_alone(rt, stage, seat, act, entry);
+    let (seat, done) = commit_alone(rt, actor.stage, seat, act, entry);
     match done {
-        Ok(()) => {
-            gate.pass(rt, Place::AfterStep(role));
-            state.advance(act, Got::Nothing);
-            (seat, Tried::Done)
-        }
-        Err(fault) => (seat, Tried::Refused(fault)),
+        Ok(()) => (seat, Ok(Got::Nothing)),
+        Err(fault) => (seat, Err(fault)),
     }
 }
 

@@ -2,6 +2,7 @@
 #![tactic(auto)]
 
 mod acting;
+mod actors;
 mod feeding;
 mod gates;
 mod known;

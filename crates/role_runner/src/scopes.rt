@@ -19,49 +19,46 @@ ghost use Rattle.stage.specs.Stages.{IsSeatIn};
 ghost use Rattle.turn_lock.specs.Words.{view};
 
 use crate::acting::Tried;
+use crate::actors::Actor;
 use crate::gates::{Gate, Place};
-use dioc_terms::{Act, Bundle, Memory, Role, Rule, ScopeHead};
+use dioc_terms::{Act, Bundle, Memory, Rule, ScopeHead};
 use dpoc_process::{Got, Prepared, Runs};
 use flat_role::FlatRole;
 use scope_leader::plan_update;
-use stage::{Home, Stage};
-use std::alloc::Global;
+use stage::Home;
 use std::sync::Wait;
 use turn_lock::Seat;
 
 /// Begins a scope for which the role is ready.
 pub(crate) fn begin<R: Wait, G: Gate>(
     rt: &R,
-    alloc: Global,
-    stage: &Stage,
-    bundle: &Bundle,
-    gate: &G,
-    role: &Role,
+    actor: &Actor<'_, G>,
     seat: Seat<Home>,
     state: &mut FlatRole,
     act: &Act,
     prepared: Prepared,
 ) -> (Seat<Home>, Tried)
-    requires sound { IsSound (plain bundle.now) }
-    requires of { IsSeatIn stage.now seat }
-    requires tied { IsTied (plain bundle.now) role.now (view seat) (local_of state.old) }
+    requires sound { IsSound (plain actor.now.bundle.now) }
+    requires of { IsSeatIn actor.now.stage.now seat }
+    requires tied { IsTied (plain actor.now.bundle.now) actor.now.role.now (view seat)
+        (local_of state.old) }
     requires ready { IsReady state.old act.now }
     requires shown { IsPrepared (local_of state.old) act.now prepared }
     requires scope { (i : OneIndex) × (act.now ≡ acts.Scope i) }
-    ensures of { IsSeatIn stage.now result.0 }
-    ensures leaves { Leaves (plain bundle.now) role.now (view seat) (view result.0) result.1
-        (local_of state.new) }
+    ensures of { IsSeatIn actor.now.stage.now result.0 }
+    ensures leaves { Leaves (plain actor.now.bundle.now) actor.now.role.now (view seat)
+        (view result.0) result.1 (local_of state.new) }
     ensures refused { IfRefused result.1 (IsRefusedTry act.now (view seat) (view result.0)
         (local_of state.old) (local_of state.new)) }
 {
     scope_leader::leaders_tell();
     process_steps::offers_are_steps();
     let head = prepared.into_head();
-    let (seat, done) = stage.commit_scope(rt, seat, &head, state.store());
+    let (seat, done) = actor.stage.commit_scope(rt, seat, &head, state.store());
     match done {
         Ok(update) => {
-            gate.pass(rt, Place::AfterStep(role));
-            match go_on(rt, alloc, bundle, gate, role, state, act, &head, update) {
+            actor.gate.pass(rt, Place::AfterStep(actor.role));
+            match go_on(rt, actor, state, act, &head, update) {
                 Ok(()) => (seat, Tried::Done),
                 Err(_) => (seat, Tried::Behind),
             }
@@ -74,27 +71,26 @@ pub(crate) fn begin<R: Wait, G: Gate>(
 /// it, which the leader projects first. After a refusal the role has not gone on.
 fn go_on<R: Wait, G: Gate>(
     rt: &R,
-    alloc: Global,
-    bundle: &Bundle,
-    gate: &G,
-    role: &Role,
+    actor: &Actor<'_, G>,
     state: &mut FlatRole,
     act: &Act,
     head: &ScopeHead,
     update: Option<(u32, u32)>,
 ) -> Result<(), Memory>
-    requires sound { IsSound (plain bundle.now) }
+    requires sound { IsSound (plain actor.now.bundle.now) }
     requires ready { IsReady state.old act.now }
     requires can { IsEnabled (local_of state.old) act.now Kept }
     requires led { (lead : Lead) × (acting_lead (local_of state.old) act.now ≡ Some lead)
         × (lead.head ≡ head.now) }
-    requires tells { Tells bundle.now.cast (local_of state.old) act.now }
+    requires tells { Tells actor.now.bundle.now.cast (local_of state.old) act.now }
     requires chosen { (book : Book) × (count : ℕ) × (update
-        ≡ update_of (plain bundle.now).rules book count head.now (local_of state.old).store) }
+        ≡ update_of (plain actor.now.bundle.now).rules book count head.now
+        (local_of state.old).store) }
     ensures steps { (book : Book) (count : ℕ) → update
-        ≡ update_of (plain bundle.now).rules book count head.now (local_of state.old).store
+        ≡ update_of (plain actor.now.bundle.now).rules book count head.now
+        (local_of state.old).store
         → OnOk result (IsStep (local_of state.old) act.now
-        (book_given (plain bundle.now) book count (local_of state.old).store)
+        (book_given (plain actor.now.bundle.now) book count (local_of state.old).store)
         (local_of state.new)) }
 {
     dioc_terms::choices_go_on();
@@ -103,9 +99,10 @@ fn go_on<R: Wait, G: Gate>(
         state.advance(act, Got::Keep);
         return Ok(());
     };
-    gate.pass(rt, Place::Projecting(role));
-    let rule = rule_at(bundle, number);
-    let parts = plan_update(alloc, head, bundle.cast.as_slice(), epoch, &rule.body)?;
+    actor.gate.pass(rt, Place::Projecting(actor.role));
+    let rule = rule_at(actor.bundle, number);
+    let cast = actor.bundle.cast.as_slice();
+    let parts = plan_update(actor.alloc, head, cast, epoch, &rule.body)?;
     state.advance(act, Got::Parts(parts));
     Ok(())
 }

@@ -9,6 +9,7 @@ ghost use Rattle.role_runner.specs.Starts.{Gives, IsStarted};
 ghost use Rattle.stage.specs.Stages.{IsSeatIn};
 ghost use Rattle.turn_lock.specs.Words.{view};
 
+use crate::actors::Actor;
 use crate::feeding::feed;
 use crate::gates::Gate;
 use crate::playing::play;
@@ -208,8 +209,15 @@ fn run_place<R: Wait, G: Gate>(
     }
     match bundle.cast.as_slice().get(place) {
         Some(role) => {
-            let number = place as u32;
-            let (seat, state) = play(rt, alloc, stage, bundle, gate, role, number, seat);
+            let actor = Actor {
+                alloc,
+                stage,
+                bundle,
+                gate,
+                role,
+                place: place as u32,
+            };
+            let (seat, state) = play(rt, &actor, seat);
             Job { seat, state }
         }
         None => {

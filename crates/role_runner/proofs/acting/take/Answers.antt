@@ -29,46 +29,32 @@ commit_take-seat-requires-clause-can g c =
     let key = c.taken-key.result.0 in
     let is : c.args.act.now ≡ act.Take key =
     take_key c.offers_are_steps.ensures c.steps_show_their_acts.ensures s c.args.act.now c.args.prepared c.requires.shown c.requires.take.0 c.requires.take.1 key c.taken-key.result.1 c.taken-key.ensures in
-    take_can c.known.ensures c.offers_are_steps.ensures c.steps_show_their_acts.ensures (plain c.args.bundle.now) c.requires.sound c.args.role.now (view c.args.seat) (local_of c.args.state.now) c.requires.tied key c.args.prepared
+    take_can c.known.ensures c.offers_are_steps.ensures c.steps_show_their_acts.ensures (plain c.args.actor.now.bundle.now) c.requires.sound c.args.actor.now.role.now (view c.args.seat) (local_of c.args.state.now) c.requires.tied key c.args.prepared
     (subst (λ a. IsPrepared s a c.args.prepared) is c.requires.shown) c.taken-key.result.1 c.taken-key.ensures
 
-pub advance-requires-clause-can : goal.advance-requires-clause-can
-advance-requires-clause-can g c =
+pub returns-in-Ok-clause-done : goal.returns-in-Ok-clause-done
+returns-in-Ok-clause-done g c =
     let s = local_of c.args.state.now in
     let v = view c.args.seat in
     let w = view c.commit_take-seat.result.0 in
     let key = c.taken-key.result.0 in
+    let var = c.taken-key.result.1 in
     let l = load c.in-Ok.payload in
     let is : c.args.act.now ≡ act.Take key =
-    take_key c.offers_are_steps.ensures c.steps_show_their_acts.ensures s c.args.act.now c.args.prepared c.requires.shown c.requires.take.0 c.requires.take.1 key c.taken-key.result.1 c.taken-key.ensures in
-    subst (λ a. IsEnabled s a (Message l)) (sym is)
-    (take_enabled c.known.ensures c.offers_are_steps.ensures c.steps_show_their_acts.ensures (plain c.args.bundle.now) c.requires.sound c.args.role.now (view c.args.seat) (local_of c.args.state.now) c.requires.tied key c.args.prepared
-    (subst (λ a. IsPrepared s a c.args.prepared) is c.requires.shown) (take_fault key) w l c.taken-key.result.1
-    (if_ok_at (λ payload. Committed (take_fault key) v w key.to (act.Take key) (Got (load payload)) (Takes key c.taken-key.result.1 (load payload))) c.commit_take-seat.result.1 c.in-Ok.payload
-    c.commit_take-seat.ensures.done c.in-Ok.is))
-
-pub returns-in-Ok-clause-leaves : goal.returns-in-Ok-clause-leaves
-returns-in-Ok-clause-leaves g c =
-    let s = local_of c.args.state.now in
-    let v = view c.args.seat in
-    let w = view c.commit_take-seat.result.0 in
-    let key = c.taken-key.result.0 in
-    let l = load c.in-Ok.payload in
-    let is : c.args.act.now ≡ act.Take key =
-    take_key c.offers_are_steps.ensures c.steps_show_their_acts.ensures s c.args.act.now c.args.prepared c.requires.shown c.requires.take.0 c.requires.take.1 key c.taken-key.result.1 c.taken-key.ensures in
-    take_leaves c.known.ensures c.offers_are_steps.ensures c.steps_show_their_acts.ensures (plain c.args.bundle.now) c.requires.sound c.args.role.now (view c.args.seat) (local_of c.args.state.now) c.requires.tied key c.args.prepared
-    (subst (λ a. IsPrepared s a c.args.prepared) is c.requires.shown) (take_fault key) w l c.taken-key.result.1
-    (if_ok_at (λ payload. Committed (take_fault key) v w key.to (act.Take key) (Got (load payload)) (Takes key c.taken-key.result.1 (load payload))) c.commit_take-seat.result.1 c.in-Ok.payload
-    c.commit_take-seat.ensures.done c.in-Ok.is)
-    (local_of c.advance.new.self) (subst (λ a. IsStep s a (Got l) (local_of c.advance.new.self)) is (c.advance.ensures.steps (Got l) refl))
-
-pub returns-in-Err-clause-leaves : goal.returns-in-Err-clause-leaves
-returns-in-Err-clause-leaves g c =
-    let key = c.taken-key.result.0 in
-    let w = view c.commit_take-seat.result.0 in
-    refused_leaves (plain c.args.bundle.now) c.args.role.now (view c.args.seat) (local_of c.args.state.now) c.requires.tied (take_fault key) w c.in-Err.fault
-    (goes_on c.offers_are_steps.ensures (local_of c.args.state.now) c.args.act.now c.requires.shown.can_act) (take_full key)
-    (if_err_at (RefusedFor (take_fault key) (view c.args.seat) w) c.commit_take-seat.result.1 c.in-Err.fault c.commit_take-seat.ensures.refused c.in-Err.is)
+    take_key c.offers_are_steps.ensures c.steps_show_their_acts.ensures s c.args.act.now c.args.prepared c.requires.shown c.requires.take.0 c.requires.take.1 key var c.taken-key.ensures in
+    let shown = subst (λ a. IsPrepared s a c.args.prepared) is c.requires.shown in
+    let done = if_ok_at (λ payload. Committed (take_fault key) v w key.to (act.Take key) (Got (load payload)) (Takes key var (load payload))) c.commit_take-seat.result.1 c.in-Ok.payload
+    c.commit_take-seat.ensures.done c.in-Ok.is in
+    record {
+      enabled = subst (λ a. IsEnabled s a (Message l)) (sym is)
+          (take_enabled c.known.ensures c.offers_are_steps.ensures c.steps_show_their_acts.ensures (plain c.args.actor.now.bundle.now) c.requires.sound c.args.actor.now.role.now v s c.requires.tied key c.args.prepared shown
+          (take_fault key) w l var done);
+      given = Got l;
+      brings = refl;
+      leaves = λ next stepped.
+          take_leaves c.known.ensures c.offers_are_steps.ensures c.steps_show_their_acts.ensures (plain c.args.actor.now.bundle.now) c.requires.sound c.args.actor.now.role.now v s c.requires.tied key c.args.prepared shown
+          (take_fault key) w l var done next (subst (λ a. IsStep s a (Got l) next) is stepped);
+    }
 
 pub returns-in-Err-clause-refused : goal.returns-in-Err-clause-refused
 returns-in-Err-clause-refused g c =
@@ -76,5 +62,9 @@ returns-in-Err-clause-refused g c =
     let w = view c.commit_take-seat.result.0 in
     let is : c.args.act.now ≡ act.Take key =
     take_key c.offers_are_steps.ensures c.steps_show_their_acts.ensures (local_of c.args.state.now) c.args.act.now c.args.prepared c.requires.shown c.requires.take.0 c.requires.take.1 key c.taken-key.result.1 c.taken-key.ensures in
-    refused_try c.args.act.now (take_fault key) (view c.args.seat) w (local_of c.args.state.now) c.in-Err.fault (ap act_fault is)
-    (if_err_at (RefusedFor (take_fault key) (view c.args.seat) w) c.commit_take-seat.result.1 c.in-Err.fault c.commit_take-seat.ensures.refused c.in-Err.is)
+    let refused = if_err_at (RefusedFor (take_fault key) (view c.args.seat) w) c.commit_take-seat.result.1 c.in-Err.fault c.commit_take-seat.ensures.refused c.in-Err.is in
+    record {
+      leaves = refused_leaves (plain c.args.actor.now.bundle.now) c.args.actor.now.role.now (view c.args.seat) (local_of c.args.state.now) c.requires.tied (take_fault key) w c.in-Err.fault
+          (goes_on c.offers_are_steps.ensures (local_of c.args.state.now) c.args.act.now c.requires.shown.can_act) (take_full key) refused;
+      tried = refused_try c.args.act.now (take_fault key) (view c.args.seat) w (local_of c.args.state.now) c.in-Err.fault (ap act_fault is) refused;
+    }

@@ -8,16 +8,16 @@ use Rattle.role_runner.proofs.playing.play_on.Goals as goal
 
 pub returns-then-is_done-clause-tied : goal.returns-then-is_done-clause-tied
 returns-then-is_done-clause-tied g c =
-    looked_tied (plain c.args.bundle.now) c.args.role.now (view c.loop.seat) (view c.finish.result) (local_of c.loop.state) c.finish.ensures.saw.looked c.loop.invariant.tied
+    looked_tied (plain c.args.actor.now.bundle.now) c.args.actor.now.role.now (view c.loop.seat) (view c.finish.result) (local_of c.loop.state) c.finish.ensures.saw.looked c.loop.invariant.tied
 
 pub returns-in-Refused-Full-clause-tied : goal.returns-in-Refused-Full-clause-tied
 returns-in-Refused-Full-clause-tied g c =
-    looked_tied (plain c.args.bundle.now) c.args.role.now (view c.take_turn-next.result.0) (view c.stop.result) (local_of c.take_turn-next.new.state) c.stop.ensures.saw.looked
+    looked_tied (plain c.args.actor.now.bundle.now) c.args.actor.now.role.now (view c.take_turn-next.result.0) (view c.stop.result) (local_of c.take_turn-next.new.state) c.stop.ensures.saw.looked
     (c.take_turn-next.ensures.leaves.tied (λ behind. refused_not_behind c.in-Refused-Full.is behind))
 
 pub returns-in-Refused-Memory-clause-tied : goal.returns-in-Refused-Memory-clause-tied
 returns-in-Refused-Memory-clause-tied g c =
-    looked_tied (plain c.args.bundle.now) c.args.role.now (view c.take_turn-next.result.0) (view c.stop-in-Refused-Memory.result) (local_of c.take_turn-next.new.state) c.stop-in-Refused-Memory.ensures.saw.looked
+    looked_tied (plain c.args.actor.now.bundle.now) c.args.actor.now.role.now (view c.take_turn-next.result.0) (view c.stop-in-Refused-Memory.result) (local_of c.take_turn-next.new.state) c.stop-in-Refused-Memory.ensures.saw.looked
     (c.take_turn-next.ensures.leaves.tied (λ behind. refused_not_behind c.in-Refused-Memory.is behind))
 
 pub returns-in-Refused-clause-tied : goal.returns-in-Refused-clause-tied
@@ -46,7 +46,7 @@ loop-preserved-in-Done g c =
 
 pub finish-requires-clause-ended : goal.finish-requires-clause-ended
 finish-requires-clause-ended g c =
-    tied_finished (plain c.args.bundle.now) c.args.role.now (view c.loop.seat) (local_of c.loop.state) c.loop.invariant.tied (sym c.is_done.ensures ∙ c.if-is_done.true)
+    tied_finished (plain c.args.actor.now.bundle.now) c.args.actor.now.role.now (view c.loop.seat) (local_of c.loop.state) c.loop.invariant.tied (sym c.is_done.ensures ∙ c.if-is_done.true)
 
 pub returns-then-is_done-clause-went : goal.returns-then-is_done-clause-went
 returns-then-is_done-clause-went g c =

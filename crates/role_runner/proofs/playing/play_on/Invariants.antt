@@ -8,7 +8,7 @@ use Rattle.role_runner.proofs.playing.play_on.Given as goal
 
 abbrev pub invariant-loop : goal.invariant-loop
 invariant-loop g l = record {
-  of : IsSeatIn l.stage l.seat;
+  of : IsSeatIn l.actor.stage.now l.seat;
   went : WentOn (view l.fn.seat) (view l.seat);
-  tied : IsTied (plain l.bundle) l.role (view l.seat) (local_of l.state);
+  tied : IsTied (plain l.actor.bundle.now) l.actor.role.now (view l.seat) (local_of l.state);
 }

@@ -14,9 +14,9 @@ use Rattle.role_runner.proofs.playing.take_turn.Given as goal
 
 abbrev pub invariant-loop-act : goal.invariant-loop-act
 invariant-loop-act g l = record {
-  of : IsSeatIn l.stage l.seat;
+  of : IsSeatIn l.actor.stage.now l.seat;
   looked : LookedOn (view l.fn.seat) (view l.seat);
-  tied : IsTied (plain l.bundle) l.role (view l.seat) (local_of l.state);
+  tied : IsTied (plain l.actor.bundle.now) l.actor.role.now (view l.seat) (local_of l.state);
   same : local_of l.state ≡ local_of l.initial.state;
   tried : (i : ℕ) (a : Act) → slice_get (offered (local_of l.initial.state)) i ≡ Some a → i < l.act-index → RefusedIn (act_fault a) (view l.fn.seat) (view l.seat) NotYet;
 }

@@ -22,13 +22,13 @@ unreachable-requires g c =
 
 pub returns-in-Err-Memory-clause-leaves : goal.returns-in-Err-Memory-clause-leaves
 returns-in-Err-Memory-clause-leaves g c =
-    subst (λ s. Leaves (plain c.args.bundle.now) c.args.role.now (view c.args.seat) (view c.args.seat) (tried.Refused fault.Memory) s) (sym c.prepare.ensures.same)
-    (stays_leaves (plain c.args.bundle.now) c.args.role.now (view c.args.seat) (local_of c.args.state.now) fault.Memory no_memory c.requires.tied)
+    subst (λ s. Leaves (plain c.args.actor.now.bundle.now) c.args.actor.now.role.now (view c.args.seat) (view c.args.seat) (tried.Refused fault.Memory) s) (sym c.prepare.ensures.same)
+    (stays_leaves (plain c.args.actor.now.bundle.now) c.args.actor.now.role.now (view c.args.seat) (local_of c.args.state.now) fault.Memory no_memory c.requires.tied)
 
 pub returns-in-Err-Memory-clause-refused : goal.returns-in-Err-Memory-clause-refused
 returns-in-Err-Memory-clause-refused g c =
     scarce_try c.args.act.now (view c.args.seat) (local_of c.args.state.now) (local_of c.prepare.new.self) c.prepare.ensures.same
 
-pub returns-in-Put-clause-refused : goal.returns-in-Put-clause-refused
-returns-in-Put-clause-refused g c =
-    prepared_try c.args.act.now (view c.args.seat) (view c.put.result.0) (local_of c.args.state.now) (local_of c.prepare.new.self) (local_of c.put.new.state) c.put.result.1 c.prepare.ensures.same c.put.ensures.refused
+pub returns-clause-refused : goal.returns-clause-refused
+returns-clause-refused g c =
+    prepared_try c.args.act.now (view c.args.seat) (view c.commit.result.0) (local_of c.args.state.now) (local_of c.prepare.new.self) (local_of c.commit.new.state) c.commit.result.1 c.prepare.ensures.same c.commit.ensures.refused

@@ -1,0 +1,16 @@
+//! A role in its thread.
+
+use dioc_terms::{Bundle, Role};
+use stage::Stage;
+use std::alloc::Global;
+
+/// A role that runs in a thread, and what it needs of the run.
+pub(crate) struct Actor<'a, G> {
+    pub alloc: Global,
+    pub stage: &'a Stage,
+    pub bundle: &'a Bundle,
+    pub gate: &'a G,
+    pub role: &'a Role,
+    /// The place of the role in the cast.
+    pub place: u32,
+}
