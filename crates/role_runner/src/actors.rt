@@ -14,3 +14,16 @@ pub(crate) struct Actor<'a, G> {
     /// The place of the role in the cast.
     pub place: u32,
 }
+
+impl<G> Drop for Actor<'_, G> {
+    fn drop(self) {
+        let Actor {
+            alloc: _,
+            stage: _,
+            bundle: _,
+            gate: _,
+            role: _,
+            place: _,
+        } = self;
+    }
+}
