@@ -12,6 +12,7 @@ use Rattle.dioc_terms.specs.Attempts.{Does}
 use Rattle.dioc_terms.specs.Messages.{act_of, doer}
 use Rattle.dioc_terms.specs.Plain.{PlainBundle, setting}
 use Rattle.dioc_terms.specs.Processes.{Process, Load, load}
+use Rattle.dpoc_process.specs.declared.runs.Got.TheVariants as came
 use Rattle.dpoc_process.specs.declared.runs.Prepared.{Prepared}
 use Rattle.dpoc_process.specs.Handed.{Empty, IsEnabled, Message}
 use Rattle.dpoc_process.specs.LocalStates.{LocalState, step_at}
@@ -26,11 +27,11 @@ use Rattle.role_runner.proofs.StepLemmas.{alone_given, alone_shown, can_do, own_
 use Rattle.role_runner.specs.Acts.{is_alone}
 use Rattle.role_runner.proofs.TieLemmas.{moved_leaves}
 use Rattle.role_runner.specs.declared.acting.Tried.TheVariants as tried
-use Rattle.role_runner.specs.Ties.{IsTied, Leaves}
+use Rattle.role_runner.specs.Ties.{IsCommitted, IsTied, Leaves}
 use Rattle.schedule.proofs.OwnLemmas.{own_takes}
 use Rattle.stage.proofs.OwnLemmas.{is_own}
 use Rattle.stage.specs.declared.faults.CommitFault.{CommitFault}
-use Rattle.stage.specs.Faults.{role_fault}
+use Rattle.stage.specs.Faults.{role_fault, take_fault}
 use Rattle.stage.specs.Homes.{HomeState}
 use Rattle.stage.specs.Owners.{cast_place}
 use Rattle.stage.specs.Roles.{CanDo, CanTake, RoleStandsAt}
@@ -93,6 +94,16 @@ module _ (known : Known) (steps : OffersAreSteps) (shows : StepsShowTheirActs) (
         → Leaves bundle q v w tried.Done local'
     put_leaves l w done local' stepped = moved_leaves bundle q v s tied role_fault w k.from (act.Put k) Alone (Puts k l) put_mine done local' stepped
 
+    -- a put that was committed is the role's next step
+    pub put_committed : (payload : Payload) → p.payload ≡ Some payload → (w : View Entry Base) → Committed role_fault v w k.from (act.Put k) Alone (Puts k (load payload))
+        → IsCommitted bundle q v w s (act.Put k) came.Nothing
+    put_committed payload is w done = record {
+      enabled = put_enabled;
+      given = Alone;
+      brings = refl;
+      leaves = put_leaves (load payload) w done;
+    }
+
   module _ (k : Key) (p : Prepared) (prepared : IsPrepared s (act.Take k) p) where
     -- what a role takes is to it
     pub take_mine : k.to ≡ q
@@ -125,6 +136,16 @@ module _ (known : Known) (steps : OffersAreSteps) (shows : StepsShowTheirActs) (
 
       pub take_leaves : (local' : LocalState) → IsStep s (act.Take k) (Got l) local' → Leaves bundle q v w tried.Done local'
       take_leaves local' stepped = moved_leaves bundle q v s tied fault_of w k.to (act.Take k) (Got l) (Takes k x l) take_mine done local' stepped
+
+    -- a take that was committed is the role's next step, with the message that came
+    pub take_committed : (x : Option (List ℕ)) (w : View Entry Base) (payload : Payload)
+        → Committed (take_fault k) v w k.to (act.Take k) (Got (load payload)) (Takes k x (load payload)) → IsCommitted bundle q v w s (act.Take k) (came.Payload payload)
+    take_committed x w payload done = record {
+      enabled = take_enabled (take_fault k) w (load payload) x done;
+      given = Got (load payload);
+      brings = refl;
+      leaves = take_leaves (take_fault k) w (load payload) x done;
+    }
 
   module _ (a : Act) (p : Prepared) (prepared : IsPrepared s a p) (alone : is_alone a ≡ true) where
     -- what a role does alone it may commit
@@ -165,3 +186,12 @@ module _ (known : Known) (steps : OffersAreSteps) (shows : StepsShowTheirActs) (
         let act_is : done.act ≡ a = some_same (sym acts ∙ ap act_of (entry_is ∙ sym same) ∙ shown.acts) in
         moved_leaves bundle q v s tied role_fault w done.role done.act Alone done.deed role done.done local'
         (subst (λ x. IsStep s x Alone local') (sym act_is) stepped)
+
+    -- what was committed alone is the role's next step
+    pub alone_committed : (e : Entry) → p.entry ≡ Some e → (w : View Entry Base) → CommittedOwn role_fault v w e → IsCommitted bundle q v w s a came.Nothing
+    alone_committed e is w done = record {
+      enabled = alone_enabled;
+      given = Alone;
+      brings = refl;
+      leaves = alone_leaves e is w done;
+    }

@@ -25,7 +25,7 @@ use Rattle.role_runner.proofs.StepLemmas.{deed_same, left_same}
 use Rattle.role_runner.specs.declared.acting.Tried.{Tried}
 use Rattle.role_runner.specs.declared.acting.Tried.TheVariants as tried
 use Rattle.role_runner.specs.Acts.{act_fault, is_alone}
-use Rattle.role_runner.specs.Ties.{IfRefused, IsRefusedTry, IsSeated, IsTied, Leaves, WentOn, is_not_yet}
+use Rattle.role_runner.specs.Ties.{IfRefused, IsRefusedTry, IsSeated, IsTied, IsUncommitted, Leaves, WentOn, is_not_yet}
 use Rattle.stage.specs.declared.faults.CommitFault.{CommitFault}
 use Rattle.stage.specs.declared.faults.CommitFault.TheVariants as fault
 use Rattle.stage.specs.declared.faults.Why.{Why}
@@ -46,6 +46,15 @@ if_err_at P r e holds is = subst (λ x. IfErr x P) is holds
 
 pub if_ok_at : {T E : Type 0} (P : T → Type 0) (r : Result T E) (t : T) → IfOk r P → r ≡ Ok t → P t
 if_ok_at P r t holds is = subst (λ x. IfOk x P) is holds
+
+-- what is said of whatever comes
+pub ok_each : {T E : Type 0} (P : T → Type 0) (r : Result T E) → ((t : T) → r ≡ Ok t → P t) → IfOk r P
+ok_each P (Ok t) each = each t refl
+ok_each P (Err e) each = tt
+
+pub err_each : {T E : Type 0} (P : E → Type 0) (r : Result T E) → ((e : E) → r ≡ Err e → P e) → IfErr r P
+err_each P (Ok t) each = tt
+err_each P (Err e) each = each e refl
 
 -- a seat that looked on went on
 pub looked_went : (v w : View Entry Base) → LookedOn v w → WentOn v w
@@ -308,3 +317,12 @@ scarce_try a v s t same = record { same = same; held = λ enough. absurd (enough
 -- the same of the state before the act was prepared
 pub prepared_try : (a : Act) (v w : View Entry Base) (s t u : LocalState) (o : Tried) → t ≡ s → IfRefused o (IsRefusedTry a v w t u) → IfRefused o (IsRefusedTry a v w s u)
 prepared_try a v w s t u o same refused = subst (λ x. IfRefused o (IsRefusedTry a v w x u)) same refused
+
+-- a commit that was refused in a hold leaves the role as it was
+pub uncommitted : (bundle : PlainBundle) (q : Role) (v w : View Entry Base) (s : LocalState) (a : Act) (f : CommitFault) (fault_of : HomeState → Option CommitFault) → IsTied bundle q v s
+    → ended s.process ≡ false → ((home : HomeState) → fault_of home ≡ Some fault.Full → nat_le home.limit (length home.history) ≡ true) → act_fault a ≡ fault_of
+    → RefusedFor fault_of v w f → IsUncommitted bundle q v w s a f
+uncommitted bundle q v w s a f fault_of tied goes full is refused = record {
+  leaves = refused_leaves bundle q v s tied fault_of w f goes full refused;
+  tried = refused_try a fault_of v w s f is refused;
+}

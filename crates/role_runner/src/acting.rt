@@ -1,14 +1,14 @@
 //! The acts of a role, but the begin of a scope: each is committed on the stage, and then done by
 //! the role's own state.
 
-ghost use Rattle.std.specs.Prelude.{◌≡◌, true, IfErr, IfOk, IsSome, Option, Some};
-ghost use Rattle.dioc_terms.specs.declared.names.Name.{Name as OneName};
+ghost use Rattle.std.specs.Prelude.{◌≡◌, true, false, Err, IfErr, IfOk, IsSome, Ok, Some};
 ghost use Rattle.dioc_terms.specs.Messages.{act_of};
 ghost use Rattle.dioc_terms.specs.declared.entries.Act.TheVariants as acts;
-ghost use Rattle.dioc_terms.specs.declared.entries.Entry.TheVariants as entries;
 ghost use Rattle.dioc_terms.specs.declared.processes.Key.{Key as OneKey};
+ghost use Rattle.dioc_terms.specs.declared.processes.Payload.{Payload as OnePayload};
 ghost use Rattle.dioc_terms.specs.Plain.{plain};
 ghost use Rattle.flat_role.specs.FlatStates.{local_of, IsReady};
+ghost use Rattle.dpoc_process.specs.declared.runs.Got.TheVariants as got;
 ghost use Rattle.dpoc_process.specs.RoleSteps.{IsPrepared};
 ghost use Rattle.marked_laws.specs.Laws.{IsSound};
 ghost use Rattle.role_runner.specs.Acts.{is_alone, is_scope};
@@ -21,7 +21,7 @@ ghost use Rattle.turn_lock.specs.Words.{view};
 use crate::actors::Actor;
 use crate::gates::{Gate, Place};
 use crate::known::known;
-use dioc_terms::{Act, Entry, Key, Name, Payload};
+use dioc_terms::{Act, Entry, Key, Payload};
 use dpoc_process::{Got, Prepared, Runs};
 use flat_role::FlatRole;
 use stage::{CommitFault, Home, Stage};
@@ -105,112 +105,27 @@ fn on_stage<R: Wait, G: Gate>(
     ensures refused { IfErr result.1 (IsUncommitted (plain actor.now.bundle.now)
         actor.now.role.now (view seat) (view result.0) (local_of state.now) act.now) }
 {
+    known();
+    process_steps::offers_are_steps();
+    process_steps::steps_show_their_acts();
     match act {
-        Act::Put(_) => put(rt, actor, seat, state, act, prepared),
-        Act::Take(_) => take(rt, actor, seat, state, act, prepared),
+        Act::Put(_) => {
+            let (key, payload) = put_of(prepared);
+            let (seat, done) = actor.stage.commit_put(rt, seat, key, payload);
+            (seat, nothing(done))
+        }
+        Act::Take(_) => {
+            let (key, var) = entry_of(prepared).into_take();
+            let (seat, done) = actor.stage.commit_take(rt, seat, &key, var);
+            (seat, message(done))
+        }
         Act::Set(_) | Act::Input(_) | Act::Pick(_) => alone(rt, actor, seat, state, act, prepared),
         Act::Scope(_) => unreachable!(),
     }
 }
 
-/// Puts the message of a put for which the role is ready.
-fn put<R: Wait, G: Gate>(
-    rt: &R,
-    actor: &Actor<'_, G>,
-    seat: Seat<Home>,
-    state: &FlatRole,
-    act: &Act,
-    prepared: Prepared,
-) -> (Seat<Home>, Result<Got, CommitFault>)
-    requires sound { IsSound (plain actor.now.bundle.now) }
-    requires of { IsSeatIn actor.now.stage.now seat }
-    requires tied { IsTied (plain actor.now.bundle.now) actor.now.role.now (view seat)
-        (local_of state.now) }
-    requires shown { IsPrepared (local_of state.now) act.now prepared }
-    requires put { (k : OneKey) × (act.now ≡ acts.Put k) }
-    ensures of { IsSeatIn actor.now.stage.now result.0 }
-    ensures done { IfOk result.1 (IsCommitted (plain actor.now.bundle.now) actor.now.role.now
-        (view seat) (view result.0) (local_of state.now) act.now) }
-    ensures refused { IfErr result.1 (IsUncommitted (plain actor.now.bundle.now)
-        actor.now.role.now (view seat) (view result.0) (local_of state.now) act.now) }
-{
-    known();
-    process_steps::offers_are_steps();
-    process_steps::steps_show_their_acts();
-    let Prepared {
-        act: own,
-        entry,
-        head,
-        payload,
-    } = prepared;
-    drop((entry, head));
-    let Act::Put(key) = own else { unreachable!() };
-    let payload = sent(payload);
-    let (seat, done) = actor.stage.commit_put(rt, seat, key, payload);
-    match done {
-        Ok(()) => (seat, Ok(Got::Nothing)),
-        Err(fault) => (seat, Err(fault)),
-    }
-}
-
-/// The message of a put.
-fn sent(payload: Option<Payload>) -> Payload
-    requires { IsSome payload }
-    ensures { payload ≡ Some result }
-{
-    payload.unwrap()
-}
-
-/// Takes the message of a take for which the role is ready.
-fn take<R: Wait, G: Gate>(
-    rt: &R,
-    actor: &Actor<'_, G>,
-    seat: Seat<Home>,
-    state: &FlatRole,
-    act: &Act,
-    prepared: Prepared,
-) -> (Seat<Home>, Result<Got, CommitFault>)
-    requires sound { IsSound (plain actor.now.bundle.now) }
-    requires of { IsSeatIn actor.now.stage.now seat }
-    requires tied { IsTied (plain actor.now.bundle.now) actor.now.role.now (view seat)
-        (local_of state.now) }
-    requires shown { IsPrepared (local_of state.now) act.now prepared }
-    requires take { (k : OneKey) × (act.now ≡ acts.Take k) }
-    ensures of { IsSeatIn actor.now.stage.now result.0 }
-    ensures done { IfOk result.1 (IsCommitted (plain actor.now.bundle.now) actor.now.role.now
-        (view seat) (view result.0) (local_of state.now) act.now) }
-    ensures refused { IfErr result.1 (IsUncommitted (plain actor.now.bundle.now)
-        actor.now.role.now (view seat) (view result.0) (local_of state.now) act.now) }
-{
-    known();
-    process_steps::offers_are_steps();
-    process_steps::steps_show_their_acts();
-    let Prepared {
-        act: own,
-        entry,
-        head,
-        payload,
-    } = prepared;
-    drop((own, head, payload));
-    let (key, var) = taken(entry);
-    let (seat, done) = actor.stage.commit_take(rt, seat, &key, var);
-    drop(key);
-    match done {
-        Ok(payload) => (seat, Ok(Got::Payload(payload))),
-        Err(fault) => (seat, Err(fault)),
-    }
-}
-
-/// The key of the entry of a take, and the variable in which it keeps what comes, if in one.
-fn taken(entry: Option<Entry>) -> (Key, Option<Name>)
-    requires { (k : OneKey) × (x : Option OneName) × (entry ≡ Some (entries.Take k x)) }
-    ensures { entry ≡ Some (entries.Take result.0 result.1) }
-{
-    entry.unwrap().into_take()
-}
-
-/// Does what a role does alone, for which it is ready: it sets a variable, reads an input or picks
-/// a branch.
+/// Commits what a role does alone, for which it is ready: it sets a variable, reads an input or
+/// picks a branch.
 fn alone<R: Wait, G: Gate>(
     rt: &R,
     actor: &Actor<'_, G>,
@@ -234,19 +149,50 @@ fn alone<R: Wait, G: Gate>(
     known();
     process_steps::offers_are_steps();
     process_steps::steps_show_their_acts();
+    let entry = entry_of(prepared);
+    let (seat, done) = commit_alone(rt, actor.stage, seat, act, entry);
+    (seat, nothing(done))
+}
+
+/// The key and the message of a put that was prepared; the rest is let go.
+fn put_of(prepared: Prepared) -> (Key, Payload)
+    requires put { (k : OneKey) × (prepared.act ≡ acts.Put k) }
+    requires sends { IsSome prepared.payload }
+    ensures key { prepared.act ≡ acts.Put result.0 }
+    ensures payload { prepared.payload ≡ Some result.1 }
+{
     let Prepared {
-        act: own,
+        act,
         entry,
         head,
         payload,
     } = prepared;
-    drop((own, head, payload));
-    let entry = shown(entry);
-    let (seat, done) = commit_alone(rt, actor.stage, seat, act, entry);
-    match done {
-        Ok(()) => (seat, Ok(Got::Nothing)),
-        Err(fault) => (seat, Err(fault)),
-    }
+    drop((entry, head));
+    let Act::Put(key) = act else { unreachable!() };
+    (key, sent(payload))
+}
+
+/// The message of a put.
+fn sent(payload: Option<Payload>) -> Payload
+    requires { IsSome payload }
+    ensures { payload ≡ Some result }
+{
+    payload.unwrap()
+}
+
+/// The entry of an act that was prepared and isn't a scope's; the rest is let go.
+fn entry_of(prepared: Prepared) -> Entry
+    requires { IsSome prepared.entry }
+    ensures { prepared.entry ≡ Some result }
+{
+    let Prepared {
+        act,
+        entry,
+        head,
+        payload,
+    } = prepared;
+    drop((act, head, payload));
+    shown(entry)
 }
 
 /// The entry of an act that isn't a scope's.
@@ -255,6 +201,24 @@ fn shown(entry: Option<Entry>) -> Entry
     ensures { entry ≡ Some result }
 {
     entry.unwrap()
+}
+
+/// What comes of a commit that brings nothing.
+fn nothing(done: Result<(), CommitFault>) -> Result<Got, CommitFault>
+    ensures done { IfOk result (λ came. (came ≡ got.Nothing) × (done ≡ Ok tt)) }
+    ensures refused { IfErr result (λ f. done ≡ Err f) }
+{
+    done?;
+    Ok(Got::Nothing)
+}
+
+/// What comes of a commit that brings a message.
+fn message(done: Result<Payload, CommitFault>) -> Result<Got, CommitFault>
+    ensures done { IfOk result
+        (λ came. (p : OnePayload) × (came ≡ got.Payload p) × (done ≡ Ok p)) }
+    ensures refused { IfErr result (λ f. done ≡ Err f) }
+{
+    Ok(Got::Payload(done?))
 }
 
 /// Commits the entry of what a role does alone.
