@@ -1,5 +1,5 @@
 -- How the roles of a stage came to their end, by what their jobs were left with.
-use Rattle.std.proofs.Common.{◌≡◌, ◌≢◌, ◌↔◌, ◌<◌, ◌≤◌, ◌==◌, ℕ, zero, suc, List, [], ◌∷◌, All, take, length, Bool, true, false, Option, Some, None, IfSome, slice_get, refl, sym, ap, ◌∙◌, subst, ⊎_elim, arith, eqb-true}
+use Rattle.std.proofs.Common.{◌≡◌, ◌≢◌, ◌↔◌, ◌<◌, ◌≤◌, ℕ, zero, suc, List, [], ◌∷◌, All, take, length, Bool, true, false, Option, Some, None, IfSome, slice_get, refl, sym, ap, ◌∙◌, subst, ⊎_elim, arith, eqb-true}
 use Rattle.std.proofs.lemmas.Bool.{and_parts, or_cases, both_ways, not-true}
 use Rattle.std.proofs.lemmas.List.Elements.{All-nil, All-cons}
 use Rattle.std.proofs.lemmas.Option.{slice_get_within}

@@ -1,7 +1,7 @@
 -- The jobs of the threads, and the seats that go into them and come back.
-use Rattle.std.proofs.Common.{◌≡◌, ◌+◌, ◌<◌, ◌≤◌, ℕ, zero, suc, List, [], ◌∷◌, ◌++◌, All, map, length, true, Option, Some, None, IfSome, IsSome, get_or, slice_get, refl, sym, ap, ◌∙◌, subst, arith}
+use Rattle.std.proofs.Common.{◌≡◌, ◌+◌, ◌≤◌, ℕ, zero, suc, List, [], ◌∷◌, ◌++◌, All, map, length, true, Option, Some, None, IfSome, slice_get, refl, sym, ap, ◌∙◌, subst, arith}
 use Rattle.std.proofs.lemmas.List.{length-map}
-use Rattle.std.proofs.lemmas.Option.{slice_get-get_or, slice_get-map, slice_get_read, slice_get_within}
+use Rattle.std.proofs.lemmas.Option.{slice_get-map, slice_get_within}
 use Rattle.std.specs.Prelude.{option_map}
 use Rattle.dioc_terms.specs.Plain.{PlainBundle}
 use Rattle.dioc_terms.specs.declared.entries.Entry.{Entry}
@@ -20,14 +20,11 @@ use Rattle.role_runner.specs.declared.starting.Started.{Started}
 use Rattle.role_runner.specs.Jobs.{EachAt, EndsJob, HomeSeat, IsOfRole, OpensJob}
 use Rattle.role_runner.specs.Starts.{Gives, IsStarted}
 use Rattle.role_runner.specs.Ties.{IsSeated, IsTied, WentOn}
-use Rattle.stage.specs.contracts.home.HomeChronicle.TheImpl.{ghosts}
 use Rattle.stage.specs.declared.stage.Stage.{Stage}
-use Rattle.stage.specs.Homes.{HomeState}
 use Rattle.stage.specs.Holds.{IsFeeder}
 use Rattle.stage.specs.Owners.{cast_place, owner_in}
 use Rattle.stage.specs.Seats.{Base, opening_views}
 use Rattle.stage.specs.Stages.{IsSeatIn}
-use Rattle.turn_lock.specs.declared.turns.Seat.{Seat}
 use Rattle.turn_lock.specs.declared.views.View.{View}
 use Rattle.turn_lock.specs.Items.{items_of}
 use Rattle.turn_lock.specs.Views.{number}

@@ -1,5 +1,4 @@
 -- What was committed is done, and what was refused is left.
-use Rattle.std.proofs.Common.{◌≡◌}
 use Rattle.dioc_terms.specs.Plain.{plain}
 use Rattle.flat_role.specs.FlatStates.{local_of}
 use Rattle.role_runner.proofs.TieLemmas.{if_err_at, if_ok_at}

@@ -1,5 +1,5 @@
 -- An act that may not come yet was refused in a hold, and leaves the role tied to its seat.
-use Rattle.std.proofs.Common.{◌≡◌, ◌<◌, Some, length, slice_get, refl, sym, ap, ◌∙◌, arith}
+use Rattle.std.proofs.Common.{◌≡◌, Some, length, slice_get, refl, sym, ap, ◌∙◌, arith}
 use Rattle.std.proofs.lemmas.Option.{slice_get_read, slice_get_within}
 use Rattle.dpoc_process.specs.LocalStates.{offered}
 use Rattle.flat_role.specs.FlatStates.{local_of}

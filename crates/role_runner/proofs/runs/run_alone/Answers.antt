@@ -1,5 +1,5 @@
 -- The run is the schedule's.
-use Rattle.std.proofs.Common.{◌≡◌, refl, sym, ◌∙◌}
+use Rattle.std.proofs.Common.{refl, ◌∙◌}
 use Rattle.dioc_terms.specs.Plain.{plain}
 use Rattle.role_runner.proofs.AloneLemmas.{alone_ended, alone_full, alone_prompt, alone_run, alone_within, nothing_prompt}
 use Rattle.role_runner.proofs.runs.run_alone.Goals as goal

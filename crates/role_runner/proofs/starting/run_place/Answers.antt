@@ -1,9 +1,9 @@
 -- The seat is that of its place: a role's, or behind the roles the feeder's. One that is sent home is as it was.
-use Rattle.std.proofs.Common.{◌≡◌, ◌∙◌, None, Some, length, slice_get, refl, sym, ap}
+use Rattle.std.proofs.Common.{◌≡◌, ◌∙◌, Some, length, slice_get, refl, sym, ap}
 use Rattle.std.proofs.lemmas.Option.{slice_get_read}
 use Rattle.dioc_terms.specs.Plain.{plain}
 use Rattle.role_runner.proofs.CloseLemmas.{distinct_cast}
-use Rattle.role_runner.proofs.JobLemmas.{feeder_seated, of_role, role_seated}
+use Rattle.role_runner.proofs.JobLemmas.{of_role, role_seated}
 use Rattle.role_runner.proofs.TieLemmas.{went_nowhere}
 use Rattle.turn_lock.specs.Words.{view}
 use Rattle.role_runner.proofs.starting.run_place.Goals as goal
