@@ -10,7 +10,7 @@ _aioc_tool() {
         return
     fi
     case ${COMP_WORDS[1]} in
-    explain) options='--json' ;;
+    explain) options='--json --trace' ;;
     format) [[ $before == *' --check '* || $before == *' --write '* ]] || options='--check --write' ;;
     esac
     for it in $options; do

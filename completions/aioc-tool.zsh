@@ -18,6 +18,7 @@ _aioc_tool() {
     explain)
         _arguments \
             '--json[tell it as a JSON object]' \
+            '--trace[judge the trace section as well]' \
             ':file:_files'
         ;;
     format)

@@ -25,7 +25,7 @@ OF_TEXTS = re.compile(r"sq_\w*|[a-z]\d*_[a-z0-9]*")
 # Options of programs that a page calls beside `aioc` and the scripts: rt, ./test, the program of pictures, GNU parallel.
 OTHER_OPTIONS = {
     "--test", "--only", "--minutes", "--seconds", "--jobs", "--proved", "--mermaid", "--svg", "--help", "--version",
-    "--check", "--write", "--transferfile", "--return", "--cleanup", "--basefile",
+    "--check", "--write", "--trace", "--transferfile", "--return", "--cleanup", "--basefile",
 }
 PATH = re.compile(r"[\w.*~-]*(?:/[\w.*~-]*)+|[\w*-]+\.(?:antt|rt|md|edit|txt|py|svg|json)")
 IDENTIFIER = re.compile(r"[A-Za-z_]\w*(?:::[A-Za-z_]\w*)*")

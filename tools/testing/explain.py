@@ -9,7 +9,7 @@ from pages.shown import blocks_of_markdown
 from testing.runner import Failed, Test
 
 CRATE, PAGE = "crates/aioc_tool", "docs/EXPLAIN.md"
-USAGE = ["usage: aioc-tool explain [FILE] [--json]", "       aioc-tool format [FILE..] [--check] [--write]"]
+USAGE = ["usage: aioc-tool explain [FILE] [--json] [--trace]", "       aioc-tool format [FILE..] [--check] [--write]"]
 SOUND, FAULTY = "aioc { x@a = 1 }\n", "aioc {\n\tx@a = 1;\n\ty@@a = 2\n}\n"
 PLACE = "bad.aioc:3:4: error: expected a name, found '@'"
 
@@ -20,6 +20,7 @@ OTHERS = (
     ("an unknown option", ["explain", "--xml"], SOUND, 2, USAGE),
     ("a word too many", ["explain", "one", "two"], SOUND, 2, USAGE),
     ("--json twice", ["explain", "--json", "--json"], SOUND, 2, USAGE),
+    ("--trace twice", ["explain", "--trace", "--trace"], SOUND, 2, USAGE),
     ("a word that is not UTF-8", ["explain", b"\xff"], SOUND, 2, USAGE),
     ("no such file", ["explain", "nowhere.aioc"], SOUND, 2, ["aioc-tool: nowhere.aioc: can't be read"]),
     ("a folder", ["explain", "/"], SOUND, 2, ["aioc-tool: /: can't be read"]),
@@ -27,6 +28,7 @@ OTHERS = (
     ("the byte 0", ["explain"], b"aioc \0", 2, ["aioc-tool: <stdin>: is no text"]),
     ("nothing wrong", ["explain"], SOUND, 0, []),
     ("nothing wrong, as JSON", ["explain", "--json"], SOUND, 0, []),
+    ("no trace section", ["explain", "--trace"], SOUND, 0, []),
 )
 
 # Scripts of sh, `$1` is the program.
@@ -91,6 +93,53 @@ def as_accepted(programs, path):
             raise ran.failed(f"it ended with {ran.code}, and `aioc check` {'accepts' if accepted else 'refuses'} the text")
 
 
+def section(entries):
+    """A trace section, each entry on a line of its own."""
+    return "trace {\n" + "".join(f"{it}\n" for it in entries) + "}\n"
+
+
+def judged(programs, bundle, entries):
+    """The number of the first entry that `replay` says `no` to, or None."""
+    ran = programs.call(["replay"], (bundle + section(entries)).encode())
+    said = ran.out.decode().split(" ")
+    return int(said[1]) if said[0] == "no" else None
+
+
+def shown_entries(help_line):
+    """The entries that a line of help tells; the last may be `..`."""
+    _, _, told_there = help_line.partition("it plays here: ")
+    return re.split(r", (?=(?:put|take|set|input|pick|scope|add|drop|env) |\.\.$)", told_there) if told_there else []
+
+
+def check_stray(programs, bundle, entries, dropped):
+    """What is told of a trace without one of its entries: exactly where `replay` says no, and of the entry that it names."""
+    left = entries[:dropped] + entries[dropped + 1:]
+    number = judged(programs, bundle, left)
+    ran = programs.call(["explain", "--trace"], (bundle + section(left)).encode(), programs.tool)
+    if number is None:
+        ran.expect(0, b"", b"")
+        return
+    ran.expect(1, b"", None)
+    first, line, *_, last = ran.err.decode().rstrip("\n").split("\n")
+    if first.split(":")[1] != str(bundle.count("\n") + 1 + number) or line != (left + ["}"])[number - 1]:
+        raise ran.failed(f"`replay` says no to entry {number}")
+    shown = shown_entries(last)
+    for entry in shown:
+        if entry != ".." and judged(programs, bundle, left[:number - 1] + [entry]) is not None:
+            raise ran.failed(f"it tells that `{entry}` is played, and `replay` says no to it")
+    if number == dropped + 1 and entries[dropped] not in shown and ".." not in shown:
+        raise ran.failed(f"it doesn't tell that `{entries[dropped]}` is played")
+
+
+def strays(programs, path):
+    """The trace of an example is played. Without one of its entries it is told of as `replay` judges it."""
+    bundle = read(path).decode() + "\n"
+    entries = read(path.replace(".aioc", ".trace")).decode().split("\n")[:-1]
+    programs.call(["explain", "--trace"], (bundle + section(entries)).encode(), programs.tool).expect(0, b"", b"")
+    for dropped in range(0, len(entries) - 1, 3):
+        check_stray(programs, bundle, entries, dropped)
+
+
 def in_file(programs, words):
     with tempfile.TemporaryDirectory(prefix="aioc-explain-") as folder:
         with open(f"{folder}/bad.aioc", "w", encoding="utf-8") as it:
@@ -146,6 +195,7 @@ def tests(programs):
             path = f"examples/{file}"
             yield Test(f"explain: {path}", lambda path=path: silent(programs, path))
             yield Test(f"explain: {path} without a token", lambda path=path: as_accepted(programs, path), 20)
+            yield Test(f"explain: the trace of {path}", lambda path=path: strays(programs, path), 20)
     for name, words, text, code, err in OTHERS:
         wanted = code, b"", err
         yield Test(f"explain: {name}", lambda w=words, t=text, it=wanted: programs.call(w, t, programs.tool).expect(*it))

@@ -5,7 +5,7 @@ use aioc_io::{
 };
 use bundle_layout::{LayoutFault, lay_out};
 use bundle_text::read_bundle;
-use diagnostics::{Piece, Status, explain, tell};
+use diagnostics::{Options, Piece, Status, explain, tell};
 use dioc_terms::SyntaxFault;
 use limits::MOST_BYTES;
 use std::alloc::{AllocError, Global};
@@ -96,7 +96,11 @@ fn replace(rt: &HostRuntime, file: &str, text: &[u8]) -> io::Result<()> {
 /// Tells why the bytes of a file are no bundle.
 fn tell_diagnostic<E: Sink>(rt: &HostRuntime, file: &[u8], bytes: Vec<u8>, err: &mut E) -> Status {
     let mut source = SureSource::new(bytes);
-    match explain(rt.alloc(), false, file, &mut source, err) {
+    let options = Options {
+        json: false,
+        trace: false,
+    };
+    match explain(rt.alloc(), options, file, &mut source, err) {
         Status::Sound | Status::Told => Status::Unusable,
         status => status,
     }

@@ -5,7 +5,7 @@
 mod format;
 
 use aioc_io::{Sink, StdSink, StdSource};
-use diagnostics::{Command, Piece, Request, Status, explain, read_request, tell};
+use diagnostics::{Command, Options, Piece, Request, Status, explain, read_request, tell};
 use format::{format_files, read_wanted};
 use std::process::ExitCode;
 use std::{env, fs, io};
@@ -30,7 +30,7 @@ fn bytes_of(rt: &HostRuntime, words: &[String]) -> io::Result<Vec<Vec<u8>>> {
 
 // Tells how to use the program.
 fn tell_usage<E: Sink>(rt: &HostRuntime, err: &mut E) -> Status {
-    let explain: &[u8] = b"usage: aioc-tool explain [FILE] [--json]\n";
+    let explain: &[u8] = b"usage: aioc-tool explain [FILE] [--json] [--trace]\n";
     let format: &[u8] = b"       aioc-tool format [FILE..] [--check] [--write]\n";
     tell(
         rt.alloc(),
@@ -41,11 +41,11 @@ fn tell_usage<E: Sink>(rt: &HostRuntime, err: &mut E) -> Status {
 }
 
 // Tells what is wrong with a file.
-fn explain_file<E: Sink>(rt: &HostRuntime, json: bool, file: &str, err: &mut E) -> Status {
+fn explain_file<E: Sink>(rt: &HostRuntime, options: Options, file: &str, err: &mut E) -> Status {
     match fs::open(rt, file) {
         Ok(opened) => {
             let mut source = StdSource::new(opened);
-            explain(rt.alloc(), json, file.as_bytes(), &mut source, err)
+            explain(rt.alloc(), options, file.as_bytes(), &mut source, err)
         }
         Err(_) => {
             tell(
@@ -67,11 +67,11 @@ fn answer<E: Sink>(rt: &HostRuntime, words: &[String], request: Request, err: &m
     match request.command {
         Command::Explain => match request.file {
             Some(number) if number < words.len() => {
-                explain_file(rt, request.json, words[number].as_str(), err)
+                explain_file(rt, request.options, words[number].as_str(), err)
             }
             _ => {
                 let mut source = StdSource::new(rt.stdin());
-                explain(rt.alloc(), request.json, b"<stdin>", &mut source, err)
+                explain(rt.alloc(), request.options, b"<stdin>", &mut source, err)
             }
         },
     }

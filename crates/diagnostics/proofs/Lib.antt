@@ -1,3 +1,4 @@
 mod Sound
+mod Played
 mod Marking
 mod Counting

@@ -1,5 +1,5 @@
 -- A text of which something is told is not sound.
-use Rattle.std.proofs.Common.{◌≡◌, ◌≢◌, false, ℕ, List, Option, Some, None, Result, Ok, Err, IfOk, ap, sym, ◌∙◌}
+use Rattle.std.proofs.Common.{◌≡◌, ◌≢◌, false, ℕ, List, Option, Some, None, Result, Ok, Err, IfOk, ap, sym, subst, ◌∙◌}
 use Rattle.dioc_terms.specs.declared.faults.SyntaxFault.{SyntaxFault}
 use Rattle.dioc_terms.specs.declared.faults.SyntaxFault.TheVariants as fault
 use Rattle.dioc_terms.specs.Plain.{PlainBundle}
@@ -10,6 +10,7 @@ use Rattle.rule_checks.specs.Refusals.{refusal}
 use Rattle.text_places.specs.Laws.{HasTokens}
 use Rattle.rule_checks.specs.declared.refusals.Refusal.TheVariants as why
 use Rattle.rule_checks.specs.Answers.{IsRefusalOf}
+use Rattle.diagnostics.specs.Traces.{IsPlayed, IsReplayed}
 use Rattle.diagnostics.specs.Verdicts.{IsSound, is_memory}
 
 -- each byte of a text that spells a bundle is in a token, a space or a comment
@@ -40,3 +41,31 @@ holds_anyway P (Err fault) told holds = told
 -- a fault that names a byte is no want of memory
 pub syntax_tells : {P : Type 0} (told : SyntaxFault) (byte : ℕ) → told ≡ fault.Syntax byte → (told ≢ fault.Memory → P) → P
 syntax_tells told byte is tells = tells (λ e. cc)
+
+-- ---- the trace section as well
+
+pub sound_of : (bytes : List ℕ) → IsReplayed bytes → IsSound bytes
+sound_of bytes r = record { bundle = r.bundle; spells = r.spells; accepted = r.accepted }
+
+pub replayed : (bytes : List ℕ) (b : PlainBundle) → OneBundle → Spells bytes b → IsSound bytes → IsPlayed b → IsReplayed bytes
+replayed bytes b one spells sound played =
+    record {
+      bundle = sound.bundle;
+      spells = sound.spells;
+      accepted = sound.accepted;
+      played = subst IsPlayed (sym (one bytes sound.bundle b sound.spells spells)) played;
+    }
+
+pub played_of : (bytes : List ℕ) (b : PlainBundle) → OneBundle → Spells bytes b → IsReplayed bytes → IsPlayed b
+played_of bytes b one spells r = subst IsPlayed (one bytes r.bundle b r.spells spells) r.played
+
+-- nothing is told of a sound bundle and of its section, so the section is replayed
+pub silent_of : {D E : Type 0} (bytes : List ℕ) (b : PlainBundle) (r : Result (Option D) E) → OneBundle → Spells bytes b → IsSound bytes
+    → IfOk r (λ found. found ≡ None → IsPlayed b) → IfOk r (λ found. found ≡ None → IsReplayed bytes)
+silent_of bytes b (Ok found) one spells sound silent = λ none. replayed bytes b one spells sound (silent none)
+silent_of bytes b (Err fault) one spells sound silent = silent
+
+pub told_of : {D E : Type 0} (bytes : List ℕ) (b : PlainBundle) (r : Result (Option D) E) → OneBundle → Spells bytes b
+    → IfOk r (λ found. found ≢ None → IsPlayed b → ⊥) → IfOk r (λ found. found ≢ None → IsReplayed bytes → ⊥)
+told_of bytes b (Ok found) one spells told = λ some r. told some (played_of bytes b one spells r)
+told_of bytes b (Err fault) one spells told = told

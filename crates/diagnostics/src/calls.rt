@@ -5,7 +5,7 @@ ghost use Rattle.std.specs.Prelude.{◌≡◌};
 ghost use Rattle.diagnostics.specs.Calls.{status_code};
 
 use crate::diagnostic::Diagnostic;
-use crate::examining::examine;
+use crate::examining::{examine, examine_trace};
 use crate::rendering::{write_json, write_text};
 use crate::wording::{Piece, line_of};
 use aioc_io::{Failed, ReadAllFault, Sink, Source, read_all, write_all};
@@ -29,8 +29,17 @@ pub struct Request {
     pub command: Command,
     /// The number of the word that names the file, or `None` for standard input.
     pub file: Option<usize>,
+    /// How it is told, and of what.
+    pub options: Options,
+}
+
+/// How it is told what is wrong, and of what.
+#[derive(Clone, Copy, Debug, PartialEq, Eq)]
+pub struct Options {
     /// Whether diagnostics are told as JSON.
     pub json: bool,
+    /// Whether the trace section is judged as well.
+    pub trace: bool,
 }
 
 /// How a call ended.
@@ -69,7 +78,10 @@ pub fn read_request(words: &[Vec<u8>]) -> Option<Request> {
         Some(word) if word.as_slice() == b"explain".as_slice() => Request {
             command: Command::Explain,
             file: None,
-            json: false,
+            options: Options {
+                json: false,
+                trace: false,
+            },
         },
         _ => return None,
     };
@@ -77,8 +89,10 @@ pub fn read_request(words: &[Vec<u8>]) -> Option<Request> {
         if number == 0 {
             continue;
         }
-        if word.as_slice() == b"--json".as_slice() && !request.json {
-            request.json = true;
+        if word.as_slice() == b"--json".as_slice() && !request.options.json {
+            request.options.json = true;
+        } else if word.as_slice() == b"--trace".as_slice() && !request.options.trace {
+            request.options.trace = true;
         } else if !word.starts_with(b"-") && request.file.is_none() {
             request.file = Some(number);
         } else {
@@ -136,12 +150,12 @@ fn rendered(
     Ok(text)
 }
 
-/// Tells what is wrong with the text of a bundle that the source gives, under the name of a file.
-/// Nothing is told where nothing is wrong. A source that fails, gives more than 67,108,864 bytes or
-/// no text is told of by one line.
+/// Tells what is wrong with the text of a bundle that the source gives, and with its trace section
+/// where the options say so, under the name of a file. Nothing is told where nothing is wrong. A
+/// source that fails, gives more than 67,108,864 bytes or no text is told of by one line.
 pub fn explain<S: Source, E: Sink>(
     alloc: Global,
-    json: bool,
+    options: Options,
     file: &[u8],
     source: &mut S,
     err: &mut E,
@@ -157,9 +171,14 @@ pub fn explain<S: Source, E: Sink>(
     if !is_text(&bytes) {
         return refuse(alloc, file, b"is no text", err);
     }
-    match examine(alloc, &bytes) {
+    let examined = if options.trace {
+        examine_trace(alloc, &bytes)
+    } else {
+        examine(alloc, &bytes)
+    };
+    match examined {
         Ok(None) => Status::Sound,
-        Ok(Some(diagnostic)) => match rendered(alloc, json, file, &bytes, &diagnostic) {
+        Ok(Some(diagnostic)) => match rendered(alloc, options.json, file, &bytes, &diagnostic) {
             Ok(text) => match write_all(err, &text) {
                 Ok(()) => Status::Told,
                 Err(Failed) => Status::Write,

@@ -1,5 +1,9 @@
 //! What is told of a fault of a text.
 
+ghost use Rattle.std.specs.Prelude.{◌≢◌, None, IfOk};
+
+use dioc_terms::Memory;
+
 /// The kind of a fault.
 #[derive(Clone, Copy, Debug, PartialEq, Eq)]
 pub enum Code {
@@ -27,6 +31,10 @@ pub enum Code {
     Unlinked,
     /// The body of a rule is too big.
     BodyTooBig,
+    /// The choreography doesn't play an entry of the trace section where it stands.
+    Stray,
+    /// The trace section says that the run has ended, and the choreography hasn't.
+    Unfinished,
 }
 
 impl Code {
@@ -45,6 +53,8 @@ impl Code {
             Code::SelfMessage => b"self-message",
             Code::Unlinked => b"unlinked",
             Code::BodyTooBig => b"body-too-big",
+            Code::Stray => b"stray",
+            Code::Unfinished => b"unfinished",
         }
     }
 }
@@ -67,4 +77,14 @@ pub struct Diagnostic {
     pub message: Vec<u8>,
     /// One line that says what may be done.
     pub help: Vec<u8>,
+}
+
+/// A diagnostic that was made.
+pub(crate) fn told(made: Result<Diagnostic, Memory>) -> Result<Option<Diagnostic>, Memory>
+    ensures { IfOk result (λ found. found ≢ None) }
+{
+    match made {
+        Ok(diagnostic) => Ok(Some(diagnostic)),
+        Err(fault) => Err(fault),
+    }
 }

@@ -6,25 +6,17 @@ ghost use Rattle.dioc_terms.specs.Plain.{plain};
 ghost use Rattle.bundle_text.specs.Grammar.{Spells};
 ghost use Rattle.rule_checks.specs.Answers.{IsRefusalOf};
 ghost use Rattle.rule_checks.specs.Refusals.{refusal as refusal_of};
+ghost use Rattle.diagnostics.specs.Traces.{IsReplayed};
 ghost use Rattle.diagnostics.specs.Verdicts.{IsSound, is_memory};
 
-use crate::diagnostic::Diagnostic;
+use crate::diagnostic::{Diagnostic, told};
 use crate::refusals::of_refusal;
 use crate::syntax::of_syntax;
+use crate::traces::of_trace;
 use bundle_text::{one_bundle, read_bundle};
 use dioc_terms::{Bundle, Memory, SyntaxFault};
 use rule_checks::{Refusal, accept};
 use std::alloc::Global;
-
-/// A diagnostic that was made.
-fn told(made: Result<Diagnostic, Memory>) -> Result<Option<Diagnostic>, Memory>
-    ensures { IfOk result (λ found. found ≢ None) }
-{
-    match made {
-        Ok(diagnostic) => Ok(Some(diagnostic)),
-        Err(fault) => Err(fault),
-    }
-}
 
 /// Whether memory ran out, so that nothing is said of the bundle.
 fn is_memory(refusal: &Refusal) -> bool
@@ -79,6 +71,47 @@ pub fn examine(alloc: Global, bytes: &[u8]) -> Result<Option<Diagnostic>, Memory
 {
     match read_bundle(alloc, bytes) {
         Ok(bundle) => of_bundle(alloc, bytes, &bundle),
+        Err(SyntaxFault::Syntax(byte)) => told(of_syntax(alloc, bytes, byte)),
+        Err(SyntaxFault::Memory) => Err(Memory),
+    }
+}
+
+/// What is wrong with the trace section of a sound bundle that the bytes spell.
+#[tactic(auto, using(crate::proofs::Sound::spelled_tokens))]
+fn of_section(alloc: Global, bytes: &[u8], bundle: &Bundle) -> Result<Option<Diagnostic>, Memory>
+    requires formed { IsFormed (plain bundle.now) }
+    requires spells { Spells bytes.now (plain bundle.now) }
+    requires sound { IsSound bytes.now }
+    ensures silent { IfOk result (λ found. found ≡ None → IsReplayed bytes.now) }
+    ensures told { IfOk result (λ found. found ≢ None → IsReplayed bytes.now → ⊥) }
+{
+    one_bundle();
+    of_trace(alloc, bytes, bundle)
+}
+
+/// What is wrong with a bundle that the bytes spell, or with its trace section.
+#[tactic(auto, using(crate::proofs::Sound::sound_of))]
+fn of_traced(alloc: Global, bytes: &[u8], bundle: &Bundle) -> Result<Option<Diagnostic>, Memory>
+    requires formed { IsFormed (plain bundle.now) }
+    requires spells { Spells bytes.now (plain bundle.now) }
+    ensures silent { IfOk result (λ found. found ≡ None → IsReplayed bytes.now) }
+    ensures told { IfOk result (λ found. found ≢ None → IsReplayed bytes.now → ⊥) }
+{
+    match of_bundle(alloc, bytes, bundle)? {
+        None => of_section(alloc, bytes, bundle),
+        Some(diagnostic) => Ok(Some(diagnostic)),
+    }
+}
+
+/// As `examine`, and then what is wrong with the trace section: `None` exactly where nothing is
+/// wrong with the bundle and the choreography plays the section.
+#[tactic(auto, using(crate::proofs::Sound::spells_none, crate::proofs::Sound::sound_of))]
+pub fn examine_trace(alloc: Global, bytes: &[u8]) -> Result<Option<Diagnostic>, Memory>
+    ensures silent { IfOk result (λ found. found ≡ None → IsReplayed bytes.now) }
+    ensures told { IfOk result (λ found. found ≢ None → IsReplayed bytes.now → ⊥) }
+{
+    match read_bundle(alloc, bytes) {
+        Ok(bundle) => of_traced(alloc, bytes, &bundle),
         Err(SyntaxFault::Syntax(byte)) => told(of_syntax(alloc, bytes, byte)),
         Err(SyntaxFault::Memory) => Err(Memory),
     }

@@ -1,0 +1,81 @@
+-- What it means that the choreography plays the trace section of a bundle.
+use Rattle.std.specs.Prelude.{◌≡◌, ℕ, ◌<◌, List, Bool, true, false, not, Option, Some, None, length, drop, if◌then◌else◌}
+use Rattle.std.specs.Option.{option_map_or}
+use Rattle.aioc_tokens.specs.Lexemes.{Lexeme}
+use Rattle.dioc_terms.specs.declared.bundles.Last.{Last}
+use Rattle.dioc_terms.specs.declared.bundles.Last.TheVariants as last
+use Rattle.dioc_terms.specs.declared.entries.Entry.{Entry}
+use Rattle.dioc_terms.specs.Messages.{is_aux, visible}
+use Rattle.dioc_terms.specs.Plain.{PlainBundle, Setting, setting}
+use Rattle.bundle_text.specs.Grammar.{Spells}
+use Rattle.global_steps.specs.Follow.{State, follow, play, stray}
+use Rattle.global_steps.specs.Running.{ended}
+use Rattle.rule_checks.specs.Refusals.{IsAccepted}
+use Rattle.trace_syntax.specs.Grammar.{IsClosedTrace}
+use Rattle.diagnostics.specs.declared.traces.Judgement.{Judgement}
+use Rattle.diagnostics.specs.declared.traces.Judgement.TheVariants as judgement
+
+-- whether a last line says that the run has ended, where it hasn't
+abbrev pub is_cut_short : Option Last → Bool → Bool
+is_cut_short (Some (last.Ended count)) over = not over
+is_cut_short _ over = false
+
+-- whether the choreography has ended when it has played the entries
+abbrev pub is_over : PlainBundle → List Entry → Bool
+is_over b entries = option_map_or (λ (state : State). ended state.running) (play b entries) false
+
+-- no entry of the section is one that the choreography doesn't play, auxiliary ones aside, and
+-- where the section says that the run has ended, the choreography has
+pub record IsPlayed (b : PlainBundle) : Type 0 where
+  pub none_strays : stray b b.trace.entries ≡ None
+  pub whole : is_cut_short b.trace.last (is_over b (visible b.trace.entries)) ≡ false
+
+-- the bytes spell a bundle, it is accepted, and the choreography plays its trace section
+pub record IsReplayed (bytes : List ℕ) : Type 0 where
+  pub bundle : PlainBundle
+  pub spells : Spells bytes bundle
+  pub accepted : IsAccepted bundle
+  pub played : IsPlayed bundle
+
+-- how the section is judged
+abbrev pub IsJudged : PlainBundle → Judgement → Type 0
+IsJudged b judgement.Played = IsPlayed b
+IsJudged b (judgement.Stray number) = stray b b.trace.entries ≡ Some number
+IsJudged b judgement.Short =
+    is_cut_short b.trace.last (is_over b (visible b.trace.entries)) ≡ true
+
+-- the choreography stands behind the entries that it has played, with fewer than 2^64 - 1 of them
+pub record IsBehind (b : PlainBundle) (before : List Entry) (s : Setting) (state : State) :
+    Type 0 where
+  pub same : s ≡ setting b
+  pub played : play b (visible before) ≡ Some state
+  pub few : state.entries < 18446744073709551615
+
+-- the choreography may play the entry behind those before it
+pub record MayCome (b : PlainBundle) (before : List Entry) (entry : Entry) : Type 0 where
+  pub state : State
+  pub played : play b (visible before) ≡ Some state
+  pub next : State
+  pub follows : follow (setting b) state entry ≡ Some next
+
+-- the answer says whether the entry is played, and this is the state then
+abbrev pub Follows : Setting → State → Entry → State → Bool → Type 0
+Follows b state entry next true = follow b state entry ≡ Some next
+Follows b state entry next false = (follow b state entry ≡ None) × (next ≡ state)
+
+-- the answer says whether the entry is played, or passed over as auxiliary, and where it is this is
+-- the state behind it
+abbrev pub passed : Setting → State → Entry → Option State
+passed b state entry = if is_aux entry then Some state else follow b state entry
+
+abbrev pub PlaysOn : Setting → State → Entry → State → Bool → Type 0
+PlaysOn b state entry next true = passed b state entry ≡ Some next
+PlaysOn b state entry next false = passed b state entry ≡ None
+
+-- at the place begin the lines of as many entries as these, up to the `}` behind them
+pub record IsLineAt (text : List Lexeme) (left place : ℕ) : Type 0 where
+  pub entries : List Entry
+  pub end : Option Last
+  pub to : List Lexeme
+  pub lines : IsClosedTrace (drop place text) entries end to
+  pub count : length entries ≡ left

@@ -1,0 +1,403 @@
+//! What the first entries of a trace have left, as far as the next ones show it.
+
+use dioc_terms::{
+    Bundle, Change, Choreo, Chosen, Entry, Expr, Index, Key, Memory, Name, Note, Role, Store, Tag,
+    Value, Values, eval,
+};
+use std::alloc::Global;
+
+/// The body of a rule that replaced a scope.
+#[derive(Clone, Copy)]
+struct Body<'a> {
+    scope: Index,
+    epoch: u32,
+    choreo: &'a Choreo,
+}
+
+/// The stores of the roles in the order of the cast, the names of the rules in the book, the bodies
+/// that replaced scopes, and how many updates and changes there were.
+#[derive(Drop)]
+pub(crate) struct Standing<'a> {
+    bundle: &'a Bundle,
+    stores: Vec<Store>,
+    book: Vec<&'a Name>,
+    bodies: Vec<Body<'a>>,
+    updates: u32,
+    changes: usize,
+}
+
+/// All inputs that are given for a role, in their order.
+fn inputs_of(alloc: Global, bundle: &Bundle, role: &Role) -> Result<Values, Memory> {
+    let mut values = Vec::new(alloc);
+    for given in bundle.inputs.as_slice() {
+        if given.0 == *role {
+            for value in given.1.as_slice() {
+                values.push(value.copy(alloc)?)?;
+            }
+        }
+    }
+    Ok(Values::new(values))
+}
+
+/// The value of the last message with this key.
+fn sent<'a>(entries: &'a [Entry], key: &Key) -> Option<&'a Value> {
+    for entry in entries.iter().rev() {
+        match entry {
+            Entry::Put {
+                key: other,
+                note: Note::Val(value),
+            } if other == key => return Some(value),
+            _ => {}
+        }
+    }
+    None
+}
+
+impl<'a> Standing<'a> {
+    /// What is there behind entries that the choreography plays.
+    pub(crate) fn behind(
+        alloc: Global,
+        bundle: &'a Bundle,
+        entries: &'a [Entry],
+    ) -> Result<Standing<'a>, Memory> {
+        let mut standing = Standing {
+            bundle,
+            stores: Vec::new(alloc),
+            book: Vec::new(alloc),
+            bodies: Vec::new(alloc),
+            updates: 0,
+            changes: 0,
+        };
+        for role in bundle.cast.as_slice() {
+            let inputs = inputs_of(alloc, bundle, role)?;
+            standing.stores.push(Store::new(alloc, inputs))?;
+        }
+        for rule in bundle.rules.as_slice().iter().take(bundle.opening as usize) {
+            standing.enter(&rule.name)?;
+        }
+        for (at, entry) in entries.iter().enumerate() {
+            standing.pass(alloc, entry, &entries[..at])?;
+        }
+        Ok(standing)
+    }
+
+    /// The store of a role of the cast.
+    fn store(&self, role: &Role) -> Option<&Store> {
+        let mut roles = self.bundle.cast.as_slice().iter();
+        match roles.position(|other| other == role) {
+            Some(number) => self.stores.get(number),
+            None => None,
+        }
+    }
+
+    /// Sets a variable of a role of the cast, to an input where it is one.
+    fn assign(
+        &mut self,
+        alloc: Global,
+        role: &Role,
+        var: &Name,
+        value: &Value,
+        is_input: bool,
+    ) -> Result<(), Memory> {
+        let mut roles = self.bundle.cast.as_slice().iter();
+        let number = match roles.position(|other| other == role) {
+            Some(number) => number,
+            None => return Ok(()),
+        };
+        if let Some(store) = self.stores.get_mut(number) {
+            let name = var.copy(alloc)?;
+            let value = value.copy(alloc)?;
+            if is_input {
+                drop(store.next_input());
+            }
+            store.reserve(1)?;
+            store.set(name, value);
+        }
+        Ok(())
+    }
+
+    /// Puts the name of a rule into the book.
+    fn enter(&mut self, name: &'a Name) -> Result<(), Memory> {
+        if !self.book.iter().any(|other| **other == *name) {
+            self.book.push(name)?;
+        }
+        Ok(())
+    }
+
+    /// Goes past an entry, behind those before it.
+    fn pass(&mut self, alloc: Global, entry: &'a Entry, before: &'a [Entry]) -> Result<(), Memory> {
+        match entry {
+            Entry::Take {
+                key,
+                var: Some(var),
+            } => match sent(before, key) {
+                Some(value) => self.assign(alloc, &key.to, var, value, false),
+                None => Ok(()),
+            },
+            Entry::Set {
+                role,
+                var,
+                value,
+                ..
+            } => self.assign(alloc, role, var, value, false),
+            Entry::Input {
+                role,
+                var,
+                value,
+                ..
+            } => self.assign(alloc, role, var, value, true),
+            Entry::Scope { index, chosen, .. } => self.replace(*index, chosen),
+            Entry::Add { name } => {
+                self.changes = self.changes.saturating_add(1);
+                self.enter(name)
+            }
+            Entry::Drop { name } => {
+                self.changes = self.changes.saturating_add(1);
+                self.book.retain(|other| **other != *name);
+                Ok(())
+            }
+            Entry::Env { .. } => {
+                self.changes = self.changes.saturating_add(1);
+                Ok(())
+            }
+            Entry::Put { .. } | Entry::Pick { .. } | Entry::Take { .. } => Ok(()),
+        }
+    }
+
+    /// The choice of a scope's leader: what replaced this scope before has ended.
+    fn replace(&mut self, scope: Index, chosen: &Chosen) -> Result<(), Memory> {
+        self.bodies.retain(|body| body.scope != scope);
+        let (name, epoch) = match chosen {
+            Chosen::Keep => return Ok(()),
+            Chosen::Rule { name, epoch } => (name, *epoch),
+        };
+        self.updates = self.updates.saturating_add(1);
+        for rule in self.bundle.rules.as_slice() {
+            if rule.name == *name {
+                self.bodies.push(Body {
+                    scope,
+                    epoch,
+                    choreo: &rule.body,
+                })?;
+            }
+        }
+        Ok(())
+    }
+
+    /// Entries of which each is one that may come next, with the values that it would have: of each
+    /// construct of the choreography and of bodies that replaced scopes those that its kind can
+    /// make, and the script's next change. All that may come next are among them.
+    pub(crate) fn candidates(&self, alloc: Global) -> Result<Vec<Entry>, Memory> {
+        let mut found = Vec::new(alloc);
+        self.add_part(alloc, &self.bundle.choreo, 0, &mut found)?;
+        for body in &self.bodies {
+            self.add_part(alloc, body.choreo, body.epoch, &mut found)?;
+        }
+        self.add_change(alloc, &mut found)?;
+        Ok(found)
+    }
+
+    /// Adds what the constructs of a choreography can make.
+    fn add_part(
+        &self,
+        alloc: Global,
+        choreo: &Choreo,
+        epoch: u32,
+        out: &mut Vec<Entry>,
+    ) -> Result<(), Memory> {
+        match choreo {
+            Choreo::Seq(first, second) | Choreo::Par(first, second) => {
+                self.add_part(alloc, first, epoch, out)?;
+                self.add_part(alloc, second, epoch, out)
+            }
+            Choreo::If {
+                index,
+                leader,
+                guard,
+                yes,
+                no,
+            } => {
+                self.add_pick(alloc, at(epoch, index), leader, guard, out)?;
+                self.add_part(alloc, yes, epoch, out)?;
+                self.add_part(alloc, no, epoch, out)
+            }
+            Choreo::While {
+                index,
+                leader,
+                guard,
+                body,
+            } => {
+                self.add_pick(alloc, at(epoch, index), leader, guard, out)?;
+                self.add_part(alloc, body, epoch, out)
+            }
+            Choreo::Scope {
+                index,
+                leader,
+                body,
+                ..
+            } => {
+                self.add_choices(alloc, at(epoch, index), leader, out)?;
+                self.add_part(alloc, body, epoch, out)
+            }
+            step => self.add_step(alloc, step, epoch, out),
+        }
+    }
+
+    /// Adds what a step can make.
+    fn add_step(
+        &self,
+        alloc: Global,
+        step: &Choreo,
+        epoch: u32,
+        out: &mut Vec<Entry>,
+    ) -> Result<(), Memory> {
+        match step {
+            Choreo::Com {
+                index,
+                op,
+                from,
+                expr,
+                to,
+                var,
+            } => {
+                let key = Key {
+                    from: from.copy(alloc)?,
+                    to: to.copy(alloc)?,
+                    index: at(epoch, index),
+                    tag: Tag::Op(op.copy(alloc)?),
+                };
+                self.add_message(alloc, key, expr, var, out)
+            }
+            Choreo::Set {
+                index,
+                var,
+                role,
+                expr,
+            } => {
+                if let Some(store) = self.store(role) {
+                    out.push(Entry::Set {
+                        index: at(epoch, index),
+                        role: role.copy(alloc)?,
+                        var: var.copy(alloc)?,
+                        value: eval(alloc, expr, store)?,
+                    })?;
+                }
+                Ok(())
+            }
+            Choreo::Input { index, var, role } => {
+                if let Some(store) = self.store(role) {
+                    out.push(Entry::Input {
+                        index: at(epoch, index),
+                        role: role.copy(alloc)?,
+                        var: var.copy(alloc)?,
+                        value: store.copy_of_next_input(alloc)?,
+                    })?;
+                }
+                Ok(())
+            }
+            _ => Ok(()),
+        }
+    }
+
+    /// Adds that a message is sent, and that it is taken.
+    fn add_message(
+        &self,
+        alloc: Global,
+        key: Key,
+        expr: &Expr,
+        var: &Name,
+        out: &mut Vec<Entry>,
+    ) -> Result<(), Memory> {
+        if let Some(store) = self.store(&key.from) {
+            let value = eval(alloc, expr, store)?;
+            out.push(Entry::Put {
+                key: key.copy(alloc)?,
+                note: Note::Val(value),
+            })?;
+        }
+        out.push(Entry::Take {
+            key,
+            var: Some(var.copy(alloc)?),
+        })?;
+        Ok(())
+    }
+
+    /// Adds that a leader picks by a guard.
+    fn add_pick(
+        &self,
+        alloc: Global,
+        index: Index,
+        leader: &Role,
+        guard: &Expr,
+        out: &mut Vec<Entry>,
+    ) -> Result<(), Memory> {
+        if let Some(store) = self.store(leader) {
+            let flag = eval(alloc, guard, store)? == Value::Bool(true);
+            out.push(Entry::Pick {
+                index,
+                role: leader.copy(alloc)?,
+                flag,
+            })?;
+        }
+        Ok(())
+    }
+
+    /// Adds that a leader keeps a scope, and that a rule of the book replaces it.
+    fn add_choices(
+        &self,
+        alloc: Global,
+        index: Index,
+        leader: &Role,
+        out: &mut Vec<Entry>,
+    ) -> Result<(), Memory> {
+        out.push(Entry::Scope {
+            index,
+            role: leader.copy(alloc)?,
+            chosen: Chosen::Keep,
+        })?;
+        for name in &self.book {
+            out.push(Entry::Scope {
+                index,
+                role: leader.copy(alloc)?,
+                chosen: Chosen::Rule {
+                    name: name.copy(alloc)?,
+                    epoch: self.updates.saturating_add(1),
+                },
+            })?;
+        }
+        Ok(())
+    }
+
+    /// Adds the script's next change.
+    fn add_change(&self, alloc: Global, out: &mut Vec<Entry>) -> Result<(), Memory> {
+        let timed = match self.bundle.script.as_slice().get(self.changes) {
+            Some(timed) => timed,
+            None => return Ok(()),
+        };
+        let entry = match &timed.change {
+            Change::Add(number) => match self.bundle.rules.as_slice().get(*number as usize) {
+                Some(rule) => Entry::Add {
+                    name: rule.name.copy(alloc)?,
+                },
+                None => return Ok(()),
+            },
+            Change::Drop(name) => Entry::Drop {
+                name: name.copy(alloc)?,
+            },
+            Change::Env(key, value) => Entry::Env {
+                key: key.copy(alloc)?,
+                value: value.copy(alloc)?,
+            },
+        };
+        out.push(entry)?;
+        Ok(())
+    }
+}
+
+/// The index of a construct in the choreography, or in a body that replaced a scope.
+fn at(epoch: u32, index: &Index) -> Index {
+    Index {
+        epoch,
+        place: index.place,
+    }
+}
