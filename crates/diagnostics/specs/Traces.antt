@@ -1,7 +1,9 @@
 -- What it means that the choreography plays the trace section of a bundle.
-use Rattle.std.specs.Prelude.{◌≡◌, ℕ, ◌<◌, List, Bool, true, false, not, Option, Some, None, length, drop, if◌then◌else◌}
+use Rattle.std.specs.Prelude.{◌≡◌, ℕ, ◌-◌, ◌<◌, List, Bool, true, false, not, Option, Some, None, length, drop, if◌then◌else◌}
 use Rattle.std.specs.Option.{option_map_or}
-use Rattle.aioc_tokens.specs.Lexemes.{Lexeme}
+use Rattle.aioc_tokens.specs.declared.kinds.Token.{Token}
+use Rattle.aioc_tokens.specs.Lexemes.{Lexeme, lexemes}
+use Rattle.aioc_tokens.specs.Lexing.{Lexes, place_of}
 use Rattle.dioc_terms.specs.declared.bundles.Last.{Last}
 use Rattle.dioc_terms.specs.declared.bundles.Last.TheVariants as last
 use Rattle.dioc_terms.specs.declared.entries.Entry.{Entry}
@@ -42,7 +44,8 @@ abbrev pub IsJudged : PlainBundle → Judgement → Type 0
 IsJudged b judgement.Played = IsPlayed b
 IsJudged b (judgement.Stray number) = stray b b.trace.entries ≡ Some number
 IsJudged b judgement.Short =
-    is_cut_short b.trace.last (is_over b (visible b.trace.entries)) ≡ true
+    (stray b b.trace.entries ≡ None)
+    × (is_cut_short b.trace.last (is_over b (visible b.trace.entries)) ≡ true)
 
 -- the choreography stands behind the entries that it has played, with fewer than 2^64 - 1 of them
 pub record IsBehind (b : PlainBundle) (before : List Entry) (s : Setting) (state : State) :
@@ -79,3 +82,23 @@ pub record IsLineAt (text : List Lexeme) (left place : ℕ) : Type 0 where
   pub to : List Lexeme
   pub lines : IsClosedTrace (drop place text) entries end to
   pub count : length entries ≡ left
+
+-- The byte at which a line is told: one at which the lines of as many entries begin as these, or
+-- the first of the text where the place isn't known.
+pub data IsShownAt (bytes : List ℕ) (left : ℕ) : ℕ → Type 0 where
+  known : {tokens : List Token} {place start : ℕ}
+      → Lexes 0 bytes tokens
+      → IsLineAt (lexemes bytes tokens) left place
+      → start ≡ place_of bytes tokens place
+      → IsShownAt bytes left start
+  unknown : IsShownAt bytes left 0
+
+-- how many entries stand before the first that isn't played, or all of them
+abbrev pub played_count : PlainBundle → ℕ
+played_count b =
+    option_map_or (λ number. number - 1) (stray b b.trace.entries) (length b.trace.entries)
+
+-- the byte is told of the line of the first entry that isn't played, or of the one behind all
+-- entries
+abbrev pub IsToldAt : List ℕ → PlainBundle → ℕ → Type 0
+IsToldAt bytes b start = IsShownAt bytes (length b.trace.entries - played_count b) start

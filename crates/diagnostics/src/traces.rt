@@ -1,22 +1,23 @@
 //! What is wrong with the trace section of a bundle: the first entry that the choreography doesn't
 //! play.
 
-ghost use Rattle.std.specs.Prelude.{◌≡◌, ◌≢◌, ◌<◌, ◌≤◌, length, None, Some, true, IfOk, IfSome};
+ghost use Rattle.std.specs.Prelude.{◌≡◌, ◌≢◌, ◌<◌, ◌≤◌, ◌-◌, length, None, Some, true, IfOk, IfSome};
 ghost use Rattle.std.specs.List.{All};
+ghost use Rattle.aioc_tokens.specs.Lexing.{Lexes};
 ghost use Rattle.dioc_terms.specs.Bundles.{IsFormed};
 ghost use Rattle.dioc_terms.specs.Messages.{visible};
 ghost use Rattle.dioc_terms.specs.Plain.{plain};
 ghost use Rattle.global_follower.specs.KeptPlays.{setting_of, state_of};
 ghost use Rattle.global_steps.specs.Follow.{play_from, stray_from};
 ghost use Rattle.text_places.specs.Laws.{HasTokens};
-ghost use Rattle.diagnostics.specs.Traces.{IsPlayed, IsJudged, IsBehind, MayCome, Follows, PlaysOn, is_cut_short};
+ghost use Rattle.diagnostics.specs.Traces.{IsPlayed, IsJudged, IsBehind, MayCome, Follows, PlaysOn, IsShownAt, IsToldAt, is_cut_short};
 
-use crate::diagnostic::{Code, Diagnostic, Span, told};
+use crate::diagnostic::{Code, Diagnostic, Span};
 use crate::lines::find_line;
 use crate::places::span_at;
 use crate::standing::Standing;
 use crate::wording::{Piece, line_of};
-use aioc_tokens::{Lexed, sorts};
+use aioc_tokens::{Lexed, Token, sorts};
 use aux_messages::is_aux;
 use dioc_terms::{Bundle, Entry, Last, Memory, give_up};
 use global_follower::{FollowFault, Follower};
@@ -211,22 +212,40 @@ fn help_behind(alloc: Global, bundle: &Bundle, before: &[Entry]) -> Result<Vec<u
     Ok(help)
 }
 
+/// The bytes of the line behind so many entries of a text's trace section, of which so many are
+/// left, or the front of the text where its place isn't known.
+#[tactic(auto, using(crate::proofs::Played::shown_known, crate::proofs::Played::shown_unknown))]
+fn span_among(
+    alloc: Global,
+    bytes: &[u8],
+    tokens: &[Token],
+    lines: usize,
+    left: usize,
+) -> Result<Span, Memory>
+    requires { Lexes 0 bytes.now tokens.now }
+    ensures { IfOk result (λ span. IsShownAt bytes.now left span.start) }
+{
+    let known = sorts(alloc, bytes, tokens)?;
+    let text = Lexed::with_sorts(bytes, tokens, &known);
+    match find_line(alloc, &text, lines, left)? {
+        Some(line) => Ok(Span {
+            start: span_at(bytes, tokens, line.0).start,
+            end: span_at(bytes, tokens, line.1.saturating_sub(1)).end,
+        }),
+        None => Ok(Span { start: 0, end: 0 }),
+    }
+}
+
 /// The bytes of the line behind so many entries of the section, or the front of the text where its
 /// place isn't known.
 fn span_behind(alloc: Global, bytes: &[u8], bundle: &Bundle, lines: usize) -> Result<Span, Memory>
     requires { HasTokens bytes.now }
+    ensures { IfOk result (λ span. IsShownAt bytes.now
+        (length (plain bundle.now).trace.entries - lines) span.start) }
 {
     let found = tokens_of(alloc, bytes)?;
-    let known = sorts(alloc, bytes, &found)?;
-    let text = Lexed::with_sorts(bytes, &found, &known);
     let left = bundle.trace.entries.len().saturating_sub(lines);
-    match find_line(alloc, &text, lines, left)? {
-        Some((at, behind)) => Ok(Span {
-            start: span_at(bytes, &found, at).start,
-            end: span_at(bytes, &found, behind.saturating_sub(1)).end,
-        }),
-        None => Ok(Span { start: 0, end: 0 }),
-    }
+    span_among(alloc, bytes, &found, lines, left)
 }
 
 /// What is told of the line behind so many entries of the section.
@@ -237,20 +256,23 @@ fn told_behind(
     lines: usize,
     code: Code,
     message: &[u8],
-) -> Result<Diagnostic, Memory>
+) -> Result<Option<Diagnostic>, Memory>
     requires formed { IsFormed (plain bundle.now) }
     requires tokens { HasTokens bytes.now }
+    ensures some { IfOk result (λ found. found ≢ None) }
+    ensures place { IfOk result (λ found. IfSome found (λ diagnostic. IsShownAt bytes.now
+        (length (plain bundle.now).trace.entries - lines) diagnostic.span.start)) }
 {
     let entries = bundle.trace.entries.as_slice();
     let span = span_behind(alloc, bytes, bundle, lines)?;
     let message = line_of(alloc, &[Piece::Bytes(message)])?;
     match help_behind(alloc, bundle, &entries[..lines.min(entries.len())]) {
-        Ok(help) => Ok(Diagnostic {
+        Ok(help) => Ok(Some(Diagnostic {
             code,
             span,
             message,
             help,
-        }),
+        })),
         Err(fault) => give_up(message, fault),
     }
 }
@@ -258,6 +280,7 @@ fn told_behind(
 /// What is wrong with the trace section of a bundle: `None` exactly where the choreography plays
 /// all its visible entries, and has ended where the section says so. Else the place is that of the
 /// first entry that isn't played, or of the last line.
+#[tactic(auto, using(crate::proofs::Played::not_played, crate::proofs::Played::stray_told, crate::proofs::Played::short_told))]
 pub(crate) fn of_trace(
     alloc: Global,
     bytes: &[u8],
@@ -267,24 +290,26 @@ pub(crate) fn of_trace(
     requires tokens { HasTokens bytes.now }
     ensures silent { IfOk result (λ found. found ≡ None → IsPlayed (plain bundle.now)) }
     ensures told { IfOk result (λ found. found ≢ None → IsPlayed (plain bundle.now) → ⊥) }
+    ensures place { IfOk result (λ found. IfSome found (λ diagnostic. IsToldAt bytes.now
+        (plain bundle.now) diagnostic.span.start)) }
 {
     match judged(alloc, bundle)? {
         Judgement::Played => Ok(None),
-        Judgement::Stray(number) => told(told_behind(
+        Judgement::Stray(number) => told_behind(
             alloc,
             bytes,
             bundle,
             (number as usize).saturating_sub(1),
             Code::Stray,
             b"the choreography doesn't play this entry here",
-        )),
-        Judgement::Short => told(told_behind(
+        ),
+        Judgement::Short => told_behind(
             alloc,
             bytes,
             bundle,
             bundle.trace.entries.len(),
             Code::Unfinished,
             b"the choreography hasn't ended here",
-        )),
+        ),
     }
 }
