@@ -1,22 +1,20 @@
 -- What is judged entry by entry is judged as a whole.
-use Rattle.std.proofs.Common.{◌≡◌, ◌≢◌, ◌≤◌, ◌+◌, ◌-◌, ℕ, suc, List, [], ◌∷◌, length, Bool, true, false, Option, Some, None, Result, Ok, Err, IfOk, IfSome, refl, sym, ap, ◌∙◌, subst, arith}
+use Rattle.std.proofs.Common.{◌≡◌, ◌≢◌, ◌≤◌, ◌-◌, ℕ, suc, List, [], ◌∷◌, length, Bool, true, false, Option, Some, None, Result, Ok, Err, IfOk, IfSome, refl, sym, ap, ◌∙◌, subst, arith}
 use Rattle.std.specs.Prelude.{not, if◌then◌else◌, option_and_then}
 use Rattle.std.specs.Option.{option_map_or}
 use Rattle.aioc_tokens.specs.declared.kinds.Token.{Token}
 use Rattle.aioc_tokens.specs.Lexemes.{Lexeme, lexemes}
 use Rattle.aioc_tokens.specs.Lexing.{Lexes, place_of}
-use Rattle.dioc_terms.specs.declared.bundles.Last.{Last}
 use Rattle.dioc_terms.specs.declared.entries.Entry.{Entry}
 use Rattle.dioc_terms.specs.declared.faults.Memory.{Memory}
 use Rattle.dioc_terms.specs.Messages.{is_aux, visible}
-use Rattle.dioc_terms.specs.Plain.{PlainBundle, Setting, setting}
+use Rattle.dioc_terms.specs.Plain.{PlainBundle, Setting}
 use Rattle.global_steps.specs.Laws.{PlaysGoOn}
-use Rattle.global_steps.specs.Follow.{State, follow, play, play_from, play_start, stray, stray_from}
-use Rattle.global_steps.specs.Running.{ended}
+use Rattle.global_steps.specs.Follow.{State, follow, play, play_from, stray, stray_from}
 use Rattle.diagnostics.specs.declared.diagnostic.Diagnostic.{Diagnostic}
 use Rattle.diagnostics.specs.declared.traces.Judgement.{Judgement}
 use Rattle.diagnostics.specs.declared.traces.Judgement.TheVariants as judgement
-use Rattle.diagnostics.specs.Traces.{passed, Follows, PlaysOn, is_cut_short, is_over, IsPlayed, IsJudged, IsLineAt, IsShownAt, known, unknown, IsToldAt}
+use Rattle.diagnostics.specs.Traces.{passed, Follows, PlaysOn, IsPlayed, IsJudged, IsLineAt, IsShownAt, known, unknown, IsToldAt}
 
 none_some : {A : Type 0} {a : A} → None ≡ Some a → ⊥
 none_some e = cc

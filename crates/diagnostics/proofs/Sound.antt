@@ -1,5 +1,5 @@
 -- A text of which something is told is not sound.
-use Rattle.std.proofs.Common.{◌≡◌, ◌≢◌, false, ℕ, List, Option, Some, None, Result, Ok, Err, IfOk, ap, sym, subst, ◌∙◌}
+use Rattle.std.proofs.Common.{◌≡◌, ◌≢◌, false, ℕ, List, Option, Some, None, Result, Ok, Err, IfOk, IfSome, refl, ap, sym, subst, ◌∙◌}
 use Rattle.dioc_terms.specs.declared.faults.SyntaxFault.{SyntaxFault}
 use Rattle.dioc_terms.specs.declared.faults.SyntaxFault.TheVariants as fault
 use Rattle.dioc_terms.specs.Plain.{PlainBundle}
@@ -10,7 +10,8 @@ use Rattle.rule_checks.specs.Refusals.{refusal}
 use Rattle.text_places.specs.Laws.{HasTokens}
 use Rattle.rule_checks.specs.declared.refusals.Refusal.TheVariants as why
 use Rattle.rule_checks.specs.Answers.{IsRefusalOf}
-use Rattle.diagnostics.specs.Traces.{IsPlayed, IsReplayed}
+use Rattle.diagnostics.specs.declared.diagnostic.Diagnostic.{Diagnostic}
+use Rattle.diagnostics.specs.Traces.{IsPlayed, IsReplayed, IsToldAt, IsStrayAt}
 use Rattle.diagnostics.specs.Verdicts.{IsSound, is_memory}
 
 -- each byte of a text that spells a bundle is in a token, a space or a comment
@@ -69,3 +70,20 @@ pub told_of : {D E : Type 0} (bytes : List ℕ) (b : PlainBundle) (r : Result (O
     → IfOk r (λ found. found ≢ None → IsPlayed b → ⊥) → IfOk r (λ found. found ≢ None → IsReplayed bytes → ⊥)
 told_of bytes b (Ok found) one spells told = λ some r. told some (played_of bytes b one spells r)
 told_of bytes b (Err fault) one spells told = told
+
+-- where it is told of the section of the bundle that the bytes spell, it is told of the bytes
+pub place_of_bytes : {E : Type 0} (bytes : List ℕ) (b : PlainBundle) (r : Result (Option Diagnostic) E) → OneBundle → Spells bytes b
+    → IfOk r (λ found. IfSome found (λ (d : Diagnostic). IsToldAt bytes b d.span.start)) → IfOk r (λ found. IfSome found (λ (d : Diagnostic). IsStrayAt bytes d.span.start))
+place_of_bytes bytes b (Ok (Some d)) one spells told = λ other spelled accepted. subst (λ x. IsToldAt bytes x d.span.start) (sym (one bytes other b spelled spells)) told
+place_of_bytes bytes b (Ok None) one spells told = told
+place_of_bytes bytes b (Err fault) one spells told = told
+
+-- of a text that isn't sound no section is told
+pub unsound_at : (bytes : List ℕ) (start : ℕ) → (IsSound bytes → ⊥) → IsStrayAt bytes start
+unsound_at bytes start unsound = λ b spells accepted. absurd (unsound (record { bundle = b; spells = spells; accepted = accepted }))
+
+pub unsound_place : {E : Type 0} (bytes : List ℕ) (r : Result (Option Diagnostic) E) → IfOk r (λ found. found ≢ None) → (IsSound bytes → ⊥)
+    → IfOk r (λ found. IfSome found (λ (d : Diagnostic). IsStrayAt bytes d.span.start))
+unsound_place bytes (Ok (Some d)) some unsound = unsound_at bytes d.span.start unsound
+unsound_place bytes (Ok None) some unsound = absurd (some refl)
+unsound_place bytes (Err fault) some unsound = some

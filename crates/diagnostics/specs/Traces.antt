@@ -102,3 +102,8 @@ played_count b =
 -- entries
 abbrev pub IsToldAt : List ℕ → PlainBundle → ℕ → Type 0
 IsToldAt bytes b start = IsShownAt bytes (length b.trace.entries - played_count b) start
+
+-- so it is of each bundle that the bytes spell, where it is accepted
+abbrev pub IsStrayAt : List ℕ → ℕ → Type 0
+IsStrayAt bytes start =
+    (b : PlainBundle) → Spells bytes b → IsAccepted b → IsToldAt bytes b start

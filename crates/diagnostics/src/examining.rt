@@ -1,12 +1,12 @@
 //! Whether anything is wrong with a text, and what.
 
-ghost use Rattle.std.specs.Prelude.{◌≡◌, ◌≢◌, IfOk};
+ghost use Rattle.std.specs.Prelude.{◌≡◌, ◌≢◌, IfOk, IfSome};
 ghost use Rattle.dioc_terms.specs.Bundles.{IsFormed};
 ghost use Rattle.dioc_terms.specs.Plain.{plain};
 ghost use Rattle.bundle_text.specs.Grammar.{Spells};
 ghost use Rattle.rule_checks.specs.Answers.{IsRefusalOf};
 ghost use Rattle.rule_checks.specs.Refusals.{refusal as refusal_of};
-ghost use Rattle.diagnostics.specs.Traces.{IsReplayed};
+ghost use Rattle.diagnostics.specs.Traces.{IsReplayed, IsStrayAt};
 ghost use Rattle.diagnostics.specs.Verdicts.{IsSound, is_memory};
 
 use crate::diagnostic::{Diagnostic, told};
@@ -84,18 +84,22 @@ fn of_section(alloc: Global, bytes: &[u8], bundle: &Bundle) -> Result<Option<Dia
     requires sound { IsSound bytes.now }
     ensures silent { IfOk result (λ found. found ≡ None → IsReplayed bytes.now) }
     ensures told { IfOk result (λ found. found ≢ None → IsReplayed bytes.now → ⊥) }
+    ensures place { IfOk result (λ found. IfSome found (λ diagnostic. IsStrayAt bytes.now
+        diagnostic.span.start)) }
 {
     one_bundle();
     of_trace(alloc, bytes, bundle)
 }
 
 /// What is wrong with a bundle that the bytes spell, or with its trace section.
-#[tactic(auto, using(crate::proofs::Sound::sound_of))]
+#[tactic(auto, using(crate::proofs::Sound::sound_of, crate::proofs::Sound::unsound_at))]
 fn of_traced(alloc: Global, bytes: &[u8], bundle: &Bundle) -> Result<Option<Diagnostic>, Memory>
     requires formed { IsFormed (plain bundle.now) }
     requires spells { Spells bytes.now (plain bundle.now) }
     ensures silent { IfOk result (λ found. found ≡ None → IsReplayed bytes.now) }
     ensures told { IfOk result (λ found. found ≢ None → IsReplayed bytes.now → ⊥) }
+    ensures place { IfOk result (λ found. IfSome found (λ diagnostic. IsStrayAt bytes.now
+        diagnostic.span.start)) }
 {
     match of_bundle(alloc, bytes, bundle)? {
         None => of_section(alloc, bytes, bundle),
@@ -104,11 +108,14 @@ fn of_traced(alloc: Global, bytes: &[u8], bundle: &Bundle) -> Result<Option<Diag
 }
 
 /// As `examine`, and then what is wrong with the trace section: `None` exactly where nothing is
-/// wrong with the bundle and the choreography plays the section.
+/// wrong with the bundle and the choreography plays the section. Where only the section is wrong,
+/// the place is that of the first entry that isn't played, or of the last line.
 #[tactic(auto, using(crate::proofs::Sound::spells_none, crate::proofs::Sound::sound_of))]
 pub fn examine_trace(alloc: Global, bytes: &[u8]) -> Result<Option<Diagnostic>, Memory>
     ensures silent { IfOk result (λ found. found ≡ None → IsReplayed bytes.now) }
     ensures told { IfOk result (λ found. found ≢ None → IsReplayed bytes.now → ⊥) }
+    ensures place { IfOk result (λ found. IfSome found (λ diagnostic. IsStrayAt bytes.now
+        diagnostic.span.start)) }
 {
     match read_bundle(alloc, bytes) {
         Ok(bundle) => of_traced(alloc, bytes, &bundle),

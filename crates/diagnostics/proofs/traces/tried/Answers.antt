@@ -1,6 +1,5 @@
 -- An entry that is followed may come there.
-use Rattle.std.proofs.Common.{◌≡◌, Some, sym, subst}
-use Rattle.dioc_terms.specs.Plain.{plain, setting}
+use Rattle.std.proofs.Common.{◌≡◌, Some, subst}
 use Rattle.global_follower.specs.KeptPlays.{state_of}
 use Rattle.global_steps.specs.Follow.{follow}
 use Rattle.diagnostics.specs.Traces.{Follows}
