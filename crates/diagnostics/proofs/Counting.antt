@@ -1,11 +1,11 @@
 -- Marks that are counted by places of a text, and by its lists.
-use Rattle.std.proofs.Common.{◌≡◌, ℕ, zero, suc, ◌+◌, ◌-◌, ◌<◌, ◌≤◌, Bool, true, false, List, [], ◌∷◌, length, drop, get_or, refl, sym, ap, ◌∙◌, subst, if◌then◌else◌, arith, length-drop}
+use Rattle.std.proofs.Common.{◌≡◌, ℕ, zero, suc, ◌+◌, ◌-◌, ◌<◌, ◌≤◌, Bool, true, false, List, [], ◌∷◌, length, drop, refl, sym, ap, ◌∙◌, subst, if◌then◌else◌, arith, length-drop}
 use Rattle.std.proofs.lemmas.List.{drop-drop}
 use Rattle.aioc_tokens.specs.Lexemes.{Lexeme, sort_of}
 use Rattle.dioc_terms.specs.Terms.{Term}
 use Rattle.dioc_syntax.specs.Choreographies.{Form, Stands}
-use Rattle.text_places.specs.Marks.{is_construct, is_marked, goes_on, begins_construct, sort_at, passing, IsNth, Construct}
-use Rattle.diagnostics.specs.Marked.{is_mark, is_calm, Marks, no_more, other, mark, places, IsPlace, ArePlaces, BeginsAt}
+use Rattle.text_places.specs.Marks.{is_construct, is_marked, goes_on, begins_construct, passing, IsNth, Construct}
+use Rattle.diagnostics.specs.Marked.{is_mark, is_calm, Marks, no_more, other, mark, places, ArePlaces, BeginsAt}
 use Rattle.diagnostics.proofs.Marking.{counted, join, past, marked}
 
 -- what is a mark at a place of the text is one at the front of what is left there

@@ -1,22 +1,21 @@
 -- Between the constructs of a choreography no mark stands.
-use Rattle.std.proofs.Common.{◌≡◌, ℕ, suc, ◌+◌, Bool, true, false, List, [], ◌∷◌, ◌++◌, drop, Option, Some, None, option_map, refl, sym, ap, ◌∙◌, subst, arith}
+use Rattle.std.proofs.Common.{◌≡◌, ℕ, suc, ◌+◌, true, false, List, [], ◌∷◌, ◌++◌, drop, Option, Some, None, option_map, refl, sym, ap, ◌∙◌, subst, arith}
 use Rattle.dioc_terms.specs.declared.values.Value.{Value}
 use Rattle.dioc_terms.specs.declared.expressions.Oper.{Oper}
 use Rattle.dioc_terms.specs.Expressions.{Expression}
-use Rattle.aioc_tokens.specs.Lexemes.{Lexeme, Name, Long, Number, Text, Reserved, Symbol, sort_of}
+use Rattle.aioc_tokens.specs.Lexemes.{Lexeme, Name, Number, Text, Reserved, Symbol, sort_of}
 use Rattle.aioc_tokens.specs.declared.words.Word.TheVariants as word
 use Rattle.aioc_tokens.specs.declared.words.Punctuator.TheVariants as punctuator
 use Rattle.expr_syntax.specs.declared.levels.ExprKind.{ExprKind}
-use Rattle.expr_syntax.specs.declared.levels.ExprKind.TheVariants.{Condition, Step as Plain}
+use Rattle.expr_syntax.specs.declared.levels.ExprKind.TheVariants.{Condition}
 use Rattle.expr_syntax.specs.declared.levels.Level.{Level}
-use Rattle.expr_syntax.specs.declared.levels.Level.TheVariants.{Disjunction, Conjunction, Negation, Comparison, Sum, Product, Unary}
+use Rattle.expr_syntax.specs.declared.levels.Level.TheVariants.{Disjunction, Conjunction, Comparison, Sum, Product}
 use Rattle.expr_syntax.specs.Levels.{operator}
 use Rattle.dioc_terms.specs.declared.names.Role.{Role}
 use Rattle.dioc_terms.specs.Terms.{Term, constructs}
 use Rattle.expr_syntax.specs.Constants.{constant, before, number_up_to, greatest, greatest_negated, positive, negative}
 use Rattle.expr_syntax.specs.Grammar.{Reads, chain, denied, not_denied, alone, compared, single, negated, bracketed, Follows, ended, more, leaf, and_left, const_before}
-use Rattle.dioc_syntax.specs.Choreographies.{NamesRoles, last_role, more_roles, HasExtraRoles, no_roles, roles, GivesProperties, last_property, more_properties, HasProperties, no_properties, empty_properties, properties, Form, Choreography, Sequence, Step, Block, Otherwise, Stands, one_part, beside, one_step, last_step, in_turn, nothing, interaction, input, assignment, choice, loop, scope, group, block, no_else, otherwise}
-use Rattle.text_places.specs.Marks.{is_construct, goes_on, sort_at}
+use Rattle.dioc_syntax.specs.Choreographies.{NamesRoles, last_role, more_roles, HasExtraRoles, no_roles, roles, GivesProperties, last_property, more_properties, HasProperties, no_properties, empty_properties, properties, Form, Block, Otherwise, Stands, one_part, beside, one_step, last_step, in_turn, nothing, interaction, input, assignment, choice, loop, scope, group, block, no_else, otherwise}
 use Rattle.diagnostics.specs.Marked.{is_mark, is_calm, Marks, no_more, other, mark, places, IsPlace, ArePlaces, AreMarked}
 
 pub counted : {from to : List Lexeme} {m n : ℕ} → m ≡ n → Marks from m to → Marks from n to

@@ -10,7 +10,7 @@ use Rattle.dioc_terms.specs.declared.faults.Memory.{Memory}
 use Rattle.dioc_terms.specs.Messages.{is_aux, visible}
 use Rattle.dioc_terms.specs.Plain.{PlainBundle, Setting}
 use Rattle.global_steps.specs.Laws.{PlaysGoOn}
-use Rattle.global_steps.specs.Follow.{State, follow, play, play_from, stray, stray_from}
+use Rattle.global_steps.specs.Follow.{State, follow, play_from, stray, stray_from}
 use Rattle.diagnostics.specs.declared.diagnostic.Diagnostic.{Diagnostic}
 use Rattle.diagnostics.specs.declared.traces.Judgement.{Judgement}
 use Rattle.diagnostics.specs.declared.traces.Judgement.TheVariants as judgement

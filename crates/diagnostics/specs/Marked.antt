@@ -1,6 +1,6 @@
 -- The marks of constructs lie at the first tokens of the constructs, in the order of their indices.
 use Rattle.std.specs.Prelude.{◌≡◌, ℕ, suc, ◌+◌, Bool, true, false, List, [], ◌∷◌, ◌++◌, drop}
-use Rattle.aioc_tokens.specs.Lexemes.{Lexeme, sort_of}
+use Rattle.aioc_tokens.specs.Lexemes.{Lexeme}
 use Rattle.dioc_terms.specs.Terms.{Term, constructs}
 use Rattle.dioc_syntax.specs.Choreographies.{Form, Stands, one_part, beside, one_step, last_step, in_turn, nothing, interaction, input, assignment, choice, loop, scope, group, block, no_else, otherwise}
 use Rattle.text_places.specs.Marks.{is_construct, goes_on, sort_at, IsNth, Construct}

@@ -1,5 +1,5 @@
 -- The first line that is told of a fault.
-use Rattle.std.specs.Prelude.{ℕ, List, [], ◌∷◌, ◌++◌, codes, decimal}
+use Rattle.std.specs.Prelude.{ℕ, List, ◌++◌, codes, decimal}
 use Rattle.text_places.specs.declared.positions.Position.{Position}
 
 -- FILE:LINE:COLUMN: error: MESSAGE

@@ -1,5 +1,3 @@
-use Rattle.std.proofs.Common.{◌∙◌, ap}
-use Rattle.dioc_terms.specs.declared.faults.SyntaxFault.TheVariants as fault
 use Rattle.diagnostics.specs.Verdicts.{IsSound}
 use Rattle.diagnostics.proofs.Sound.{spells_none, syntax_tells, holds_anyway}
 use Rattle.diagnostics.proofs.examining.examine.Goals as goal

@@ -1,4 +1,3 @@
-use Rattle.dioc_terms.specs.declared.faults.SyntaxFault.TheVariants as fault
 use Rattle.diagnostics.specs.Traces.{IsReplayed}
 use Rattle.diagnostics.proofs.Sound.{spells_none, sound_of, syntax_tells, holds_anyway, unsound_place}
 use Rattle.diagnostics.proofs.examining.examine_trace.Goals as goal
