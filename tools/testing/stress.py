@@ -185,17 +185,13 @@ class Stress:
         self.library = self.build()
 
     def build(self):
-        library = f"{self.programs.room()}/refuses-in-threads.so"
+        # A library of its own: other kinds are tried at the same time, and each drops its library at its end.
+        library = f"{self.programs.room()}/refuses-in-threads-{os.getpid()}-{id(self)}.so"
         if shutil.which("cc") is None:
             return None
-        if not os.path.exists(library):
-            mine = f"{library}.{os.getpid()}.{id(self)}"
-            made_it = subprocess.run(["cc", "-shared", "-fPIC", "-O1", "-o", mine, "-x", "c", "-", "-ldl"], input=REFUSES, text=True,
-                                     check=False, stderr=subprocess.DEVNULL)
-            if made_it.returncode:
-                return None
-            os.rename(mine, library)
-        return library
+        made_it = subprocess.run(["cc", "-shared", "-fPIC", "-O1", "-o", library, "-x", "c", "-", "-ldl"], input=REFUSES, text=True,
+                                 check=False, stderr=subprocess.DEVNULL)
+        return None if made_it.returncode else library
 
     def leave(self):
         """Drops the library, which no command needs that repeats a call."""
@@ -238,13 +234,15 @@ class Stress:
 def of_kind(programs, kind):
     """A few bundles of a kind, on each number of processors."""
     stress = Stress(programs)
-    if kind == "memory" and not stress.library:
-        raise Skipped("cc builds no library on this machine")
-    for number in range(KINDS.index(kind), FEW * len(KINDS), len(KINDS)):
-        run = made(programs, number)
-        for binding in stress.bindings():
-            stress.try_run(run, binding)
-    stress.leave()
+    try:
+        if kind == "memory" and not stress.library:
+            raise Skipped("cc builds no library on this machine")
+        for number in range(KINDS.index(kind), FEW * len(KINDS), len(KINDS)):
+            run = made(programs, number)
+            for binding in stress.bindings():
+                stress.try_run(run, binding)
+    finally:
+        stress.leave()
 
 
 def tests(programs):
