@@ -10,7 +10,11 @@ use Rattle.dioc_terms.specs.Terms as term
 use Rattle.dioc_terms.specs.Terms.{Term, empty, stamped}
 use Rattle.std.proofs.lemmas.Bool.{and_left}
 use Rattle.global_steps.specs.Follow.{BookChoice, Effect, is_doer_due, plays}
+use Rattle.global_steps.specs.Running as runs
 use Rattle.global_steps.specs.Running.{Running, Seq, started, light}
+use Rattle.global_follower.specs.declared.running.Running.{Running as KeptRunning}
+use Rattle.global_follower.specs.declared.running.Running as kept
+use Rattle.global_follower.specs.KeptRunning.{is_skip, running}
 use Rattle.global_follower.proofs.Stills.{light_still, nobody_due}
 
 -- no message is in flight in a part that nobody has begun
@@ -28,6 +32,20 @@ module _ (cast : List Role) (stores : Role → Store) (choices : ScopeHead → B
       → (light G && not (is_doer_due e G)) ≡ false
       → Stuck ≡ plays cast stores choices updates (Seq G H) e
   seq_waits G H is waits = rw (← is, waits) refl
+
+  -- where it is the leaf that plays nothing the second one is played
+  pub seq_goes_on : (K : KeptRunning) (H : Running) → is_skip K ≡ true
+      → under (Seq (running K)) (plays cast stores choices updates H e)
+      ≡ plays cast stores choices updates (Seq (running K) H) e
+  seq_goes_on kept.Skip H is =
+      let due : is_doer_due e runs.Skip ≡ false = none_due e term.Skip in
+      rw due refl
+  seq_goes_on (kept.Still part) H is = cc
+  seq_goes_on (kept.Seq' _ F _ G) H is = cc
+  seq_goes_on (kept.Par' _ F _ G) H is = cc
+  seq_goes_on (kept.Fly f) H is = cc
+  seq_goes_on (kept.Bar' scope _ G) H is = cc
+  seq_goes_on (kept.Again' turn _ G) H is = cc
 
   -- the same of a sequence that nobody has begun
   pub waits : (n level : ℕ) (I J : Term)

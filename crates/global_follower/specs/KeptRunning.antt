@@ -1,4 +1,5 @@
 -- The running term that a program's value stands for.
+use Rattle.std.specs.Prelude.{Bool, true, false}
 use Rattle.dioc_terms.specs.declared.choreographies.Choreo.{Choreo}
 use Rattle.dioc_terms.specs.Expressions.{expression}
 use Rattle.dioc_terms.specs.Terms.{Term, term, stamped, is_in}
@@ -30,3 +31,7 @@ running (kept.Fly f) = flying f
 running (kept.Bar' scope _ G) = Bar (λ q. is_in q (part_term scope)) (running G)
 running (kept.Again' turn _ G) =
     Again turn.index turn.leader.now (expression turn.guard.now) (part_term turn.body) (running G)
+
+abbrev pub is_skip : KeptRunning → Bool
+is_skip kept.Skip = true
+is_skip _ = false

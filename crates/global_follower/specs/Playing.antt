@@ -26,11 +26,12 @@ plays_in rules scene G =
     (stores_of scene.stores.now head.leader))
     scene.updates G scene.entry.now
 
--- nothing is done, or the effect and what is left
-abbrev pub attempt_with : Option KeptEffect → Running → Attempt Effect Running
-attempt_with None G = Stuck
-attempt_with (Some effect) G = Does (effect_of effect) G
+-- the effect and what is left where the entry is played
+abbrev pub attempt_if : Bool → KeptEffect → Running → Attempt Effect Running
+attempt_if false effect G = Stuck
+attempt_if true effect G = Does (effect_of effect) G
 
+-- nothing is done, or the effect and what is left
 abbrev pub attempt_of : Option Played → Attempt Effect Running
 attempt_of None = Stuck
 attempt_of (Some played) = Does (effect_of played.effect) (running played.left)

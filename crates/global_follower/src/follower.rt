@@ -3,6 +3,7 @@
 ghost use Rattle.std.specs.Prelude.{◌≤◌};
 
 use crate::books::PlainBook;
+use crate::effects::Effect;
 use crate::plays::{Scene, play};
 use crate::rules::RuleList;
 use crate::running::{Marks, Running, is_ended};
@@ -117,15 +118,14 @@ impl<'a> Follower<'a> {
             updates: self.updates,
             entry,
         };
-        match play(alloc, &mut self.running, self.rules, &scene)? {
-            None => Err(FollowFault::Stray),
-            Some(effect) => {
-                self.stores.affect(role, effect);
-                self.updates = updates_after(entry, self.updates);
-                self.entries += 1;
-                Ok(())
-            }
+        let mut effect = Effect::Leaves;
+        if !play(alloc, &mut self.running, self.rules, &scene, &mut effect)? {
+            return Err(FollowFault::Stray);
         }
+        self.stores.affect(role, effect);
+        self.updates = updates_after(entry, self.updates);
+        self.entries += 1;
+        Ok(())
     }
 
     /// Follows the script's next change, which may stand once its stated number of entries is

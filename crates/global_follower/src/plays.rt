@@ -1,13 +1,13 @@
 //! How an entry is played by what is left of a choreography.
 
-ghost use Rattle.std.specs.Prelude.{◌≡◌, ◌&&◌, not, true, None, Some, IfOk, OnErr};
+ghost use Rattle.std.specs.Prelude.{◌≡◌, ◌&&◌, not, true, false, None, Some, IfOk, OnErr};
 ghost use Rattle.dioc_terms.specs.Attempts.{under};
 ghost use Rattle.dioc_terms.specs.Expressions.{expression};
 ghost use Rattle.dioc_terms.specs.Terms.{term, roles_in, is_in};
 ghost use Rattle.global_follower.specs.declared.effects.Effect.TheVariants as effects;
 ghost use Rattle.global_follower.specs.KeptBooks.{rules_of};
 ghost use Rattle.global_follower.specs.KeptRunning.{flying, marked, part_term, running};
-ghost use Rattle.global_follower.specs.Playing.{attempt_of, attempt_with, beside, is_branching, is_whole, plays_alone, plays_in, plays_itself};
+ghost use Rattle.global_follower.specs.Playing.{attempt_if, attempt_of, beside, is_branching, is_whole, plays_alone, plays_in, plays_itself};
 ghost use Rattle.global_steps.specs.Follow.{is_doer_due};
 ghost use Rattle.global_steps.specs.Running.{light, started};
 ghost use Rattle.global_steps.specs.Running as runs;
@@ -16,7 +16,7 @@ use crate::books::PlainBook;
 use crate::effects::Effect;
 use crate::rules::RuleList;
 use crate::running::{
-    Flight, Loop, Marks, Message, Part, Running, is_doer_due, is_empty, is_ended, is_light,
+    Flight, Loop, Marks, Message, Part, Running, is_doer_due, is_empty, is_ended, is_light, is_skip,
 };
 use crate::scopes::play_scope;
 use crate::shown::{input_value, is_take, picked, put_value, set_value};
@@ -54,67 +54,88 @@ pub(crate) enum Stand {
     Right,
 }
 
-/// Plays the entry, where what is left plays it. Otherwise, and after want of memory, what is left
-/// stays as it was.
-#[tactic(auto, using(crate::proofs::PlayLemmas::seq_waits))]
+/// Plays the entry, where what is left plays it, and says whether it does: then `effect` is what
+/// the entry does. Otherwise, and after want of memory, what is left stays as it was.
+#[tactic(auto, using(crate::proofs::PlayLemmas::seq_waits, crate::proofs::PlayLemmas::seq_goes_on))]
 pub(crate) fn play<'a>(
     alloc: Global,
     left: &mut Running<'a>,
     rules: RuleList<'a>,
     scene: &Scene<'_>,
-) -> Result<Option<Effect>, Memory>
-    ensures played { IfOk result (λ effect. attempt_with effect (running left.new)
+    effect: &mut Effect,
+) -> Result<bool, Memory>
+    ensures played { IfOk result (λ is_played. attempt_if is_played effect.new (running left.new)
         ≡ plays_in (rules_of rules.entry) scene.now (running left.old)) }
-    ensures stays { IfOk result (λ effect. effect ≡ None → running left.new ≡ running left.old) }
+    ensures stays { IfOk result (λ is_played. is_played ≡ false
+        → running left.new ≡ running left.old) }
     ensures same { OnErr result (running left.new ≡ running left.old) }
 {
-    if plays_itself(left) {
-        return play_here(alloc, left, rules, scene);
-    }
     match left {
+        Running::Skip => Ok(false),
+        Running::Still(_) | Running::Fly(_) => play_here(alloc, left, rules, scene, effect),
         Running::Seq(first, _) => {
             let first: &mut Running<'a> = first;
-            if let Some(effect) = play(alloc, first, rules, scene)? {
-                return Ok(Some(effect));
-            }
-            if !lets_on(first, scene.entry) {
-                return Ok(None);
+            if !is_skip(first) {
+                if play(alloc, first, rules, scene, effect)? {
+                    return Ok(true);
+                }
+                if !lets_on(first, scene.entry) {
+                    return Ok(false);
+                }
             }
             match left {
-                Running::Seq(_, second) => play(alloc, second, rules, scene),
+                Running::Seq(_, second) => play(alloc, second, rules, scene, effect),
                 _ => unreachable!(),
             }
         }
         Running::Par(one, _) => {
-            if let Some(effect) = play(alloc, one, rules, scene)? {
-                return Ok(Some(effect));
+            if play(alloc, one, rules, scene, effect)? {
+                return Ok(true);
             }
             match left {
-                Running::Par(_, other) => play(alloc, other, rules, scene),
+                Running::Par(_, other) => play(alloc, other, rules, scene, effect),
                 _ => unreachable!(),
             }
         }
-        Running::Bar(_, inside) => play(alloc, inside, rules, scene),
-        Running::Again(_, inside) => play(alloc, inside, rules, scene),
-        _ => unreachable!(),
+        Running::Bar(_, inside) => play(alloc, inside, rules, scene, effect),
+        Running::Again(_, inside) => {
+            let inside: &mut Running<'a> = inside;
+            if play(alloc, inside, rules, scene, effect)? {
+                return Ok(true);
+            }
+            if !is_ended(inside) {
+                return Ok(false);
+            }
+            play_here(alloc, left, rules, scene, effect)
+        }
     }
 }
 
-/// Plays the entry where what is left plays it itself, as `play` does.
+/// Plays the entry where a leaf, or a loop whose turn has ended, plays it, as `play` does. It stays
+/// out of `play`, whose frame would grow with it at each level.
+#[inline(never)]
 fn play_here<'a>(
     alloc: Global,
     left: &mut Running<'a>,
     rules: RuleList<'a>,
     scene: &Scene<'_>,
-) -> Result<Option<Effect>, Memory>
+    effect: &mut Effect,
+) -> Result<bool, Memory>
     requires { plays_itself left.old ≡ true }
-    ensures played { IfOk result (λ effect. attempt_with effect (running left.new)
+    ensures played { IfOk result (λ is_played. attempt_if is_played effect.new (running left.new)
         ≡ plays_in (rules_of rules.entry) scene.now (running left.old)) }
-    ensures stays { IfOk result (λ effect. effect ≡ None → running left.new ≡ running left.old) }
+    ensures stays { IfOk result (λ is_played. is_played ≡ false
+        → running left.new ≡ running left.old) }
     ensures same { OnErr result (running left.new ≡ running left.old) }
 {
-    let played = play_whole(alloc, left, rules, scene)?;
-    Ok(replace(left, played))
+    match play_whole(alloc, left, rules, scene)? {
+        None => Ok(false),
+        Some(played) => {
+            *left = played.left;
+            *effect = played.effect;
+            Ok(true)
+        }
+    }
 }
 
 /// Whether the entry may be played after this part: nothing is left of it but messages in flight,
@@ -124,32 +145,6 @@ fn lets_on(first: &Running<'_>, entry: &Entry) -> bool
         (running first.now))) }
 {
     is_light(first) && !is_doer_due(entry, first)
-}
-
-/// Whether it plays an entry itself, and no part of it does: it is a leaf, or a loop whose turn has
-/// ended.
-fn plays_itself(left: &Running<'_>) -> bool
-    ensures { result ≡ plays_itself left.now }
-{
-    match left {
-        Running::Seq(..) | Running::Par(..) | Running::Bar(..) => false,
-        Running::Again(_, inside) => is_ended(inside),
-        Running::Skip | Running::Still(_) | Running::Fly(_) => true,
-    }
-}
-
-/// Puts what is left in the place of what was there.
-fn replace<'a>(left: &mut Running<'a>, played: Option<Played<'a>>) -> Option<Effect>
-    ensures played { attempt_with result (running left.new) ≡ attempt_of played.entry }
-    ensures stays { result ≡ None → running left.new ≡ running left.old }
-{
-    match played {
-        None => None,
-        Some(Played { effect, left: next }) => {
-            *left = next;
-            Some(effect)
-        }
-    }
 }
 
 /// How a leaf, or a loop whose turn has ended, plays the entry.

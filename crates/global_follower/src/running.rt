@@ -2,7 +2,7 @@
 
 ghost use Rattle.std.specs.Prelude.{◌≡◌};
 ghost use Rattle.dioc_terms.specs.Terms.{at_epoch, empty, term};
-ghost use Rattle.global_follower.specs.KeptRunning.{marked, part_term, running};
+ghost use Rattle.global_follower.specs.KeptRunning.{is_skip, marked, part_term, running};
 ghost use Rattle.global_steps.specs.Follow.{is_doer_due};
 ghost use Rattle.global_steps.specs.Running.{started, ended, light, is_due};
 
@@ -97,6 +97,16 @@ pub(crate) enum Running<'a> {
     Bar(Part<'a>, Box<Running<'a>>),
     /// A loop, and what the body of this turn has become.
     Again(Loop<'a>, Box<Running<'a>>),
+}
+
+/// Whether it is the leaf that plays nothing.
+pub(crate) fn is_skip(left: &Running<'_>) -> bool
+    ensures { result ≡ is_skip left.now }
+{
+    match left {
+        Running::Skip => true,
+        _ => false,
+    }
 }
 
 /// Whether nothing is left to play.

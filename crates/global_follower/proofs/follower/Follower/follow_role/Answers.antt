@@ -6,19 +6,19 @@ use Rattle.global_follower.specs.KeptStores.{stores_of}
 use Rattle.global_follower.proofs.FollowLemmas.{role_played, role_stray}
 use Rattle.global_follower.proofs.follower.Follower.follow_role.Goals as goal
 
-pub returns-in-None-clause-stray : goal.returns-in-None-clause-stray
-returns-in-None-clause-stray c = λ stray.
+pub returns-then-not-branch-clause-stray : goal.returns-then-not-branch-clause-stray
+returns-then-not-branch-clause-stray c = λ stray.
     let old = c.args.self.now in
     role_stray (setting_of old) (state_of old) c.args.role.now c.args.entry.now
     (stores_of c.make_ready.new.self) c.in_ok-make_ready.ensures.same
-    (rw (c.in-None.is, c.as_slice.ensures) at c.in_ok-play.ensures.played)
+    (rw (c.if-not-branch.true, c.as_slice.ensures) at c.in_ok-play.ensures.played)
 
-pub returns-in-Some-clause-followed : goal.returns-in-Some-clause-followed
-returns-in-Some-clause-followed c =
+pub returns-clause-followed : goal.returns-clause-followed
+returns-clause-followed c =
     let old = c.args.self.now in
     role_played (setting_of old) (state_of old) c.args.role.now c.args.entry.now
-    (stores_of c.make_ready.new.self) (stores_of c.affect.new.self) (effect_of c.in-Some.effect)
+    (stores_of c.make_ready.new.self) (stores_of c.affect.new.self) (effect_of c.play.new.effect)
     (running c.play.new.left) c.updates_after-self.result (old.entries + 1)
     c.in_ok-make_ready.ensures.same
-    (rw (c.in-Some.is, c.as_slice.ensures) at c.in_ok-play.ensures.played)
+    (rw (c.if-not-branch.false, c.as_slice.ensures) at c.in_ok-play.ensures.played)
     c.affect.ensures c.updates_after-self.ensures (add-one old.entries)
