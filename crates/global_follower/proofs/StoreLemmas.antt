@@ -43,6 +43,16 @@ module _ (old new : Role → Option KeptStore) (r : Role) (s : KeptStore) (write
         at q true same = is ∙ ap (λ p. store_at (old p)) ((role_eq-decides r q).0 same)
         at q false same = refl
 
+-- a store that stays as it is changes nothing
+pub unaffected : (r : Role) (stores : Role → Store)
+    → ◌≡◌ {A = Role → Store} stores (updated r (stores r) stores)
+unaffected r stores j = λ q. by q (role_eq q r) refl j
+  where
+    by : (q : Role) (t : Bool) → role_eq q r ≡ t
+        → stores q ≡ (if t then stores r else stores q)
+    by q true same = ap stores ((role_eq-decides q r).0 same)
+    by q false same = refl
+
 -- whether inputs are given for the role
 abbrev pub has_inputs : List (Role × List Value) → Role → Bool
 has_inputs given q = list_any (λ (pair : Role × List Value). role_eq pair.0 q) given

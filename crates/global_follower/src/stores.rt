@@ -1,7 +1,7 @@
 //! The stores of all roles.
 
-ghost use Rattle.std.specs.Prelude.{◌≡◌, ◌<◌, ◌++◌, [], IfOk, OnOk};
-ghost use Rattle.indexmap.specs.IndexMap.{ContainsKey};
+ghost use Rattle.std.specs.Prelude.{◌≡◌, ◌<◌, ◌++◌, [], None, IfOk, OnOk};
+ghost use Rattle.indexmap.specs.IndexMap.{get};
 ghost use Rattle.dioc_terms.specs.Equality.{role_eq};
 ghost use Rattle.dioc_terms.specs.KeptStores.{room, store_of};
 ghost use Rattle.dioc_terms.specs.Stores.{fresh_store};
@@ -60,16 +60,22 @@ impl Stores {
         ensures same { stores_of self.new ≡ stores_of self.old }
         ensures ready { OnOk result (HasRoomFor role.now self.new) }
     {
-        make_place(alloc, &mut self.stores, role)?;
-        make_room(&mut self.stores, role)
+        match self.stores.get_mut(role) {
+            Some(store) => store.reserve(1),
+            None => open_place(alloc, &mut self.stores, role),
+        }
     }
 
     /// Does to the store of the role what an entry does to it. It takes no memory.
+    #[tactic(auto, using(crate::proofs::StoreLemmas::unaffected))]
     pub(crate) fn affect(&mut self, role: &Role, effect: Effect)
         requires { HasRoomFor role.now self.old }
         ensures { stores_of self.new ≡ updated role.now
             (affected (effect_of effect) (stores_of self.old role.now)) (stores_of self.old) }
     {
+        if let Effect::Leaves = effect {
+            return;
+        }
         if let Some(store) = self.stores.get_mut(role) {
             affect(store, effect);
         }
@@ -94,29 +100,16 @@ fn open_role(
     Ok(())
 }
 
-/// Gives the role a place, where it has none.
-fn make_place(alloc: Global, stores: &mut IndexMap<Role, Store>, role: &Role) -> Result<(), Memory>
-    ensures same { stores_in stores.new ≡ stores_in stores.old }
-    ensures there { OnOk result (ContainsKey role_eq stores.new role.now) }
-{
-    if stores.contains_key(role) {
-        return Ok(());
-    }
-    let empty = Store::new(alloc, Items::new(Vec::new(alloc)));
-    stores.insert(role.copy(alloc)?, empty)?;
-    Ok(())
-}
-
-/// Makes room for one more variable in the store of the role.
-fn make_room(stores: &mut IndexMap<Role, Store>, role: &Role) -> Result<(), Memory>
-    requires { ContainsKey role_eq stores.old role.now }
+/// Gives the role, which has no place, one with room for one more variable.
+fn open_place(alloc: Global, stores: &mut IndexMap<Role, Store>, role: &Role) -> Result<(), Memory>
+    requires { get role_eq stores.old role.now ≡ None }
     ensures same { stores_in stores.new ≡ stores_in stores.old }
     ensures ready { OnOk result (IsReadyAt role.now stores.new) }
 {
-    match stores.get_mut(role) {
-        Some(store) => store.reserve(1),
-        None => unreachable!(),
-    }
+    let mut empty = Store::new(alloc, Items::new(Vec::new(alloc)));
+    empty.reserve(1)?;
+    stores.insert(role.copy(alloc)?, empty)?;
+    Ok(())
 }
 
 /// The store of a role before the first entry.
