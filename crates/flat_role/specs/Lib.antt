@@ -5,5 +5,4 @@ pub mod LivePlaces
 pub mod OpenedPlaces
 pub mod Plays
 pub mod ReadyParts
-pub mod ShownParts
 pub mod Stances

@@ -77,12 +77,19 @@ pub(crate) fn growth_at(
         (part_process (processes code.now.code.ops.items) part.entry)) }
 {
     match part {
-        Part::At(place) => growth_of(alloc, me, value, code, place),
+        Part::At(place) => match code.op_at(place) {
+            Op::Send { .. } | Op::Recv { .. } | Op::Assign { .. } | Op::Read { .. } => {
+                Ok(Growth::Certain(Frame::Ended))
+            }
+            _ => growth_of(alloc, me, value, code, place),
+        },
         Part::Telling(_) | Part::Gathering(_) => Ok(Growth::Rest),
     }
 }
 
 /// What is made ready of the op at a place.
+// (Apart, since most ops grow to nothing, and need no room for what others grow to.)
+#[inline(never)]
 #[tactic(auto, using(crate::proofs::FrameLemmas::at_placed, crate::proofs::FrameLemmas::placed_at))]
 fn growth_of(
     alloc: Global,

@@ -1,7 +1,8 @@
 //! What frames offer, what they are to an act, and the part of them that does it.
 
 ghost use Rattle.std.specs.Prelude.{◌≡◌, ◌<◌, ◌++◌, ◌||◌, true, IfOk, IfSome, OnOk, length, option_map};
-ghost use Rattle.std.specs.Option.{is_some, option_to_list};
+ghost use Rattle.std.specs.Option.{is_some};
+ghost use Rattle.dioc_terms.specs.Processes.{process};
 ghost use Rattle.dpoc_process.specs.Acting.{acting};
 ghost use Rattle.flat_code.specs.Places.{at, processes};
 ghost use Rattle.flat_role.specs.Frames.{frame_process, is_open, is_placed, leaves_nothing, marked_over};
@@ -11,13 +12,10 @@ ghost use Rattle.process_steps.specs.Steps.{ended, offers};
 
 use crate::frames::Frame;
 use crate::live_code::LiveCode;
-use crate::parts::does;
+use crate::parts::{add_gathered, add_told, does};
 use crate::places::{Stance, add_offers_at, beside, stance_at, stance_of};
-use dioc_terms::{Act, Key, Memory, Messages, Role};
-use dpoc_process::offered::{
-    find as find_in, gathers, is_ended as has_ended, offer_of_gather, offer_of_tell, offers_of,
-    tells,
-};
+use dioc_terms::{Act, Key, Memory, Messages, Proc, Role};
+use dpoc_process::offered::{find as find_in, gathers, is_ended as has_ended, offers_of, tells};
 use std::alloc::Global;
 
 /// The part of a role that does an act.
@@ -52,15 +50,15 @@ pub(crate) fn add_offers(
         Frame::At(place) => add_offers_at(alloc, me, code, *place, acts),
         Frame::Past(_, _, live) => add_offers(alloc, me, code, live, acts),
         Frame::Telling(messages) => {
-            add_act(offer_of_tell(alloc, me, messages)?, acts)?;
+            add_told(alloc, me, messages, acts)?;
             Ok(matches!(**messages, Messages::Nothing))
         }
         Frame::Gathering(keys) => {
-            add_act(offer_of_gather(alloc, me, keys.as_slice())?, acts)?;
+            add_gathered(alloc, me, keys.as_slice(), acts)?;
             Ok(keys.is_empty())
         }
         Frame::Arrived(proc) => {
-            add_acts(offers_of(alloc, me, proc)?, acts)?;
+            add_arrived(alloc, me, proc, acts)?;
             Ok(has_ended(proc))
         }
         Frame::Seq(first_over, first, second) => {
@@ -88,21 +86,14 @@ pub(crate) fn add_offers(
     }
 }
 
-/// Adds these acts.
-fn add_acts(mut more: Vec<Act>, acts: &mut Vec<Act>) -> Result<(), Memory>
-    ensures { OnOk result (acts.new.items ≡ acts.old.items ++ more.items) }
+/// Adds the acts that a part offers that isn't in the code yet.
+// (Apart, as what adds the act of an op, since the walk would make room for acts at each frame.)
+#[inline(never)]
+fn add_arrived(alloc: Global, me: &Role, proc: &Proc, acts: &mut Vec<Act>) -> Result<(), Memory>
+    ensures { OnOk result (acts.new.items ≡ acts.old.items ++ offers me.now (process proc.now)) }
 {
+    let mut more = offers_of(alloc, me, proc)?;
     acts.append(&mut more)?;
-    Ok(())
-}
-
-/// Adds an act, where there is one.
-fn add_act(offer: Option<Act>, acts: &mut Vec<Act>) -> Result<(), Memory>
-    ensures { OnOk result (acts.new.items ≡ acts.old.items ++ option_to_list offer) }
-{
-    if let Some(act) = offer {
-        acts.push(act)?;
-    }
     Ok(())
 }
 

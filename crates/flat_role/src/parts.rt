@@ -1,30 +1,26 @@
-//! What one op of the code offers, needs, shows and writes.
+//! What one op of the code offers, needs and writes.
 
-ghost use Rattle.std.specs.Prelude.{◌≡◌, ◌++◌, List, true, IfOk, OnOk, option_map};
-ghost use Rattle.std.specs.Option.{option_to_list};
+ghost use Rattle.std.specs.Prelude.{◌≡◌, ◌++◌, ◌∷◌, [], List, true, IfOk, OnOk};
+ghost use Rattle.dioc_terms.specs.declared.entries.Act.TheVariants as act;
+ghost use Rattle.dioc_terms.specs.declared.processes.Tag.TheVariants as tags;
 ghost use Rattle.dioc_terms.specs.KeptStores.{store_of};
-ghost use Rattle.dioc_terms.specs.Processes.{Process, load};
-ghost use Rattle.dpoc_process.specs.Acting.{lead_of, lead_head};
-ghost use Rattle.dpoc_process.specs.Growth.{value_at, write_at, entry_at, load_at};
+ghost use Rattle.dioc_terms.specs.Processes.{Process, Gather, Tell, letters};
+ghost use Rattle.dpoc_process.specs.Growth.{value_at, write_at};
 ghost use Rattle.dpoc_process.specs.KeptGrowth.{write_of};
 ghost use Rattle.flat_code.specs.Places.{op_process};
 ghost use Rattle.flat_role.specs.Growths.{is_single_op};
-ghost use Rattle.process_steps.specs.Steps.{is_offered, offers};
+ghost use Rattle.process_steps.specs.Steps.{is_offered, key, offers};
 
-use dioc_terms::{Act, Entry, Memory, Payload, Role, ScopeHead, Store, Tag, Value, eval};
-use dpoc_process::growth::{Write, is_true};
+use dioc_terms::{Act, Index, Key, Memory, Messages, Name, Role, Store, Tag, Value, eval};
+use dpoc_process::growth::Write;
 use dpoc_process::offered::{
-    chooses, gathers, key_of, offer_of_gather, offer_of_take, offer_of_tell, operation, picks,
-    reads, receives, sends, sets, takes, tells,
-};
-use dpoc_process::prepared::{
-    gather_entry, input_entry, keep_entry, payload_of_tell, pick_entry, put_entry, set_entry,
-    take_entry, tell_entry,
+    chooses, gathers, key_of, operation, picks, reads, receives, sends, sets, takes, tells,
 };
 use flat_code::Op;
 use std::alloc::Global;
 
 /// Adds the act of an op, where it offers one.
+// (What makes a key stands apart: each arm would make room for its own at every op.)
 pub(crate) fn add_offer(
     alloc: Global,
     me: &Role,
@@ -35,49 +31,106 @@ pub(crate) fn add_offer(
     ensures { OnOk result ((done : List Process) → acts.new.items
         ≡ acts.old.items ++ offers me.now (op_process done op.now)) }
 {
-    if let Some(act) = offer(alloc, me, op)? {
-        acts.push(act)?;
-    }
-    Ok(())
-}
-
-/// The act that an op offers.
-fn offer(alloc: Global, me: &Role, op: &Op) -> Result<Option<Act>, Memory>
-    requires { is_single_op op.now ≡ true }
-    ensures { IfOk result (λ offer. (done : List Process) →
-        option_to_list offer ≡ offers me.now (op_process done op.now)) }
-{
     match op {
-        Op::Assign { index, .. } => Ok(Some(Act::Set(*index))),
-        Op::Read { index, .. } => Ok(Some(Act::Input(*index))),
-        Op::IfLead { index, .. } | Op::WhileLead { index, .. } => Ok(Some(Act::Pick(*index))),
-        Op::ScopeLead { head, .. } => Ok(Some(Act::Scope(head.index))),
-        Op::Send { index, op, to, .. } => {
-            let key = operation(alloc, me, to, *index, op)?;
-            Ok(Some(Act::Put(key)))
+        Op::Assign { index, .. } => add_act(Act::Set(*index), acts),
+        Op::Read { index, .. } => add_act(Act::Input(*index), acts),
+        Op::IfLead { index, .. } | Op::WhileLead { index, .. } => {
+            add_act(Act::Pick(*index), acts)
         }
+        Op::ScopeLead { head, .. } => add_act(Act::Scope(head.index), acts),
+        Op::Send { index, op, to, .. } => add_put(alloc, me, to, *index, op, acts),
         Op::Recv {
             index,
             op,
             from,
             ..
-        } => {
-            let key = operation(alloc, from, me, *index, op)?;
-            Ok(Some(Act::Take(key)))
-        }
+        } => add_take(alloc, from, me, *index, Tag::Op(op.copy(alloc)?), acts),
         Op::IfFollow { index, leader, .. } => {
-            offer_of_take(alloc, leader, me, *index, Tag::Choice)
+            add_take(alloc, leader, me, *index, Tag::Choice, acts)
         }
         Op::WhileFollow { index, leader, .. } => {
-            offer_of_take(alloc, leader, me, *index, Tag::Go)
+            add_take(alloc, leader, me, *index, Tag::Go, acts)
         }
         Op::ScopeFollow { index, leader, .. } => {
-            offer_of_take(alloc, leader, me, *index, Tag::Begin)
+            add_take(alloc, leader, me, *index, Tag::Begin, acts)
         }
-        Op::Tell { messages } => offer_of_tell(alloc, me, messages),
-        Op::Gather { keys } => offer_of_gather(alloc, me, keys.as_slice()),
-        _ => Ok(None),
+        Op::Tell { messages } => add_told(alloc, me, messages, acts),
+        Op::Gather { keys } => add_gathered(alloc, me, keys.as_slice(), acts),
+        _ => Ok(()),
     }
+}
+
+/// Adds an act.
+fn add_act(act: Act, acts: &mut Vec<Act>) -> Result<(), Memory>
+    ensures { OnOk result (acts.new.items ≡ acts.old.items ++ act ∷ []) }
+{
+    acts.push(act)?;
+    Ok(())
+}
+
+/// Adds the act that sends the message of an operation.
+fn add_put(
+    alloc: Global,
+    me: &Role,
+    to: &Role,
+    index: Index,
+    op: &Name,
+    acts: &mut Vec<Act>,
+) -> Result<(), Memory>
+    ensures { OnOk result (acts.new.items ≡ acts.old.items
+        ++ act.Put (key me.now to.now index (tags.Op op.now)) ∷ []) }
+{
+    acts.push(Act::Put(operation(alloc, me, to, index, op)?))?;
+    Ok(())
+}
+
+/// Adds the act that takes the message of this tag.
+fn add_take(
+    alloc: Global,
+    from: &Role,
+    me: &Role,
+    index: Index,
+    tag: Tag,
+    acts: &mut Vec<Act>,
+) -> Result<(), Memory>
+    ensures { OnOk result (acts.new.items ≡ acts.old.items
+        ++ act.Take (key from.now me.now index tag) ∷ []) }
+{
+    acts.push(Act::Take(key_of(alloc, from, me, index, tag)?))?;
+    Ok(())
+}
+
+/// Adds the act that sends the first of these messages.
+#[inline(never)]
+pub(crate) fn add_told(
+    alloc: Global,
+    me: &Role,
+    messages: &Messages,
+    acts: &mut Vec<Act>,
+) -> Result<(), Memory>
+    ensures { OnOk result (acts.new.items
+        ≡ acts.old.items ++ offers me.now (Tell (letters messages.now))) }
+{
+    if let Messages::More(key, _, _) = messages {
+        acts.push(Act::Put(key.copy(alloc)?))?;
+    }
+    Ok(())
+}
+
+/// Adds the act that takes the message of the first of these keys.
+#[inline(never)]
+pub(crate) fn add_gathered(
+    alloc: Global,
+    me: &Role,
+    keys: &[Key],
+    acts: &mut Vec<Act>,
+) -> Result<(), Memory>
+    ensures { OnOk result (acts.new.items ≡ acts.old.items ++ offers me.now (Gather keys.now)) }
+{
+    if let [key, ..] = keys {
+        acts.push(Act::Take(key.copy(alloc)?))?;
+    }
+    Ok(())
 }
 
 /// Whether an op offers the act.
@@ -130,68 +183,5 @@ pub(crate) fn write_of(alloc: Global, value: &Value, op: &Op) -> Result<Write, M
         Op::Assign { var, .. } => Ok(Write::Sets(var.copy(alloc)?, value.copy(alloc)?)),
         Op::Read { var, .. } => Ok(Write::Reads(var.copy(alloc)?)),
         _ => Ok(Write::Nothing),
-    }
-}
-
-/// What is known of the entry: all of it, but for a scope, whose choice isn't known yet.
-pub(crate) fn entry_of(
-    alloc: Global,
-    me: &Role,
-    value: &Value,
-    op: &Op,
-) -> Result<Option<Entry>, Memory>
-    ensures { IfOk result (λ entry. (done : List Process) →
-        entry ≡ entry_at me.now value.now (op_process done op.now)) }
-{
-    match op {
-        Op::Send { index, op, to, .. } => {
-            put_entry(alloc, operation(alloc, me, to, *index, op)?, value)
-        }
-        Op::Recv {
-            index,
-            op,
-            from,
-            var,
-        } => keep_entry(alloc, operation(alloc, from, me, *index, op)?, var),
-        Op::Assign { index, var, .. } => set_entry(alloc, *index, me, var, value),
-        Op::Read { index, var } => input_entry(alloc, *index, me, var, value),
-        Op::IfLead { index, .. } | Op::WhileLead { index, .. } => {
-            pick_entry(alloc, *index, me, is_true(value))
-        }
-        Op::IfFollow { index, leader, .. } => {
-            take_entry(key_of(alloc, leader, me, *index, Tag::Choice)?)
-        }
-        Op::WhileFollow { index, leader, .. } => {
-            take_entry(key_of(alloc, leader, me, *index, Tag::Go)?)
-        }
-        Op::ScopeFollow { index, leader, .. } => {
-            take_entry(key_of(alloc, leader, me, *index, Tag::Begin)?)
-        }
-        Op::Tell { messages } => tell_entry(alloc, me, value, messages),
-        Op::Gather { keys } => gather_entry(alloc, me, value, keys.as_slice()),
-        _ => Ok(None),
-    }
-}
-
-/// A copy of what the act of an op sends.
-pub(crate) fn payload_of(alloc: Global, value: &Value, op: &Op) -> Result<Option<Payload>, Memory>
-    ensures { IfOk result (λ payload. (done : List Process) →
-        option_map load payload ≡ load_at value.now (op_process done op.now)) }
-{
-    match op {
-        Op::Send { .. } => Ok(Some(Payload::Val(value.copy(alloc)?))),
-        Op::Tell { messages } => payload_of_tell(alloc, value, messages),
-        _ => Ok(None),
-    }
-}
-
-/// What the book sees of the scope that an op begins.
-pub(crate) fn head_of(alloc: Global, op: &Op) -> Result<Option<ScopeHead>, Memory>
-    ensures { IfOk result (λ head. (done : List Process) →
-        head ≡ option_map lead_head (lead_of (op_process done op.now))) }
-{
-    match op {
-        Op::ScopeLead { head, .. } => Ok(Some(head.copy(alloc)?)),
-        _ => Ok(None),
     }
 }

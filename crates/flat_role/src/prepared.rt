@@ -1,32 +1,36 @@
 //! What is shown of an act before it is done.
+//!
+//! What is shown is large. So each kind of op has a function of its own, which makes all at once, and
+//! no other op makes room for it.
 
-ghost use Rattle.std.specs.Prelude.{◌≡◌, ◌<◌, IfOk, length, option_map};
+ghost use Rattle.std.specs.Prelude.{◌≡◌, ◌<◌, List, None, Some, IfOk, length, option_map};
+ghost use Rattle.dioc_terms.specs.declared.entries.Entry.TheVariants as entries;
+ghost use Rattle.dioc_terms.specs.declared.processes.Tag.TheVariants as tags;
 ghost use Rattle.dioc_terms.specs.KeptStores.{store_of};
-ghost use Rattle.dioc_terms.specs.Processes.{load};
-ghost use Rattle.dpoc_process.specs.Acting.{lead_of, lead_head};
-ghost use Rattle.dpoc_process.specs.Growth.{value_at, write_at, entry_at, load_at};
+ghost use Rattle.dioc_terms.specs.Processes.{Process, Gather, Tell, Val, letters, load, noted};
+ghost use Rattle.dioc_terms.specs.Values.{is_true};
+ghost use Rattle.dpoc_process.specs.Growth.{value_at, write_at};
 ghost use Rattle.dpoc_process.specs.KeptGrowth.{write_of};
 ghost use Rattle.dpoc_process.specs.KeptReady.{IsPreparedFor};
-ghost use Rattle.flat_code.specs.Places.{at, processes};
+ghost use Rattle.flat_code.specs.Places.{op_process, processes};
 ghost use Rattle.flat_role.specs.Growths.{IsInside, part_process};
-ghost use Rattle.flat_role.specs.ShownParts.{IsShownOf};
+ghost use Rattle.process_steps.specs.Steps.{key};
 
 use crate::live_code::LiveCode;
 use crate::offered::Part;
-use crate::parts::{entry_of, head_of, payload_of, value_of, write_of};
-use dioc_terms::{Act, Entry, Memory, Payload, Role, ScopeHead, Store, Value, give_up};
+use crate::parts::{value_of, write_of};
+use dioc_terms::{
+    Act, Entry, Index, Key, Memory, Messages, Name, Note, Payload, Role, ScopeHead, Store, Tag,
+    Value,
+};
 use dpoc_process::Prepared;
-use dpoc_process::growth::Write;
-use dpoc_process::prepared::{gather_entry, payload_of_tell, tell_entry};
+use dpoc_process::growth::{Write, is_true};
+use dpoc_process::offered::{key_of, operation};
+use dpoc_process::prepared::{
+    gather_entry, input_entry, payload_of_tell, pick_entry, set_entry, tell_entry,
+};
+use flat_code::Op;
 use std::alloc::Global;
-
-/// What is shown of an act but the act itself.
-#[derive(Drop)]
-pub(crate) struct Shown {
-    pub entry: Option<Entry>,
-    pub head: Option<ScopeHead>,
-    pub payload: Option<Payload>,
-}
 
 /// What is shown of the act that the part does, with the value that it needs.
 pub(crate) fn prepared_at(
@@ -41,83 +45,249 @@ pub(crate) fn prepared_at(
     ensures { IfOk result (IsPreparedFor me.now act.now value.now
         (part_process (processes code.now.code.ops.items) part.entry)) }
 {
-    let act = act.copy(alloc)?;
-    match shown_at(alloc, me, value, code, part) {
-        Ok(
-            Shown {
-                entry,
-                head,
-                payload,
-            },
-        ) => Ok(Prepared {
-            act,
-            entry,
-            head,
-            payload,
-        }),
-        Err(fault) => give_up(act, fault),
-    }
-}
-
-/// What is shown of the part.
-fn shown_at(
-    alloc: Global,
-    me: &Role,
-    value: &Value,
-    code: &LiveCode,
-    part: Part<'_>,
-) -> Result<Shown, Memory>
-    requires { IsInside (length code.now.code.ops.items) part }
-    ensures { IfOk result (IsShownOf me.now value.now
-        (part_process (processes code.now.code.ops.items) part.entry)) }
-{
     match part {
-        Part::At(place) => shown_of(alloc, me, value, code, place),
-        Part::Telling(messages) => {
-            let entry = tell_entry(alloc, me, value, messages)?;
-            match payload_of_tell(alloc, value, messages) {
-                Ok(payload) => Ok(Shown {
-                    entry,
-                    head: None,
-                    payload,
-                }),
-                Err(fault) => give_up(entry, fault),
-            }
-        }
-        Part::Gathering(keys) => Ok(Shown {
-            entry: gather_entry(alloc, me, value, keys)?,
-            head: None,
-            payload: None,
-        }),
+        Part::At(place) => prepared_op(alloc, me, act, value, code.op_at(place)),
+        Part::Telling(messages) => prepared_tell(alloc, me, act, value, messages),
+        Part::Gathering(keys) => prepared_gather(alloc, me, act, value, keys),
     }
 }
 
-/// What is shown of the op at a place.
-fn shown_of(
+/// What is shown of the act that an op does.
+fn prepared_op(
     alloc: Global,
     me: &Role,
+    act: &Act,
     value: &Value,
-    code: &LiveCode,
-    place: usize,
-) -> Result<Shown, Memory>
-    requires { place < length code.now.code.ops.items }
-    ensures { IfOk result (IsShownOf me.now value.now
-        (at (processes code.now.code.ops.items) place)) }
+    op: &Op,
+) -> Result<Prepared, Memory>
+    ensures { IfOk result (λ shown. (done : List Process) →
+        IsPreparedFor me.now act.now value.now (op_process done op.now) shown) }
 {
-    let op = code.op_at(place);
-    let entry = entry_of(alloc, me, value, op)?;
-    let head = match head_of(alloc, op) {
-        Ok(head) => head,
-        Err(fault) => return give_up(entry, fault),
-    };
-    match payload_of(alloc, value, op) {
-        Ok(payload) => Ok(Shown {
-            entry,
-            head,
-            payload,
-        }),
-        Err(fault) => give_up((entry, head), fault),
+    match op {
+        Op::Send { index, op, to, .. } => prepared_send(alloc, me, act, value, to, *index, op),
+        Op::Recv {
+            index,
+            op,
+            from,
+            var,
+        } => prepared_receive(alloc, me, act, from, *index, op, var),
+        Op::Assign { index, var, .. } => prepared_set(alloc, me, act, value, *index, var),
+        Op::Read { index, var } => prepared_input(alloc, me, act, value, *index, var),
+        Op::IfLead { index, .. } | Op::WhileLead { index, .. } => {
+            prepared_pick(alloc, me, act, value, *index)
+        }
+        Op::IfFollow { index, leader, .. } => {
+            prepared_follow(alloc, me, act, leader, *index, Tag::Choice)
+        }
+        Op::WhileFollow { index, leader, .. } => {
+            prepared_follow(alloc, me, act, leader, *index, Tag::Go)
+        }
+        Op::ScopeFollow { index, leader, .. } => {
+            prepared_follow(alloc, me, act, leader, *index, Tag::Begin)
+        }
+        Op::ScopeLead { head, .. } => prepared_scope(alloc, act, head),
+        Op::Tell { messages } => prepared_tell(alloc, me, act, value, messages),
+        Op::Gather { keys } => prepared_gather(alloc, me, act, value, keys.as_slice()),
+        _ => prepared_entry(alloc, act, None),
     }
+}
+
+/// What is shown of an act with this entry, and with neither a head nor a message.
+fn prepared_entry(alloc: Global, act: &Act, entry: Option<Entry>) -> Result<Prepared, Memory>
+    ensures act { IfOk result (λ shown. shown.act ≡ act.now) }
+    ensures entry { IfOk result (λ shown. shown.entry ≡ entry) }
+    ensures head { IfOk result (λ shown. shown.head ≡ None) }
+    ensures payload { IfOk result (λ shown. shown.payload ≡ None) }
+{
+    let act = act.copy(alloc)?;
+    Ok(Prepared {
+        act,
+        entry,
+        head: None,
+        payload: None,
+    })
+}
+
+fn prepared_send(
+    alloc: Global,
+    me: &Role,
+    act: &Act,
+    value: &Value,
+    to: &Role,
+    index: Index,
+    op: &Name,
+) -> Result<Prepared, Memory>
+    ensures act { IfOk result (λ shown. shown.act ≡ act.now) }
+    ensures entry { IfOk result (λ shown. shown.entry
+        ≡ Some (entries.Put (key me.now to.now index (tags.Op op.now)) (noted (Val value.now)))) }
+    ensures head { IfOk result (λ shown. shown.head ≡ None) }
+    ensures payload { IfOk result (λ shown. option_map load shown.payload
+        ≡ Some (Val value.now)) }
+{
+    let key = operation(alloc, me, to, index, op)?;
+    let note = Note::Val(value.copy(alloc)?);
+    let payload = Payload::Val(value.copy(alloc)?);
+    let act = act.copy(alloc)?;
+    Ok(Prepared {
+        act,
+        entry: Some(Entry::Put { key, note }),
+        head: None,
+        payload: Some(payload),
+    })
+}
+
+fn prepared_receive(
+    alloc: Global,
+    me: &Role,
+    act: &Act,
+    from: &Role,
+    index: Index,
+    op: &Name,
+    var: &Name,
+) -> Result<Prepared, Memory>
+    ensures act { IfOk result (λ shown. shown.act ≡ act.now) }
+    ensures entry { IfOk result (λ shown. shown.entry
+        ≡ Some (entries.Take (key from.now me.now index (tags.Op op.now)) (Some var.now))) }
+    ensures head { IfOk result (λ shown. shown.head ≡ None) }
+    ensures payload { IfOk result (λ shown. shown.payload ≡ None) }
+{
+    let key = operation(alloc, from, me, index, op)?;
+    let var = Some(var.copy(alloc)?);
+    let act = act.copy(alloc)?;
+    Ok(Prepared {
+        act,
+        entry: Some(Entry::Take { key, var }),
+        head: None,
+        payload: None,
+    })
+}
+
+fn prepared_set(
+    alloc: Global,
+    me: &Role,
+    act: &Act,
+    value: &Value,
+    index: Index,
+    var: &Name,
+) -> Result<Prepared, Memory>
+    ensures act { IfOk result (λ shown. shown.act ≡ act.now) }
+    ensures entry { IfOk result (λ shown.
+        shown.entry ≡ Some (entries.Set index me.now var.now value.now)) }
+    ensures head { IfOk result (λ shown. shown.head ≡ None) }
+    ensures payload { IfOk result (λ shown. shown.payload ≡ None) }
+{
+    let entry = set_entry(alloc, index, me, var, value)?;
+    prepared_entry(alloc, act, entry)
+}
+
+fn prepared_input(
+    alloc: Global,
+    me: &Role,
+    act: &Act,
+    value: &Value,
+    index: Index,
+    var: &Name,
+) -> Result<Prepared, Memory>
+    ensures act { IfOk result (λ shown. shown.act ≡ act.now) }
+    ensures entry { IfOk result (λ shown.
+        shown.entry ≡ Some (entries.Input index me.now var.now value.now)) }
+    ensures head { IfOk result (λ shown. shown.head ≡ None) }
+    ensures payload { IfOk result (λ shown. shown.payload ≡ None) }
+{
+    let entry = input_entry(alloc, index, me, var, value)?;
+    prepared_entry(alloc, act, entry)
+}
+
+fn prepared_pick(
+    alloc: Global,
+    me: &Role,
+    act: &Act,
+    value: &Value,
+    index: Index,
+) -> Result<Prepared, Memory>
+    ensures act { IfOk result (λ shown. shown.act ≡ act.now) }
+    ensures entry { IfOk result (λ shown.
+        shown.entry ≡ Some (entries.Pick index me.now (is_true value.now))) }
+    ensures head { IfOk result (λ shown. shown.head ≡ None) }
+    ensures payload { IfOk result (λ shown. shown.payload ≡ None) }
+{
+    let entry = pick_entry(alloc, index, me, is_true(value))?;
+    prepared_entry(alloc, act, entry)
+}
+
+/// What is shown of an act by which the role follows what another leads.
+fn prepared_follow(
+    alloc: Global,
+    me: &Role,
+    act: &Act,
+    leader: &Role,
+    index: Index,
+    tag: Tag,
+) -> Result<Prepared, Memory>
+    ensures act { IfOk result (λ shown. shown.act ≡ act.now) }
+    ensures entry { IfOk result (λ shown.
+        shown.entry ≡ Some (entries.Take (key leader.now me.now index tag) None)) }
+    ensures head { IfOk result (λ shown. shown.head ≡ None) }
+    ensures payload { IfOk result (λ shown. shown.payload ≡ None) }
+{
+    let key = key_of(alloc, leader, me, index, tag)?;
+    let act = act.copy(alloc)?;
+    Ok(Prepared {
+        act,
+        entry: Some(Entry::Take { key, var: None }),
+        head: None,
+        payload: None,
+    })
+}
+
+/// What is shown of the act that begins a scope, whose choice isn't known yet.
+fn prepared_scope(alloc: Global, act: &Act, head: &ScopeHead) -> Result<Prepared, Memory>
+    ensures act { IfOk result (λ shown. shown.act ≡ act.now) }
+    ensures entry { IfOk result (λ shown. shown.entry ≡ None) }
+    ensures head { IfOk result (λ shown. shown.head ≡ Some head.now) }
+    ensures payload { IfOk result (λ shown. shown.payload ≡ None) }
+{
+    let head = head.copy(alloc)?;
+    let act = act.copy(alloc)?;
+    Ok(Prepared {
+        act,
+        entry: None,
+        head: Some(head),
+        payload: None,
+    })
+}
+
+fn prepared_tell(
+    alloc: Global,
+    me: &Role,
+    act: &Act,
+    value: &Value,
+    messages: &Messages,
+) -> Result<Prepared, Memory>
+    ensures { IfOk result (IsPreparedFor me.now act.now value.now (Tell (letters messages.now))) }
+{
+    let entry = tell_entry(alloc, me, value, messages)?;
+    let payload = payload_of_tell(alloc, value, messages)?;
+    let act = act.copy(alloc)?;
+    Ok(Prepared {
+        act,
+        entry,
+        head: None,
+        payload,
+    })
+}
+
+fn prepared_gather(
+    alloc: Global,
+    me: &Role,
+    act: &Act,
+    value: &Value,
+    keys: &[Key],
+) -> Result<Prepared, Memory>
+    ensures { IfOk result (IsPreparedFor me.now act.now value.now (Gather keys.now)) }
+{
+    let entry = gather_entry(alloc, me, value, keys)?;
+    prepared_entry(alloc, act, entry)
 }
 
 /// The one value that the part needs of its store.

@@ -8,7 +8,7 @@ use crate::frames::{Frame, is_ended};
 use crate::live_code::LiveCode;
 use crate::offered::{add_offers, can_act};
 use crate::opening::settle;
-use crate::ready::{Ready, advance, clear, keep_ready, make_ready};
+use crate::ready::{Ready, advance, clear, make_ready};
 use dioc_terms::{Act, Memory, Role, Store, give_up};
 use dpoc_process::{Got, PrepareFault, Prepared, Runs};
 use flat_code::Code;
@@ -86,23 +86,23 @@ impl Runs for FlatRole {
 
     fn prepare(&mut self, alloc: Global, act: &Act) -> Result<Prepared, PrepareFault> {
         clear(&mut self.ready);
-        if !can_act(&self.role, act, &self.code, &self.frame) {
+        if is_ended(&self.code, &self.frame) {
             return Err(PrepareFault::NoAct);
         }
-        settle(alloc, &mut self.code, &mut self.frame)?;
-        match make_ready(
-            alloc,
-            &self.role,
-            &self.code,
-            &self.frame,
-            &mut self.store,
-            act,
-        ) {
-            Ok((ready, prepared)) => {
-                keep_ready(&mut self.ready, ready);
-                Ok(prepared)
-            }
-            Err(fault) => Err(fault),
+        match settle(alloc, &mut self.code, &mut self.frame) {
+            Ok(()) => make_ready(
+                alloc,
+                &self.role,
+                &self.code,
+                &self.frame,
+                &mut self.store,
+                act,
+                &mut self.ready,
+            ),
+            Err(_) => match can_act(&self.role, act, &self.code, &self.frame) {
+                true => Err(PrepareFault::Memory),
+                false => Err(PrepareFault::NoAct),
+            },
         }
     }
 
