@@ -1,7 +1,7 @@
 //! What is shown of an act before it is done.
 //!
-//! What is shown is large. So each kind of op has a function of its own, which makes all at once, and
-//! no other op makes room for it.
+//! What is shown is large. So each kind of op has a function of its own, which makes all at once,
+//! and no other op makes room for it.
 
 ghost use Rattle.std.specs.Prelude.{◌≡◌, ◌<◌, List, None, Some, IfOk, length, option_map};
 ghost use Rattle.dioc_terms.specs.declared.entries.Entry.TheVariants as entries;

@@ -89,6 +89,7 @@ impl Runs for FlatRole {
         if is_ended(&self.code, &self.frame) {
             return Err(PrepareFault::NoAct);
         }
+        // (Once the frames are open, whether one offers the act shows as its part is looked for.)
         match settle(alloc, &mut self.code, &mut self.frame) {
             Ok(()) => make_ready(
                 alloc,
