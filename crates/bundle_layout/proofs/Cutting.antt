@@ -1,16 +1,21 @@
 -- Cutting a text into parts: whatever is left completes what was found.
-use Rattle.std.proofs.Common.{◌≡◌, ℕ, suc, ◌+◌, ◌-◌, ◌<◌, ◌≤◌, ◌==◌, cond, not, Bool, true, false, List, [], ◌∷◌, ◌++◌, length, get_or, take, drop, Some, slice_get, refl, ap, sym, ◌∙◌, subst, arith, one-add, append_assoc, append-nil, length-drop, drop-drop, drop_of_length-le, codes}
+use Rattle.std.proofs.Common.{◌≡◌, ℕ, suc, ◌+◌, ◌-◌, ◌<◌, ◌≤◌, ◌==◌, cond, not, Bool, true, false, List, [], ◌∷◌, ◌++◌, length, get_or, take, drop, Option, Some, None, option_map, slice_get, refl, ap, sym, ◌∙◌, subst, arith, one-add, append_assoc, append-nil, length-drop, drop-drop, drop_of_length-le, codes}
 use Rattle.std.specs.List.{All, list_all, prefix_len}
 use Rattle.std.proofs.lemmas.Bool.{and_from}
 use Rattle.std.proofs.lemmas.List.{drop_more, map-append}
 use Rattle.std.proofs.lemmas.List.Elements.{All-nil, All-cons, All-append}
-use Rattle.std.proofs.lemmas.Option.{slice_get_within, get_or_from_slice_get, slice_get-get_or}
+use Rattle.std.proofs.lemmas.Option.{slice_get_within, get_or_from_slice_get, slice_get-get_or, slice_get-map}
+use Rattle.aioc_tokens.specs.declared.kinds.Kind.{Kind}
 use Rattle.aioc_tokens.specs.declared.kinds.Token.{Token}
+use Rattle.aioc_tokens.specs.declared.words.Sort.{Sort}
+use Rattle.aioc_tokens.specs.declared.words.Sort.TheVariants as sorts
+use Rattle.aioc_tokens.specs.Packed.{starts_of, ArePacked}
 use Rattle.aioc_tokens.specs.Tokens.{IsBlank, space, comment, IsLongestToken, BeginsComment, line_length}
 use Rattle.aioc_tokens.specs.Lexing.{Lexes, ended, blank_first, token_first, InOrder}
 use Rattle.aioc_tokens.proofs.Blanks.{same_blank, blank_size}
 use Rattle.aioc_tokens.proofs.Walk.{token_size}
 use Rattle.aioc_tokens.proofs.Order.{lexes_in_order}
+use Rattle.aioc_tokens.proofs.Unique.{same_count}
 use Rattle.bundle_layout.specs.declared.parts.PartKind.{PartKind}
 use Rattle.bundle_layout.specs.declared.parts.PartKind.TheVariants as kinds
 use Rattle.bundle_layout.specs.declared.parts.Part.{Part}
@@ -124,14 +129,26 @@ module _ (text : List ℕ) (tokens : List Token) (next : ℕ) (parts : List Part
         }) (All-nil (LiesIn text)));
       }
 
-  pub token_more : (token : Token) (breaks : ℕ) → slice_get tokens next ≡ Some token → token.start ≡ at
-      → IsCut text tokens (next + 1) (parts ++ record { kind = kinds.Token token.kind; start = at; end = token.end; breaks = breaks } ∷ []) token.end × (at < token.end)
-  token_more token breaks found begins =
+  -- the token that the next one of the list is
+  token_here : (token : Token) → slice_get tokens next ≡ Some token → token.start ≡ at → IsHere at (drop at text) token (drop (next + 1) tokens)
+  token_here token found begins =
       let inside = slice_get_within tokens next token found in
       let is : get_or tokens next token ≡ token = get_or_from_slice_get tokens next token token found in
       let left : drop next tokens ≡ token ∷ drop (next + 1) tokens = drop_more tokens next token inside ∙ ap (λ first. first ∷ drop (next + 1) tokens) is in
-      let shown = here at (drop at text) (drop next tokens) token (drop (next + 1) tokens) cut.lexes left begins in
-      (part_more (kinds.Token token.kind) token.end (next + 1) (record { kind = kinds.Token token.kind; start = at; end = token.end; breaks = breaks }) refl refl refl shown.after shown.longest shown.rest, shown.after)
+      here at (drop at text) (drop next tokens) token (drop (next + 1) tokens) cut.lexes left begins
+
+  token_more : (token : Token) (kind : Kind) (count : ℕ) (sort : Sort) (breaks : ℕ) → slice_get tokens next ≡ Some token → token.start ≡ at → IsLongestToken (drop at text) kind count
+      → IsCut text tokens (next + 1) (parts ++ record { kind = kinds.Token kind; sort = sort; breaks = breaks; start = at; end = at + count } ∷ []) (at + count)
+  token_more token kind count sort breaks found begins longest =
+      let shown = token_here token found begins in
+      let size = (token_size (drop at text) kind count longest).0 in
+      let far : token.end - at ≡ count = same_count (drop at text) token.kind kind (token.end - at) count shown.longest longest in
+      let end_is : token.end ≡ at + count = omega (arith, shown.after) in
+      let near : at + count - at ≡ count = omega arith in
+      let rest = subst (λ count. Lexes token.end (drop count (drop at text)) (drop (next + 1) tokens)) (far ∙ sym near) shown.rest in
+      part_more (kinds.Token kind) (at + count) (next + 1) (record { kind = kinds.Token kind; sort = sort; breaks = breaks; start = at; end = at + count }) refl refl refl (omega (arith, size))
+      (subst (IsLongestToken (drop at text) kind) (sym near) longest)
+      (subst (λ end. Lexes end (drop (at + count - at) (drop at text)) (drop (next + 1) tokens)) end_is rest)
 
   no_token_here : ((token : Token) → slice_get tokens next ≡ Some token → token.start ≡ at → ⊥) → (token : Token) (others : List Token) → drop next tokens ≡ token ∷ others → token.start ≡ at → ⊥
   no_token_here none token others same begins =
@@ -139,8 +156,8 @@ module _ (text : List ℕ) (tokens : List Token) (next : ℕ) (parts : List Part
       let first : get_or tokens next token ≡ token = ap (λ list. get_or list 0 token) (sym (drop_more tokens next token inside) ∙ same) in
       none token (slice_get-get_or tokens next token inside ∙ ap Some first) begins
 
-  pub comment_more : (breaks : ℕ) → ((token : Token) → slice_get tokens next ≡ Some token → token.start ≡ at → ⊥) → at < length text → BeginsComment (drop at text)
-      → IsCut text tokens next (parts ++ record { kind = kinds.Comment; start = at; end = at + line_length (drop at text); breaks = breaks } ∷ []) (at + line_length (drop at text)) × (0 < line_length (drop at text))
+  comment_more : (breaks : ℕ) → ((token : Token) → slice_get tokens next ≡ Some token → token.start ≡ at → ⊥) → at < length text → BeginsComment (drop at text)
+      → IsCut text tokens next (parts ++ record { kind = kinds.Comment; sort = sorts.End; breaks = breaks; start = at; end = at + line_length (drop at text) } ∷ []) (at + line_length (drop at text)) × (0 < line_length (drop at text))
   comment_more breaks none inside begins =
       let left = drop at text in
       let count = line_length left in
@@ -148,12 +165,12 @@ module _ (text : List ℕ) (tokens : List Token) (next : ℕ) (parts : List Part
       let same : blank.count ≡ count = same_blank left blank.count count blank.blank (comment begins refl) in
       let size = blank_size left count (comment begins refl) in
       let far : at + count - at ≡ count = omega arith in (
-        part_more kinds.Comment (at + count) next (record { kind = kinds.Comment; start = at; end = at + count; breaks = breaks }) refl refl refl (omega (arith, size.0)) (begins, far)
+        part_more kinds.Comment (at + count) next (record { kind = kinds.Comment; sort = sorts.End; breaks = breaks; start = at; end = at + count }) refl refl refl (omega (arith, size.0)) (begins, far)
             (subst (λ count. Lexes (at + line_length left) (drop count left) (drop next tokens)) (sym far) (subst (λ count. Lexes (at + count) (drop count left) (drop next tokens)) same blank.rest)),
         size.0,
       )
 
-  pub space_more : ((token : Token) → slice_get tokens next ≡ Some token → token.start ≡ at → ⊥) → at < length text → (¬ BeginsComment (drop at text)) → IsCut text tokens next parts (at + 1)
+  space_more : ((token : Token) → slice_get tokens next ≡ Some token → token.start ≡ at → ⊥) → at < length text → (¬ BeginsComment (drop at text)) → IsCut text tokens next parts (at + 1)
   space_more none inside no_comment =
       let left = drop at text in
       let blank = blank_here at left (drop next tokens) cut.lexes (omega (arith, length-drop at text)) (no_token_here none) in
@@ -166,6 +183,54 @@ module _ (text : List ℕ) (tokens : List Token) (next : ℕ) (parts : List Part
         lie = cut.lie;
       }
 
-  pub cut_ended : length text ≤ at → HasPieces text (pieces_of text parts)
+  cut_ended : length text ≤ at → HasPieces text (pieces_of text parts)
   cut_ended past =
       subst (HasPieces text) (append-nil (pieces_of text parts)) (cut.pieces [] (subst (λ left. HasPieces left []) (sym (drop_of_length-le text past)) no_piece))
+
+-- the parts so far, where only the places are known at which the tokens begin
+pub record IsCutBy (text starts : List ℕ) (next : ℕ) (parts : List Part) (at : ℕ) : Type 0 where
+  pub tokens : List Token
+  pub starts_are : starts ≡ starts_of tokens
+  pub cut : IsCut text tokens next parts at
+
+pub packed_begun : (text starts : List ℕ) (marks : List Sort) → ArePacked text starts marks → IsCutBy text starts 0 [] 0
+packed_begun text starts marks packed = record { tokens = packed.tokens; starts_are = packed.starts_are; cut = cut_begun text packed.tokens packed.lexes }
+
+-- the token whose place stands there
+started : (tokens : List Token) (next at : ℕ) → slice_get (starts_of tokens) next ≡ Some at → (token : Token) × (slice_get tokens next ≡ Some token) × (token.start ≡ at)
+started tokens next at found = go (slice_get tokens next) refl (sym (slice_get-map (λ (token : Token). token.start) tokens next) ∙ found)
+  where
+    go : (first : Option Token) → slice_get tokens next ≡ first → option_map (λ (token : Token). token.start) first ≡ Some at → (token : Token) × (slice_get tokens next ≡ Some token) × (token.start ≡ at)
+    go (Some token) is same = (token, is, cc)
+    go None is same = absurd cc
+
+module _ (text starts : List ℕ) (next : ℕ) (parts : List Part) (at : ℕ) (by : IsCutBy text starts next parts at) where
+  no_start : (slice_get starts next ≡ Some at → ⊥) → (token : Token) → slice_get by.tokens next ≡ Some token → token.start ≡ at → ⊥
+  no_start none token found begins =
+      none (ap (λ starts. slice_get starts next) by.starts_are ∙ slice_get-map (λ (token : Token). token.start) by.tokens next ∙ ap (option_map (λ (token : Token). token.start)) found ∙ ap Some begins)
+
+  -- a token stands where the next one begins
+  pub stands_here : slice_get starts next ≡ Some at → (kind : Kind) × (count : ℕ) × IsLongestToken (drop at text) kind count
+  stands_here found =
+      let (token, is, begins) = started by.tokens next at (ap (λ starts. slice_get starts next) (sym by.starts_are) ∙ found) in
+      let shown = token_here text by.tokens next parts at by.cut token is begins in
+      (token.kind, token.end - at, shown.longest)
+
+  pub token_added : (kind : Kind) (count : ℕ) (sort : Sort) (breaks : ℕ) → slice_get starts next ≡ Some at → IsLongestToken (drop at text) kind count
+      → IsCutBy text starts (next + 1) (parts ++ record { kind = kinds.Token kind; sort = sort; breaks = breaks; start = at; end = at + count } ∷ []) (at + count)
+  token_added kind count sort breaks found longest =
+      let (token, is, begins) = started by.tokens next at (ap (λ starts. slice_get starts next) (sym by.starts_are) ∙ found) in
+      record { tokens = by.tokens; starts_are = by.starts_are; cut = token_more text by.tokens next parts at by.cut token kind count sort breaks is begins longest }
+
+  pub comment_added : (breaks : ℕ) → (slice_get starts next ≡ Some at → ⊥) → at < length text → BeginsComment (drop at text)
+      → IsCutBy text starts next (parts ++ record { kind = kinds.Comment; sort = sorts.End; breaks = breaks; start = at; end = at + line_length (drop at text) } ∷ []) (at + line_length (drop at text)) × (0 < line_length (drop at text))
+  comment_added breaks none inside begins =
+      let more = comment_more text by.tokens next parts at by.cut breaks (no_start none) inside begins in
+      (record { tokens = by.tokens; starts_are = by.starts_are; cut = more.0 }, more.1)
+
+  pub space_added : (slice_get starts next ≡ Some at → ⊥) → at < length text → (¬ BeginsComment (drop at text)) → IsCutBy text starts next parts (at + 1)
+  space_added none inside no_comment =
+      record { tokens = by.tokens; starts_are = by.starts_are; cut = space_more text by.tokens next parts at by.cut (no_start none) inside no_comment }
+
+  pub all_cut : length text ≤ at → HasPieces text (pieces_of text parts)
+  all_cut past = cut_ended text by.tokens next parts at by.cut past

@@ -1,8 +1,27 @@
 //! The white space before each part of a text.
 
 use crate::shapes::{Shape, Unit};
-use crate::written::{Gap, MOST_BLANKS};
 use std::alloc::{AllocError, Global};
+
+/// The white space before a part: so many line feeds, and then so many spaces.
+#[derive(Clone, Copy)]
+pub(crate) struct Gap {
+    pub lines: u8,
+    pub blanks: u8,
+}
+
+/// The most spaces of a gap.
+pub(crate) const MOST_BLANKS: u8 = 64;
+
+const NO_GAP: Gap = Gap {
+    lines: 0,
+    blanks: 0,
+};
+
+const ONE_SPACE: Gap = Gap {
+    lines: 0,
+    blanks: 1,
+};
 
 /// How many columns a block may take that stands on one line, with what follows it there.
 const MOST_COLUMNS: usize = 100;
@@ -13,8 +32,9 @@ const INDENT: usize = 2;
 /// A block, as it was measured from its end on.
 #[derive(Clone, Copy)]
 struct Block {
-    /// How many columns all parts take that stand behind the item of which the block is a part.
-    behind: usize,
+    /// How many columns stand behind its opening bracket up to the end of the item of which it is a
+    /// part.
+    columns: usize,
     /// Whether it can't stand on one line: there is a comment in it, or a line break where a
     /// broken block has one.
     broken: bool,
@@ -85,7 +105,7 @@ fn measure(alloc: Global, units: &[Unit]) -> Result<Vec<Block>, AllocError> {
             Shape::Open => {
                 let mut outer = levels.pop().unwrap_or(OUTSIDE);
                 blocks.push(Block {
-                    behind: outer.behind,
+                    columns: behind.saturating_sub(outer.behind),
                     broken: level.broken,
                 })?;
                 outer.add_block(level.broken);
@@ -111,17 +131,12 @@ fn comments_at(units: &[Unit]) -> usize {
         .count()
 }
 
-fn total_columns(units: &[Unit]) -> usize {
-    let mut total: usize = 0;
-    for unit in units {
-        total = total.saturating_add(unit.columns());
-    }
-    total
-}
-
-/// What is known between two parts while the gaps are found.
+/// What is known between two parts while the gaps are found, one after the other.
 #[derive(Drop)]
-struct Pen {
+pub(crate) struct Pen<'a> {
+    units: &'a [Unit],
+    /// The place of the next part that is no comment, as far as one was looked for.
+    solid: usize,
     /// The blocks that are still to be opened, the next one last.
     blocks: Vec<Block>,
     /// For each open block whether the one around it is broken.
@@ -132,19 +147,37 @@ struct Pen {
     depth: usize,
     /// How many bytes the current line has.
     column: usize,
-    /// How many columns the parts that follow take.
-    behind: usize,
     /// The last part that is no comment.
     previous: Option<Shape>,
     /// Whether the last part is a comment.
     is_behind_comment: bool,
+    /// Whether a plain part that comes next begins no line.
+    is_amid: bool,
     /// Whether the last block that was closed is broken.
     closed_broken: bool,
     /// Whether a section has ended on the current line.
     is_behind_section: bool,
 }
 
-impl Pen {
+impl<'a> Pen<'a> {
+    /// Before the first of the parts of a text.
+    pub(crate) fn new(alloc: Global, units: &'a [Unit]) -> Result<Pen<'a>, AllocError> {
+        Ok(Pen {
+            units,
+            solid: 0,
+            blocks: measure(alloc, units)?,
+            open: Vec::new(alloc),
+            broken: false,
+            depth: 0,
+            column: 0,
+            previous: None,
+            is_behind_comment: false,
+            is_amid: false,
+            closed_broken: false,
+            is_behind_section: false,
+        })
+    }
+
     /// Whether a line ends before the part of this shape which is the next that is no comment.
     fn ends_line(&self, shape: Shape) -> bool {
         match self.previous {
@@ -180,16 +213,10 @@ impl Pen {
     fn gap(&mut self, unit: &Unit, shape: Shape) -> Gap {
         let is_comment = unit.shape == Shape::Comment;
         if self.previous.is_none() && !self.is_behind_comment {
-            return Gap {
-                lines: 0,
-                blanks: 0,
-            };
+            return NO_GAP;
         }
         if is_comment && unit.breaks == 0 {
-            return Gap {
-                lines: 0,
-                blanks: 1,
-            };
+            return ONE_SPACE;
         }
         let is_seam = self.ends_line(shape);
         if is_comment || is_seam || self.is_behind_comment {
@@ -206,8 +233,7 @@ impl Pen {
         let is_linked = self.previous == Some(Shape::Else) && self.closed_broken;
         match self.blocks.pop() {
             Some(block) => {
-                let columns = self.behind.saturating_sub(block.behind);
-                let end = self.column.saturating_add(columns);
+                let end = self.column.saturating_add(block.columns);
                 is_linked || block.broken || end > MOST_COLUMNS
             }
             None => true,
@@ -236,47 +262,58 @@ impl Pen {
     fn pass(&mut self, unit: &Unit, gap: Gap) -> Result<(), AllocError> {
         let blanks = usize::from(gap.blanks);
         let start = if gap.lines > 0 { 0 } else { self.column };
-        self.column = start.saturating_add(blanks).saturating_add(unit.width);
-        self.behind = self.behind.saturating_sub(unit.columns());
+        self.column = start
+            .saturating_add(blanks)
+            .saturating_add(unit.width as usize);
         match unit.shape {
             Shape::Open => self.open_block()?,
             Shape::Close => self.close_block(),
             _ => {}
         }
+        let ends_line = matches!(unit.shape, Shape::Open | Shape::Step | Shape::Bar);
         self.is_behind_comment = unit.shape == Shape::Comment;
+        self.is_amid = !self.is_behind_comment && !(self.broken && ends_line);
         if !self.is_behind_comment {
             self.previous = Some(unit.shape);
         }
         Ok(())
     }
-}
 
-/// The gap before each part.
-pub(crate) fn gaps(alloc: Global, units: &[Unit]) -> Result<Vec<Gap>, AllocError> {
-    let blocks = measure(alloc, units)?;
-    let mut pen = Pen {
-        blocks,
-        open: Vec::new(alloc),
-        broken: false,
-        depth: 0,
-        column: 0,
-        behind: total_columns(units),
-        previous: None,
-        is_behind_comment: false,
-        closed_broken: false,
-        is_behind_section: false,
-    };
-    let mut gaps = Vec::with_capacity(alloc, units.len())?;
-    // The place of the next part that is no comment.
-    let mut solid = comments_at(units);
-    for (place, unit) in units.iter().enumerate() {
-        if solid < place {
-            solid = place.saturating_add(comments_at(&units[place..]));
-        }
-        let shape = units.get(solid).map_or(Shape::Section, |next| next.shape);
-        let gap = pen.gap(unit, shape);
-        pen.pass(unit, gap)?;
-        gaps.push(gap)?;
+    /// Goes past a plain part in a line, and gives the gap before it.
+    fn go_on(&mut self, unit: &Unit) -> Gap {
+        self.column = self.column.saturating_add(unit.columns());
+        self.previous = Some(Shape::Plain);
+        if unit.apart { ONE_SPACE } else { NO_GAP }
     }
-    Ok(gaps)
+
+    /// The shape of the next part that is no comment, from the comment at this place on.
+    fn solid_shape(&mut self, place: usize) -> Shape {
+        if self.solid <= place {
+            let comments = self.units.get(place..).map_or(0, comments_at);
+            self.solid = place.saturating_add(comments);
+        }
+        match self.units.get(self.solid) {
+            Some(unit) => unit.shape,
+            None => Shape::Section,
+        }
+    }
+
+    /// The gap before the part at a place, where all parts before it were passed, or a space where
+    /// there is no part.
+    pub(crate) fn gap_at(&mut self, place: usize) -> Result<Gap, AllocError> {
+        let unit = match self.units.get(place) {
+            Some(unit) => *unit,
+            None => return Ok(ONE_SPACE),
+        };
+        if self.is_amid && unit.shape == Shape::Plain {
+            return Ok(self.go_on(&unit));
+        }
+        let shape = match unit.shape {
+            Shape::Comment => self.solid_shape(place),
+            shape => shape,
+        };
+        let gap = self.gap(&unit, shape);
+        self.pass(&unit, gap)?;
+        Ok(gap)
+    }
 }

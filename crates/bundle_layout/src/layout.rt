@@ -7,14 +7,17 @@ ghost use Rattle.dioc_terms.specs.Plain.{PlainBundle};
 ghost use Rattle.bundle_text.specs.Grammar.{Spells};
 ghost use Rattle.bundle_layout.specs.Pieces.{SamePieces};
 
-use crate::gaps::gaps;
+use crate::gaps::Pen;
 use crate::parts::cut;
 use crate::shapes::units;
 use crate::written::written;
-use aioc_tokens::{TokenFault, tokens};
+use aioc_tokens::{TokenFault, packed_tokens};
 use dioc_terms::Memory;
 use std::alloc::{AllocError, Global};
 use thiserror::Error;
+
+/// The most bytes of a text whose places fit into 32 bits.
+const MOST_PLACES: usize = 4_294_967_295;
 
 /// Why a text isn't laid out.
 #[derive(Clone, Copy, Debug, PartialEq, Eq, Error)]
@@ -56,21 +59,24 @@ impl From<AllocError> for LayoutFault {
 /// as many bytes as a bundle may have; so it spells the bundle that the text spells. A text that is
 /// no bundle is laid out as well, as far as its brackets and separators tell. `BadByte` names the
 /// first byte that is in no token, space or comment, counted from 0; `TooLong` comes where the text,
-/// laid out, would have too many bytes.
+/// laid out, would have too many bytes, or where its places don't fit into 32 bits.
 pub fn lay_out(alloc: Global, bytes: &[u8]) -> Result<Vec<u8>, LayoutFault>
     ensures same { IfOk result (λ v. SamePieces bytes.now v.items) }
     ensures bundle { IfOk result (λ v. (b : PlainBundle) → Spells bytes.now b → Spells v.items b) }
     ensures short { IfOk result (λ v. vec_len v ≤ most_bytes) }
     ensures bad { (at : ℕ) → result ≡ Err (LayoutFault.BadByte at) → Breaks 0 bytes.now at }
 {
-    let tokens = match tokens(alloc, bytes) {
-        Ok(tokens) => tokens,
+    if bytes.len() > MOST_PLACES {
+        return Err(LayoutFault::TooLong);
+    }
+    let packed = match packed_tokens(alloc, bytes) {
+        Ok(packed) => packed,
         Err(TokenFault::BadByte(at)) => return Err(LayoutFault::BadByte(at)),
         Err(TokenFault::Memory) => return Err(LayoutFault::Memory),
     };
-    let parts = cut(alloc, bytes, &tokens)?;
+    let parts = cut(alloc, bytes, &packed.starts, &packed.sorts)?;
     let units = units(alloc, bytes, &parts)?;
-    let gaps = gaps(alloc, &units)?;
-    let text = written(alloc, bytes, &parts, &gaps)?;
+    let mut pen = Pen::new(alloc, &units)?;
+    let text = written(alloc, bytes, &parts, &mut pen)?;
     Ok(text)
 }

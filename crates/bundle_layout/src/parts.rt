@@ -1,13 +1,13 @@
 //! Cutting a text into its tokens and its comments.
 
-ghost use Rattle.std.specs.Prelude.{◌≡◌, ◌<◌, ◌≤◌, ◌↔◌, length, IfOk, IsTrue, MatchOption, slice_get, Some, drop};
-ghost use Rattle.std.specs.List.{All};
-ghost use Rattle.aioc_tokens.specs.Tokens.{BeginsComment, line_length};
-ghost use Rattle.aioc_tokens.specs.Lexing.{Lexes};
+ghost use Rattle.std.specs.Prelude.{◌≡◌, ℕ, ◌<◌, ◌≤◌, ◌↔◌, length, IfOk, IsTrue, slice_get, Some};
+ghost use Rattle.std.specs.List.{All, prefix_len};
+ghost use Rattle.aioc_tokens.specs.Tokens.{BeginsComment, IsLongestToken};
+ghost use Rattle.aioc_tokens.specs.Packed.{ArePacked};
 ghost use Rattle.bundle_layout.specs.Pieces.{HasPieces};
-ghost use Rattle.bundle_layout.specs.Parts.{pieces_of, LiesIn};
+ghost use Rattle.bundle_layout.specs.Parts.{pieces_of, LiesIn, goes_on};
 
-use aioc_tokens::{Kind, Token};
+use aioc_tokens::{Kind, Sort, find_punctuator};
 use std::alloc::{AllocError, Global};
 
 /// What a part of a text is.
@@ -22,10 +22,88 @@ pub enum PartKind {
 #[derive(Clone, Copy)]
 pub(crate) struct Part {
     pub kind: PartKind,
-    pub start: usize,
-    pub end: usize,
+    /// What the grammar sees of a token, and `End` of a comment.
+    pub sort: Sort,
     /// How many line feeds stand between the part before it and this one, where 2 are two or more.
     pub breaks: u8,
+    pub start: u32,
+    pub end: u32,
+}
+
+/// Whether this byte, directly behind a part of this kind, would belong to it, or make another
+/// symbol or a comment of it.
+pub(crate) fn goes_on(kind: PartKind, byte: u8) -> bool
+    ensures { result ≡ goes_on kind byte }
+{
+    match kind {
+        PartKind::Token(Kind::Name) => byte.is_ascii_alphanumeric() || byte == b'_',
+        PartKind::Token(Kind::Number) => byte.is_ascii_digit(),
+        PartKind::Token(Kind::Text) => false,
+        PartKind::Token(Kind::Symbol) => matches!(byte, b'=' | b'+' | b'>' | b'/'),
+        PartKind::Comment => byte != b'\n',
+    }
+}
+
+/// How many bytes from the front on go on a part of this kind.
+fn run_length(kind: PartKind, text: &[u8]) -> usize
+    ensures value { result ≡ prefix_len (goes_on kind) text.now }
+    ensures within { result ≤ length text.now }
+{
+    text.iter().take_while(|byte| goes_on(kind, **byte)).count()
+}
+
+/// How many bytes the text in quotes at the front takes.
+fn quoted_length(text: &[u8]) -> usize
+    requires { (count : ℕ) × IsLongestToken text.now Kind.Text count }
+    ensures { IsLongestToken text.now Kind.Text result }
+{
+    let mut at = 1;
+    let mut paired = false;
+    while at < text.len() {
+        let byte = text[at];
+        at += 1;
+        if paired {
+            paired = false;
+        } else if byte == b'"' {
+            return at;
+        } else {
+            paired = byte == b'\\';
+        }
+    }
+    unreachable!()
+}
+
+/// How many bytes the symbol at the front takes.
+fn symbol_length(text: &[u8]) -> usize
+    requires { (count : ℕ) × IsLongestToken text.now Kind.Symbol count }
+    ensures { IsLongestToken text.now Kind.Symbol result }
+{
+    if text.len() > 1 && find_punctuator(&text[..2]).is_some() {
+        2
+    } else {
+        1
+    }
+}
+
+/// The kind of the token at the front, and how many bytes it takes.
+fn token_length(text: &[u8]) -> (Kind, usize)
+    requires { (kind : Kind) × (count : ℕ) × IsLongestToken text.now kind count }
+    ensures { IsLongestToken text.now result.0 result.1 }
+{
+    let first = text[0];
+    if first.is_ascii_alphabetic() {
+        return (Kind::Name, run_length(PartKind::Token(Kind::Name), text));
+    }
+    if first.is_ascii_digit() {
+        return (
+            Kind::Number,
+            run_length(PartKind::Token(Kind::Number), text),
+        );
+    }
+    if first == b'"' {
+        return (Kind::Text, quoted_length(text));
+    }
+    (Kind::Symbol, symbol_length(text))
 }
 
 fn begins_comment(text: &[u8]) -> bool
@@ -34,22 +112,13 @@ fn begins_comment(text: &[u8]) -> bool
     text.starts_with(b"//")
 }
 
-/// How many bytes stand before the next line feed, or before the end.
-fn line_length(text: &[u8]) -> usize
-    ensures { result ≡ line_length text.now }
+/// Whether the token at a place of the list begins at this byte.
+fn begins_at(starts: &[u32], next: usize, at: usize) -> bool
+    ensures { IsTrue result ↔ (slice_get starts.now next ≡ Some at) }
 {
-    text.iter().take_while(|byte| **byte != b'\n').count()
-}
-
-/// The token at a place of the list, if it begins at this byte.
-fn token_at(tokens: &[Token], next: usize, at: usize) -> Option<Token>
-    ensures { MatchOption result
-        ((token : _) → slice_get tokens.now next ≡ Some token → token.start ≡ at → ⊥)
-        (λ token. (slice_get tokens.now next ≡ Some token) × (token.start ≡ at)) }
-{
-    match tokens.get(next) {
-        Some(token) if token.start == at => Some(*token),
-        _ => None,
+    match starts.get(next) {
+        Some(start) => *start as usize == at,
+        None => false,
     }
 }
 
@@ -61,37 +130,47 @@ fn count_break(breaks: u8, byte: u8) -> u8 {
     }
 }
 
-/// The parts of a text whose tokens these are, in order.
-pub(crate) fn cut(alloc: Global, bytes: &[u8], tokens: &[Token]) -> Result<Vec<Part>, AllocError>
-    requires { Lexes 0 bytes.now tokens.now }
+/// The parts of a text whose tokens begin at these places and have these sorts, in order.
+pub(crate) fn cut(
+    alloc: Global,
+    bytes: &[u8],
+    starts: &[u32],
+    sorts: &[Sort],
+) -> Result<Vec<Part>, AllocError>
+    requires packed { ArePacked bytes.now starts.now sorts.now }
+    requires short { length bytes.now ≤ 4294967295 }
     ensures pieces { IfOk result (λ v. HasPieces bytes.now (pieces_of bytes.now v.items)) }
     ensures lie { IfOk result (λ v. All (LiesIn bytes.now) v.items) }
 {
-    let mut parts = Vec::with_capacity(alloc, tokens.len())?;
+    let mut parts = Vec::with_capacity(alloc, starts.len())?;
     let mut at = 0;
     let mut next = 0;
     let mut breaks = 0;
     while at < bytes.len() {
-        if let Some(token) = token_at(tokens, next, at) {
+        let rest = &bytes[at..];
+        if begins_at(starts, next, at) {
+            let (kind, count) = token_length(rest);
+            let token_end = at + count;
             parts.push(Part {
-                kind: PartKind::Token(token.kind),
-                start: at,
-                end: token.end,
+                kind: PartKind::Token(kind),
+                sort: sorts.get(next).copied().unwrap_or(Sort::End),
                 breaks,
+                start: at as u32,
+                end: token_end as u32,
             })?;
-            at = token.end;
+            at = token_end;
             next += 1;
             breaks = 0;
             continue;
         }
-        let rest = &bytes[at..];
         if begins_comment(rest) {
-            let end = at + line_length(rest);
+            let end = at + run_length(PartKind::Comment, rest);
             parts.push(Part {
                 kind: PartKind::Comment,
-                start: at,
-                end,
+                sort: Sort::End,
                 breaks,
+                start: at as u32,
+                end: end as u32,
             })?;
             at = end;
             breaks = 0;

@@ -1,9 +1,7 @@
 //! What each part of a text is to its layout.
 
-ghost use Rattle.std.specs.Prelude.{◌≡◌, ◌↔◌, IsTrue};
-
 use crate::parts::{Part, PartKind};
-use aioc_tokens::{Kind, Word, find_word};
+use aioc_tokens::{Kind, Punctuator, Sort, Word};
 use std::alloc::{AllocError, Global};
 
 /// What a part is to the layout.
@@ -35,13 +33,13 @@ pub(crate) struct Unit {
     /// How many line feeds stand before it, where 2 are two or more.
     pub breaks: u8,
     /// How many bytes it has.
-    pub width: usize,
+    pub width: u32,
 }
 
 impl Unit {
     /// How many columns it takes behind another in a line.
     pub(crate) fn columns(&self) -> usize {
-        self.width.saturating_add(usize::from(self.apart))
+        (self.width as usize).saturating_add(usize::from(self.apart))
     }
 }
 
@@ -61,120 +59,60 @@ struct View<'a> {
 }
 
 impl<'a> View<'a> {
-    /// The bytes of the part at a place, or none where there is no part.
-    fn at(&self, place: usize) -> &'a [u8] {
-        match self.parts.get(place) {
-            Some(part) => self.bytes.get(part.start..part.end).unwrap_or(b""),
-            None => b"",
+    /// The sort of the part so many places behind this one, `End` where there is no token.
+    fn behind(&self, place: usize, count: usize) -> Sort {
+        match self.parts.get(place.saturating_add(count)) {
+            Some(part) => part.sort,
+            None => Sort::End,
         }
     }
 
-    fn behind(&self, place: usize, count: usize) -> &'a [u8] {
-        self.at(place.saturating_add(count))
-    }
-
-    fn before(&self, place: usize, count: usize) -> &'a [u8] {
+    /// Whether the part so many places before this one is this name.
+    fn is_named(&self, place: usize, count: usize, name: &[u8]) -> bool {
         match place.checked_sub(count) {
-            Some(place) => self.at(place),
-            None => b"",
-        }
-    }
-
-    /// Whether the part at a place may end an operand, so that a `-` behind it has two operands.
-    fn ends_operand(&self, place: usize) -> bool {
-        match self.parts.get(place) {
-            Some(part) => match part.kind {
-                PartKind::Token(Kind::Number | Kind::Text) => true,
-                PartKind::Token(Kind::Name) => is_operand(self.at(place)),
-                PartKind::Token(Kind::Symbol) => is(self.at(place), b")"),
-                PartKind::Comment => false,
-            },
+            Some(place) => self.name(place) == name,
             None => false,
         }
     }
 
-    /// Whether the `-` at a place is the sign of what follows it.
-    fn is_sign(&self, place: usize) -> bool {
-        let is_priority = is(self.before(place, 1), b"priority")
-            && is(self.before(place, 3), b"rule");
-        match place.checked_sub(1) {
-            Some(previous) => is_priority || !self.ends_operand(previous),
-            None => true,
+    /// The name at a place, or no bytes where there is none.
+    fn name(&self, place: usize) -> &'a [u8] {
+        match self.parts.get(place) {
+            Some(part) if part.sort == Sort::Name => self
+                .bytes
+                .get(part.start as usize..part.end as usize)
+                .unwrap_or(b""),
+            _ => b"",
         }
     }
 
-    /// Whether nothing stands behind the part before this place.
-    fn is_close_behind(&self, place: usize) -> bool {
-        match self.before(place, 1) {
-            b"(" | b"." | b"#" | b"!" | b"@" => true,
-            b"-" => self.is_sign(place.saturating_sub(1)),
-            _ => false,
-        }
-    }
-
-    /// Whether nothing stands before the part at this place.
-    fn is_close_before(&self, place: usize) -> bool {
-        match self.at(place) {
-            b";" | b"," | b")" | b":" | b"." => true,
-            b"(" => is_called(self.before(place, 1)),
-            b"@" => matches!(self.behind(place, 2), b"=" | b"#"),
-            b"#" => is(self.before(place, 3), b"->") || is(self.before(place, 2), b"!"),
-            _ => false,
-        }
-    }
-
-    fn is_apart(&self, place: usize) -> bool {
-        place > 0 && !self.is_close_behind(place) && !self.is_close_before(place)
-    }
-
-    /// Whether an entry of a trace begins at this place.
-    fn begins_entry(&self, place: usize) -> bool {
-        let next = self.behind(place, 1);
-        let second = self.behind(place, 2);
-        match self.at(place) {
-            b"put" | b"take" => is(second, b"->"),
-            b"set" | b"input" => is(second, b"@"),
-            b"pick" | b"scope" => is(second, b"#"),
-            b"env" => is(second, b"="),
-            b"add" | b"drop" => begins_name(next) && !is(self.before(place, 1), b"rule"),
-            b"ended" | b"stopped" => begins_number(next),
-            _ => false,
+    /// Whether the part at a place begins with a letter.
+    fn begins_with_letter(&self, place: usize) -> bool {
+        match self.parts.get(place) {
+            Some(part) => matches!(part.kind, PartKind::Token(Kind::Name)),
+            None => false,
         }
     }
 }
 
-/// Whether these are the same bytes.
-fn is(bytes: &[u8], others: &[u8]) -> bool
-    ensures { IsTrue result ↔ (bytes.now ≡ others.now) }
-{
-    bytes == others
-}
-
-/// Whether these bytes of a name can be an operand.
-fn is_operand(name: &[u8]) -> bool {
-    matches!(
-        find_word(name),
-        None | Some(Word::True | Word::False | Word::Nil)
-    )
-}
-
-/// Whether a `(` behind these bytes belongs to them: to a role, or to `input`.
-fn is_called(bytes: &[u8]) -> bool {
-    begins_name(bytes) && matches!(find_word(bytes), None | Some(Word::Input))
-}
-
-fn begins_name(bytes: &[u8]) -> bool {
-    match bytes.first() {
-        Some(byte) => byte.is_ascii_alphabetic(),
-        None => false,
+/// Whether a part of this sort may end an operand, so that a `-` behind it has two operands.
+fn ends_operand(sort: Sort) -> bool {
+    match sort {
+        Sort::Name | Sort::Long | Sort::Number | Sort::Text => true,
+        Sort::Reserved(Word::True | Word::False | Word::Nil) => true,
+        Sort::Symbol(Punctuator::RightParen) => true,
+        _ => false,
     }
 }
 
-fn begins_number(bytes: &[u8]) -> bool {
-    match bytes.first() {
-        Some(byte) => byte.is_ascii_digit(),
-        None => false,
-    }
+/// The sorts of the parts directly before a place, the last one first: `End` of a comment, and
+/// where there is no part.
+#[derive(Clone, Copy)]
+struct Before {
+    first: Sort,
+    second: Sort,
+    third: Sort,
+    fourth: Sort,
 }
 
 /// What the parts before a place say of it.
@@ -182,31 +120,110 @@ fn begins_number(bytes: &[u8]) -> bool {
 struct Reader<'a> {
     view: View<'a>,
     open: Vec<Bracket>,
-    /// The place of the last part that is no comment.
-    solid: Option<usize>,
+    before: Before,
+    /// The place behind the last part that is no comment.
+    solid: usize,
+    /// The sort of that part, `End` where there is none.
+    previous: Sort,
+    /// Whether the last `{` opens the condition of a rule.
+    is_in_condition: bool,
     is_in_trace: bool,
 }
 
 impl<'a> Reader<'a> {
-    /// The bytes of the last part that is no comment.
-    fn previous(&self) -> &'a [u8] {
-        match self.solid {
-            Some(place) => self.view.at(place),
-            None => b"",
+    /// Whether the `-` directly before a place is the sign of the part there.
+    fn is_sign(&self, place: usize) -> bool {
+        let is_priority = self.before.fourth == Sort::Reserved(Word::Rule)
+            && self.view.is_named(place, 2, b"priority");
+        is_priority || !ends_operand(self.before.second)
+    }
+
+    /// Whether the `(` at a place belongs to what stands before it: to a role, or to `input`.
+    fn is_called(&self, place: usize) -> bool {
+        match self.before.first {
+            Sort::Name | Sort::Reserved(Word::Input) => true,
+            Sort::Long => self.view.begins_with_letter(place.saturating_sub(1)),
+            _ => false,
+        }
+    }
+
+    /// Whether nothing stands behind the part directly before a place.
+    fn is_close_behind(&self, place: usize) -> bool {
+        match self.before.first {
+            Sort::Symbol(
+                Punctuator::LeftParen
+                | Punctuator::Dot
+                | Punctuator::Hash
+                | Punctuator::Bang
+                | Punctuator::At,
+            ) => true,
+            Sort::Symbol(Punctuator::Minus) => self.is_sign(place),
+            _ => false,
+        }
+    }
+
+    /// Whether nothing stands before this symbol at a place.
+    fn is_close_before(&self, punctuator: Punctuator, place: usize) -> bool {
+        match punctuator {
+            Punctuator::Semicolon
+            | Punctuator::Comma
+            | Punctuator::RightParen
+            | Punctuator::Colon
+            | Punctuator::Dot => true,
+            Punctuator::LeftParen => self.is_called(place),
+            Punctuator::At => matches!(
+                self.view.behind(place, 2),
+                Sort::Symbol(Punctuator::Equal | Punctuator::Hash)
+            ),
+            Punctuator::Hash => {
+                self.before.third == Sort::Symbol(Punctuator::Arrow)
+                    || self.before.second == Sort::Symbol(Punctuator::Bang)
+            }
+            _ => false,
+        }
+    }
+
+    /// Whether a space stands before the part of this sort at a place where it begins no line. Of
+    /// the first part this means nothing.
+    fn is_apart(&self, place: usize, sort: Sort) -> bool {
+        let is_close = match sort {
+            Sort::Symbol(punctuator) => self.is_close_before(punctuator, place),
+            _ => false,
+        };
+        !is_close && !self.is_close_behind(place)
+    }
+
+    /// Whether an entry of a trace begins with the part of this sort at a place.
+    fn begins_entry(&self, place: usize, sort: Sort) -> bool {
+        let second = self.view.behind(place, 2);
+        match sort {
+            Sort::Reserved(Word::Input) => second == Sort::Symbol(Punctuator::At),
+            Sort::Reserved(Word::Scope) => second == Sort::Symbol(Punctuator::Hash),
+            _ => match self.view.name(place) {
+                b"put" | b"take" => second == Sort::Symbol(Punctuator::Arrow),
+                b"set" => second == Sort::Symbol(Punctuator::At),
+                b"pick" => second == Sort::Symbol(Punctuator::Hash),
+                b"env" => second == Sort::Symbol(Punctuator::Equal),
+                b"add" | b"drop" => {
+                    self.before.first != Sort::Reserved(Word::Rule)
+                        && self.view.begins_with_letter(place.saturating_add(1))
+                }
+                b"ended" | b"stopped" => self.view.behind(place, 1) == Sort::Number,
+                _ => false,
+            },
         }
     }
 
     /// Whether the `(` that comes next opens parts of a choreography.
     fn opens_block(&self) -> bool {
-        let bytes = self.previous();
-        if is(bytes, b";") || is(bytes, b"|") {
-            return true;
+        match self.previous {
+            Sort::Symbol(Punctuator::Semicolon | Punctuator::Bar) => true,
+            Sort::Symbol(Punctuator::LeftBrace) => !self.is_in_condition,
+            Sort::Symbol(Punctuator::LeftParen) => {
+                matches!(self.open.last(), Some(Bracket::Block))
+            }
+            _ => false,
         }
-        if is(bytes, b"{") {
-            let place = self.solid.unwrap_or(0);
-            return !is(self.view.before(place, 1), b"on");
-        }
-        is(bytes, b"(") && matches!(self.open.last(), Some(Bracket::Block))
     }
 
     fn open_bracket(&mut self, bracket: Bracket) -> Result<Shape, AllocError> {
@@ -217,6 +234,14 @@ impl<'a> Reader<'a> {
         }
     }
 
+    fn open_brace(&mut self) -> Result<Shape, AllocError> {
+        if self.open.is_empty() {
+            self.is_in_trace = self.view.is_named(self.solid, 1, b"trace");
+        }
+        self.is_in_condition = self.before.first == Sort::Reserved(Word::On);
+        self.open_bracket(Bracket::Block)
+    }
+
     fn close_bracket(&mut self) -> Shape {
         match self.open.pop() {
             Some(Bracket::Inner) => Shape::Plain,
@@ -225,52 +250,75 @@ impl<'a> Reader<'a> {
     }
 
     /// The shape of a part that is no bracket.
-    fn shape_of_word(&self, place: usize) -> Shape {
-        let previous = self.previous();
+    fn shape_of_word(&self, place: usize, sort: Sort) -> Shape {
         if self.open.is_empty() {
-            let begins = previous.is_empty() || is(previous, b"}") || begins_number(previous);
-            return if begins { Shape::Section } else { Shape::Plain };
+            return match self.previous {
+                Sort::End | Sort::Number | Sort::Symbol(Punctuator::RightBrace) => Shape::Section,
+                _ => Shape::Plain,
+            };
         }
-        match self.view.at(place) {
-            b";" => Shape::Step,
-            b"|" => Shape::Bar,
-            b"else" => Shape::Else,
-            b"on" | b"do" => Shape::Item,
-            b"rule" if is(previous, b"{") || is(previous, b"}") => Shape::Item,
-            b"after" if begins_number(self.view.behind(place, 1)) => Shape::Item,
-            _ if self.is_in_trace && self.view.begins_entry(place) => Shape::Item,
+        match sort {
+            Sort::Symbol(Punctuator::Semicolon) => Shape::Step,
+            Sort::Symbol(Punctuator::Bar) => Shape::Bar,
+            Sort::Reserved(Word::Else) => Shape::Else,
+            Sort::Reserved(Word::On | Word::Do) => Shape::Item,
+            Sort::Reserved(Word::Rule) => match self.previous {
+                Sort::Symbol(Punctuator::LeftBrace | Punctuator::RightBrace) => Shape::Item,
+                _ => Shape::Plain,
+            },
+            Sort::Name | Sort::Reserved(Word::Input | Word::Scope) => {
+                self.shape_of_name(place, sort)
+            }
             _ => Shape::Plain,
         }
     }
 
-    /// The shape of the part at a place, where all parts before it were read.
-    fn shape(&mut self, place: usize) -> Result<Shape, AllocError> {
-        match self.view.at(place) {
-            b"{" => {
-                if self.open.is_empty() {
-                    self.is_in_trace = is(self.previous(), b"trace");
-                }
+    /// The shape of a name, or of a word that may begin an entry of a trace.
+    fn shape_of_name(&self, place: usize, sort: Sort) -> Shape {
+        let is_change = self.view.behind(place, 1) == Sort::Number
+            && self.view.is_named(place, 0, b"after");
+        if is_change || self.is_in_trace && self.begins_entry(place, sort) {
+            Shape::Item
+        } else {
+            Shape::Plain
+        }
+    }
+
+    /// The shape of the token of this sort at a place, where all parts before it were read.
+    fn shape(&mut self, place: usize, sort: Sort) -> Result<Shape, AllocError> {
+        match sort {
+            Sort::Symbol(Punctuator::LeftBrace) => self.open_brace(),
+            Sort::Symbol(Punctuator::LeftParen) if self.opens_block() => {
                 self.open_bracket(Bracket::Block)
             }
-            b"(" if self.opens_block() => self.open_bracket(Bracket::Block),
-            b"(" => self.open_bracket(Bracket::Inner),
-            b")" | b"}" => Ok(self.close_bracket()),
-            _ => Ok(self.shape_of_word(place)),
+            Sort::Symbol(Punctuator::LeftParen) => self.open_bracket(Bracket::Inner),
+            Sort::Symbol(Punctuator::RightParen | Punctuator::RightBrace) => {
+                Ok(self.close_bracket())
+            }
+            _ => Ok(self.shape_of_word(place, sort)),
         }
     }
 
     fn unit(&mut self, place: usize, part: &Part) -> Result<Unit, AllocError> {
+        let apart = self.is_apart(place, part.sort);
         let shape = match part.kind {
             PartKind::Comment => Shape::Comment,
             PartKind::Token(_) => {
-                let shape = self.shape(place)?;
-                self.solid = Some(place);
+                let shape = self.shape(place, part.sort)?;
+                self.solid = place.saturating_add(1);
+                self.previous = part.sort;
                 shape
             }
         };
+        self.before = Before {
+            first: part.sort,
+            second: self.before.first,
+            third: self.before.second,
+            fourth: self.before.third,
+        };
         Ok(Unit {
             shape,
-            apart: self.view.is_apart(place),
+            apart,
             breaks: part.breaks,
             width: part.end.saturating_sub(part.start),
         })
@@ -282,7 +330,15 @@ pub(crate) fn units(alloc: Global, bytes: &[u8], parts: &[Part]) -> Result<Vec<U
     let mut reader = Reader {
         view: View { bytes, parts },
         open: Vec::new(alloc),
-        solid: None,
+        before: Before {
+            first: Sort::End,
+            second: Sort::End,
+            third: Sort::End,
+            fourth: Sort::End,
+        },
+        solid: 0,
+        previous: Sort::End,
+        is_in_condition: false,
         is_in_trace: false,
     };
     let mut units = Vec::with_capacity(alloc, parts.len())?;

@@ -1,50 +1,22 @@
 //! Writing parts with white space between them.
 
-ghost use Rattle.std.specs.Prelude.{◌≡◌, ℕ, Err, ◌<◌, ◌≤◌, length, ◌∷◌, [], ◌++◌, vec_len, IsTrue, OnOk, IfOk};
+ghost use Rattle.std.specs.Prelude.{◌≡◌, ℕ, Err, ◌≤◌, length, ◌∷◌, [], ◌++◌, slice_range, vec_len, IsTrue, OnOk, IfOk};
 ghost use Rattle.std.specs.List.{All, list_all};
 ghost use Rattle.limits.specs.Limits.{most_bytes};
 ghost use Rattle.aioc_tokens.specs.Tokens.{is_space};
 ghost use Rattle.bundle_layout.specs.Pieces.{HasPieces};
-ghost use Rattle.bundle_layout.specs.Parts.{bytes_of, pieces_of, LiesIn, goes_on, EndsBefore};
+ghost use Rattle.bundle_layout.specs.Parts.{pieces_of, LiesIn, EndsBefore};
 
+use crate::gaps::{Gap, MOST_BLANKS, Pen};
 use crate::layout::LayoutFault;
-use crate::parts::{Part, PartKind};
+use crate::parts::{Part, PartKind, goes_on};
 use aioc_tokens::Kind;
 use limits::MOST_BYTES;
 use std::alloc::Global;
 use text_pieces::write_bytes;
 
-/// The white space before a part: so many line feeds, and then so many spaces.
-#[derive(Clone, Copy)]
-pub(crate) struct Gap {
-    pub lines: u8,
-    pub blanks: u8,
-}
-
-/// The most spaces of a gap.
-pub(crate) const MOST_BLANKS: u8 = 64;
-
-const ONE_SPACE: Gap = Gap {
-    lines: 0,
-    blanks: 1,
-};
-
 /// What stands before the first part: nothing goes on a text in quotes.
 const NONE_BEFORE: PartKind = PartKind::Token(Kind::Text);
-
-/// Whether this byte, directly behind a part of this kind, would belong to it, or make another
-/// symbol or a comment of it.
-fn goes_on(kind: PartKind, byte: u8) -> bool
-    ensures { result ≡ goes_on kind byte }
-{
-    match kind {
-        PartKind::Token(Kind::Name) => byte.is_ascii_alphanumeric() || byte == b'_',
-        PartKind::Token(Kind::Number) => byte.is_ascii_digit(),
-        PartKind::Token(Kind::Text) => false,
-        PartKind::Token(Kind::Symbol) => matches!(byte, b'=' | b'+' | b'>' | b'/'),
-        PartKind::Comment => byte != b'\n',
-    }
-}
 
 /// The longest gap: two line feeds, and 64 spaces.
 fn longest_gap() -> &'static [u8]
@@ -58,6 +30,10 @@ fn longest_gap() -> &'static [u8]
 fn gap_bytes(gap: Gap) -> &'static [u8]
     ensures { IsTrue (list_all is_space result.now) }
 {
+    // Most parts have no gap before them.
+    if gap.lines == 0 && gap.blanks == 0 {
+        return b"";
+    }
     let longest = longest_gap();
     let start = 2 - usize::from(gap.lines.min(2));
     let end = 2 + usize::from(gap.blanks.min(MOST_BLANKS));
@@ -93,20 +69,22 @@ fn safe_gap(kind: PartKind, gap: Gap, first: u8) -> &'static [u8]
     }
 }
 
-/// The bytes of a part.
-fn bytes_of<'a>(bytes: &'a [u8], part: &Part) -> &'a [u8]
-    requires { LiesIn bytes.now part.now }
-    ensures value { result.now ≡ bytes_of bytes.now part.now }
-    ensures some { 0 < length result.now }
+/// Whether these bytes stand from one place up to another.
+fn stands(bytes: &[u8], from: usize, to: usize, wanted: &[u8]) -> bool
+    ensures { IsTrue result → (from ≤ to) × (slice_range bytes.now from to ≡ wanted.now) }
 {
-    &bytes[part.start..part.end]
+    match bytes.get(from..to) {
+        Some(between) => between == wanted,
+        None => false,
+    }
 }
 
-/// Appends the parts of a text, each behind its gap, or behind a space where it has none.
+/// Appends the parts of a text, each behind its gap. Where the text has the same bytes between two
+/// parts, they are copied with both at once.
 fn write_parts(
     bytes: &[u8],
     parts: &[Part],
-    gaps: &[Gap],
+    pen: &mut Pen<'_>,
     out: &mut Vec<u8>,
 ) -> Result<(), LayoutFault>
     requires lie { All (LiesIn bytes.now) parts.now }
@@ -115,26 +93,35 @@ fn write_parts(
     ensures fault { (at : ℕ) → result ≡ Err (LayoutFault.BadByte at) → ⊥ }
 {
     let mut kind = NONE_BEFORE;
+    // What is to be copied next.
+    let mut from = 0;
+    let mut to = 0;
     for (place, part) in parts.iter().enumerate() {
-        let gap = gaps.get(place).copied().unwrap_or(ONE_SPACE);
-        let text = bytes_of(bytes, part);
-        write_bytes(safe_gap(kind, gap, text[0]), out)?;
-        write_bytes(text, out)?;
-        if out.len() > MOST_BYTES {
-            return Err(LayoutFault::TooLong);
+        let gap = pen.gap_at(place)?;
+        let start = part.start as usize;
+        let before = safe_gap(kind, gap, bytes[start]);
+        if !stands(bytes, to, start, before) {
+            write_bytes(&bytes[from..to], out)?;
+            write_bytes(before, out)?;
+            if out.len() > MOST_BYTES {
+                return Err(LayoutFault::TooLong);
+            }
+            from = start;
         }
+        to = part.end as usize;
         kind = part.kind;
     }
+    write_bytes(&bytes[from..to], out)?;
     write_bytes(b"\n", out)?;
     Ok(())
 }
 
-/// The parts of a text with these gaps before them and a line feed at the end.
+/// The parts of a text with the gaps of a pen before them and a line feed at the end.
 pub(crate) fn written(
     alloc: Global,
     bytes: &[u8],
     parts: &[Part],
-    gaps: &[Gap],
+    pen: &mut Pen<'_>,
 ) -> Result<Vec<u8>, LayoutFault>
     requires { All (LiesIn bytes.now) parts.now }
     ensures pieces { IfOk result (λ v. HasPieces v.items (pieces_of bytes.now parts.now)) }
@@ -142,7 +129,7 @@ pub(crate) fn written(
     ensures fault { (at : ℕ) → result ≡ Err (LayoutFault.BadByte at) → ⊥ }
 {
     let mut out = Vec::with_capacity(alloc, bytes.len())?;
-    write_parts(bytes, parts, gaps, &mut out)?;
+    write_parts(bytes, parts, pen, &mut out)?;
     if out.len() > MOST_BYTES {
         return Err(LayoutFault::TooLong);
     }

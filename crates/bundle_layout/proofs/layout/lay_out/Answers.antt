@@ -9,5 +9,5 @@ returns-clause-bundle c = λ b spells.
     let bytes = c.args.bytes.now in
     let parts = c.in_ok-parts.parts.items in
     let written = c.in_ok-text.text.items in
-    let of_written = subst (λ parts. HasPieces written (pieces_of bytes parts)) c.deref-4.ensures.value c.in_ok-text.ensures.pieces in
+    let of_written = subst (λ parts. HasPieces written (pieces_of bytes parts)) c.deref-5.ensures.value c.in_ok-text.ensures.pieces in
     same_bundle bytes written b (record { pieces = pieces_of bytes parts; of_text = c.in_ok-parts.ensures.pieces; of_other = of_written }) (omega (arith, c.in_ok-text.text.ok.0, c.in_ok-text.ensures.short)) spells
