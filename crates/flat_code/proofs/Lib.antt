@@ -1,2 +1,6 @@
+pub mod LayoutLemmas
+pub mod LevelLemmas
+pub mod HangLemmas
 pub mod PlaceLemmas
 pub mod PartLemmas
+pub mod WayLemmas

@@ -4,7 +4,8 @@ ghost use Rattle.std.specs.Prelude.{◌≡◌, true, length, IfOk, OnErr};
 ghost use Rattle.dioc_terms.specs.Processes.{process};
 ghost use Rattle.flat_code.specs.Codes.{process_of};
 ghost use Rattle.dioc_terms.specs.Parts.{body_of, first_of, has_body, has_two, second_of};
-ghost use Rattle.flat_code.specs.Places.{AreBelow, Extends, IsOpOf, IsProcessAt, are_placed, op_process, part_places, processes};
+ghost use Rattle.flat_code.specs.Layout.{AreAdded, IsAdded, IsPushed, TwoAreAdded};
+ghost use Rattle.flat_code.specs.Places.{AreBelow, Extends, IsProcessAt, are_placed, part_places};
 
 use crate::code::Code;
 use crate::forms::{around, joining, without_parts};
@@ -14,6 +15,7 @@ use std::alloc::Global;
 
 /// The code that stands for a process. Its time and its memory are those of the process's size; the
 /// error is want of memory.
+#[tactic(auto, using(crate::proofs::LayoutLemmas::added_laid))]
 pub fn compile(alloc: Global, proc: &Proc) -> Result<Code, Memory>
     ensures { IfOk result (λ code. process_of code ≡ process proc.now) }
 {
@@ -26,7 +28,7 @@ pub fn compile(alloc: Global, proc: &Proc) -> Result<Code, Memory>
 
 /// Appends the ops of a process to code, and gives the place at which the process stands. The code
 /// keeps its ops and its beginning; the error is want of memory, and then no op was added.
-#[tactic(auto, using(crate::proofs::PlaceLemmas::cut_back, crate::proofs::PlaceLemmas::extends_itself))]
+#[tactic(auto, using(crate::proofs::PlaceLemmas::cut_back, crate::proofs::PlaceLemmas::extends_itself, crate::proofs::LayoutLemmas::laid_still))]
 pub fn link(alloc: Global, code: &mut Code, proc: &Proc) -> Result<usize, Memory>
     ensures appended { Extends code.old.ops.items code.new.ops.items }
     ensures start { code.new.start ≡ code.old.start }
@@ -46,11 +48,13 @@ pub fn link(alloc: Global, code: &mut Code, proc: &Proc) -> Result<usize, Memory
 
 /// Appends the ops of a process, its parts first, and gives the place of the whole.
 #[cycle(compiled)]
+#[tactic(auto, using(crate::proofs::LayoutLemmas::added_pushed))]
 fn add(alloc: Global, proc: &Proc, ops: &mut Vec<Op>) -> Result<usize, Memory>
     requires placed { are_placed 0 ops.old.items ≡ true }
     ensures placed { are_placed 0 ops.new.items ≡ true }
     ensures appended { Extends ops.old.items ops.new.items }
-    ensures stands { IfOk result (λ place. IsProcessAt ops.new.items place (process proc.now)) }
+    ensures added { IfOk result (λ place.
+        IsAdded ops.old.items ops.new.items place (process proc.now)) }
 {
     let op = add_parts(alloc, proc, ops)?;
     push(ops, op)
@@ -62,7 +66,8 @@ fn add_parts(alloc: Global, proc: &Proc, ops: &mut Vec<Op>) -> Result<Op, Memory
     requires placed { are_placed 0 ops.old.items ≡ true }
     ensures placed { are_placed 0 ops.new.items ≡ true }
     ensures appended { Extends ops.old.items ops.new.items }
-    ensures whole { IfOk result (λ op. IsOpOf ops.new.items op (process proc.now)) }
+    ensures added { IfOk result (λ op.
+        AreAdded ops.old.items ops.new.items op (process proc.now)) }
 {
     match proc {
         Proc::Seq(..) | Proc::Par(..) | Proc::IfLead { .. } | Proc::IfFollow { .. } => {
@@ -82,16 +87,14 @@ fn add_parts(alloc: Global, proc: &Proc, ops: &mut Vec<Op>) -> Result<Op, Memory
 
 /// Appends the ops of the two parts of a process, one after the other, and gives their places.
 #[cycle(compiled)]
-#[tactic(auto, using(crate::proofs::PlaceLemmas::keeps_is_at, crate::proofs::PlaceLemmas::extends_through))]
+#[tactic(auto, using(crate::proofs::LayoutLemmas::two_added, crate::proofs::PlaceLemmas::extends_through))]
 fn add_two(alloc: Global, whole: &Proc, ops: &mut Vec<Op>) -> Result<(usize, usize), Memory>
     requires two { has_two (process whole.now) ≡ true }
     requires placed { are_placed 0 ops.old.items ≡ true }
     ensures placed { are_placed 0 ops.new.items ≡ true }
     ensures appended { Extends ops.old.items ops.new.items }
-    ensures first { IfOk result (λ both.
-        IsProcessAt ops.new.items both.0 (first_of (process whole.now))) }
-    ensures second { IfOk result (λ both.
-        IsProcessAt ops.new.items both.1 (second_of (process whole.now))) }
+    ensures added { IfOk result (λ both. TwoAreAdded ops.old.items ops.new.items both.0 both.1
+        (first_of (process whole.now)) (second_of (process whole.now))) }
 {
     match whole {
         Proc::Seq(first, second)
@@ -121,8 +124,8 @@ fn add_body(alloc: Global, whole: &Proc, ops: &mut Vec<Op>) -> Result<usize, Mem
     requires placed { are_placed 0 ops.old.items ≡ true }
     ensures placed { are_placed 0 ops.new.items ≡ true }
     ensures appended { Extends ops.old.items ops.new.items }
-    ensures body { IfOk result (λ place.
-        IsProcessAt ops.new.items place (body_of (process whole.now))) }
+    ensures added { IfOk result (λ place.
+        IsAdded ops.old.items ops.new.items place (body_of (process whole.now))) }
 {
     match whole {
         Proc::WhileLead { body, .. }
@@ -139,8 +142,7 @@ fn push(ops: &mut Vec<Op>, op: Op) -> Result<usize, Memory>
     requires earlier { AreBelow (length ops.old.items) (part_places op) }
     ensures placed { are_placed 0 ops.new.items ≡ true }
     ensures appended { Extends ops.old.items ops.new.items }
-    ensures stands { IfOk result (λ place.
-        IsProcessAt ops.new.items place (op_process (processes ops.old.items) op)) }
+    ensures pushed { IfOk result (IsPushed ops.old.items ops.new.items op) }
 {
     let place = ops.len();
     ops.push(op)?;

@@ -4,8 +4,12 @@
 mod code;
 mod compiled;
 mod forms;
+mod levels;
 mod ops;
+mod plan;
 
 pub use code::Code;
 pub use compiled::{compile, link};
-pub use ops::Op;
+pub use levels::{Level, levels_of};
+pub use ops::{Op, PartPlaces};
+pub use plan::Plan;

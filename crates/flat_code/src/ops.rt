@@ -1,5 +1,11 @@
 //! One op of flat code.
 
+ghost use Rattle.std.specs.Prelude.{◌≡◌, List};
+ghost use Rattle.dioc_terms.specs.Processes.{Process};
+ghost use Rattle.flat_code.specs.Levels.{all_ended, places_of};
+ghost use Rattle.flat_code.specs.Places.{op_process, part_places};
+ghost use Rattle.process_steps.specs.Steps.{ended};
+
 use dioc_terms::{Expr, Index, Keys, Messages, Name, Role, Roles, ScopeHead};
 
 /// One construct of a process, with the places of its parts.
@@ -90,4 +96,47 @@ pub enum Op {
     Gather {
         keys: Keys,
     },
+}
+
+/// The places of the parts of an op.
+#[derive(Clone, Copy)]
+pub enum PartPlaces {
+    Zero,
+    One(usize),
+    Two(usize, usize),
+}
+
+impl Op {
+    /// The places of its parts, from left to right.
+    pub fn parts(&self) -> PartPlaces
+        ensures { places_of result ≡ part_places self.now }
+    {
+        match self {
+            Op::Seq { first, second } => PartPlaces::Two(*first, *second),
+            Op::Par { left, right } => PartPlaces::Two(*left, *right),
+            Op::IfLead { yes, no, .. } | Op::IfFollow { yes, no, .. } => {
+                PartPlaces::Two(*yes, *no)
+            }
+            Op::WhileLead { body, .. }
+            | Op::WhileFollow { body, .. }
+            | Op::ScopeLead { body, .. }
+            | Op::ScopeFollow { body, .. } => PartPlaces::One(*body),
+            _ => PartPlaces::Zero,
+        }
+    }
+
+    /// Whether nothing is left to do of it, where this says whether nothing is left to do of all of
+    /// its parts.
+    pub fn is_ended(&self, parts_ended: bool) -> bool
+        ensures { (done : List Process) → parts_ended ≡ all_ended done (part_places self.now)
+            → result ≡ ended (op_process done self.now) }
+    {
+        match self {
+            Op::Skip => true,
+            Op::Seq { .. } | Op::Par { .. } => parts_ended,
+            Op::Tell { messages } => matches!(messages, Messages::Nothing),
+            Op::Gather { keys } => keys.is_empty(),
+            _ => false,
+        }
+    }
 }

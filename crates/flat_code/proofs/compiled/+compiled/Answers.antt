@@ -1,4 +1,6 @@
-use Rattle.flat_code.proofs.PlaceLemmas.{keeps_is_at}
+use Rattle.dioc_terms.specs.Parts.{first_of, second_of}
+use Rattle.dioc_terms.specs.Processes.{process}
+use Rattle.flat_code.proofs.LayoutLemmas.{added_pushed, two_added}
 use Rattle.std.proofs.lemmas.Grind.{common_steps}
 use Rattle.std.proofs.Common.{rules, arith}
 use Rattle.flat_code.proofs.compiled.+compiled.Goals as goal
@@ -15,9 +17,6 @@ add_body-returns-clause-placed t c = assumption
 pub add_body-returns-clause-appended : goal.add_body-returns-clause-appended
 add_body-returns-clause-appended t c = assumption
 
-pub add_body-returns-clause-body : goal.add_body-returns-clause-body
-add_body-returns-clause-body t c = search rules depth 2
-
 pub add_two-unreachable-requires : goal.add_two-unreachable-requires
 add_two-unreachable-requires t c = search rules depth 2
 
@@ -30,8 +29,16 @@ add_two-returns-clause-placed t c = assumption
 pub add_two-returns-clause-appended : goal.add_two-returns-clause-appended
 add_two-returns-clause-appended t c = grind (arith, common_steps)
 
-pub add_two-returns-clause-first : goal.add_two-returns-clause-first
-add_two-returns-clause-first t c = grind (arith, keeps_is_at)
+pub add-returns-clause-added : goal.add-returns-clause-added
+add-returns-clause-added t c =
+    added_pushed c.push.result c.args.ops.now.items c.add_parts.new.ops.items c.push.new.ops.items c.in_ok-op.op
+    (process c.args.proc.now) c.in_ok-op.ensures.added c.push.ensures.pushed
 
-pub add_two-returns-clause-second : goal.add_two-returns-clause-second
-add_two-returns-clause-second t c = search rules depth 2
+pub add_two-returns-clause-added : goal.add_two-returns-clause-added
+add_two-returns-clause-added t c =
+    two_added c.args.ops.now.items c.add.new.ops.items c.add-in-Seq.new.ops.items
+    c.in_ok-first-in-Seq.first c.in_ok-second-in-Seq.second
+    (first_of (process c.args.whole.now)) (second_of (process c.args.whole.now))
+    (grind (arith, common_steps))
+    c.add-in-Seq.ensures.appended
+    (grind (arith, common_steps))

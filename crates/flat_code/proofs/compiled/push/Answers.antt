@@ -1,4 +1,4 @@
-use Rattle.flat_code.proofs.PlaceLemmas.{placed_push, push_is_at}
+use Rattle.flat_code.proofs.PlaceLemmas.{placed_push}
 use Rattle.std.proofs.Common.{rules, arith}
 use Rattle.flat_code.proofs.compiled.push.Goals as goal
 
@@ -8,14 +8,8 @@ returns-in_err-push-clause-placed c = search rules depth 2
 pub returns-in_err-push-clause-appended : goal.returns-in_err-push-clause-appended
 returns-in_err-push-clause-appended c = search rules depth 2
 
-pub returns-in_err-push-clause-stands : goal.returns-in_err-push-clause-stands
-returns-in_err-push-clause-stands c = search rules depth 2
-
 pub returns-clause-placed : goal.returns-clause-placed
 returns-clause-placed c = grind (arith, placed_push)
 
 pub returns-clause-appended : goal.returns-clause-appended
 returns-clause-appended c = search rules depth 2
-
-pub returns-clause-stands : goal.returns-clause-stands
-returns-clause-stands c = grind (arith, push_is_at)

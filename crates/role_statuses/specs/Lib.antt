@@ -1,0 +1,16 @@
+pub mod Asking
+pub mod FlatLaws
+pub mod Kept
+pub mod KeptTests
+pub mod Laws
+pub mod ListLaws
+pub mod Entering
+pub mod Flat
+pub mod Local
+pub mod Marks
+pub mod Moves
+pub mod PlaceLaws
+pub mod Paths
+pub mod Sound
+pub mod Spots
+pub mod Statuses
