@@ -1,4 +1,5 @@
--- A role over flat code may go to another thread. Its parts are shown one after another, since so many fields are too much for one search.
+-- A role over flat code may go to another thread. Its parts are shown one after another, since so
+-- many fields are too much for one search.
 use denote.Param.Send.{IsSend, sendable}
 use denote.Param.SendFields.{declared_send, variants_send}
 use Rattle.std.proofs.Crossing.{crosses}
@@ -18,15 +19,25 @@ use Rattle.dioc_terms.specs.contracts.processes.Proc as proc
 use Rattle.dioc_terms.specs.contracts.stores.Store as store
 use Rattle.dpoc_process.specs.contracts.growth.Write as write
 use Rattle.flat_code.specs.contracts.code.Code as code
+use Rattle.flat_code.specs.contracts.levels.Level as level
 use Rattle.flat_code.specs.contracts.ops.Op as op
+use Rattle.flat_code.specs.contracts.plan.Plan as plan
 use Rattle.flat_role.proofs.frames.Frame.TheLaws.TheKnot as frame_knot
 use Rattle.flat_role.specs.contracts.frames.Frame as frame
 use Rattle.flat_role.specs.contracts.growth.Follow as follow
 use Rattle.flat_role.specs.contracts.growth.Growth as growth
 use Rattle.flat_role.specs.contracts.growth.Lead as lead
 use Rattle.flat_role.specs.contracts.live_code.LiveCode as live_code
-use Rattle.flat_role.specs.contracts.ready.Ready as ready
+use Rattle.flat_role.specs.contracts.marks.Mark as mark
+use Rattle.flat_role.specs.contracts.marks.Update as update
+use Rattle.flat_role.specs.contracts.progress.Progress as progress
+use Rattle.flat_role.specs.contracts.ready.Ready as update_ready
+use Rattle.flat_role.specs.contracts.replacing.Kind as kind
+use Rattle.flat_role.specs.contracts.replacing.Room as room
 use Rattle.flat_role.specs.contracts.states.FlatRole as flat
+use Rattle.flat_role.specs.contracts.steps.Own as own
+use Rattle.flat_role.specs.contracts.steps.Ready as ready
+use Rattle.flat_role.specs.contracts.steps.Step as step
 
 ruleset parts = (crosses, expr_knot.crosses, messages_knot.crosses, sendable)
 
@@ -94,19 +105,86 @@ growth_sends =
       ),
     )
 
+update_ready_sends : IsSend update_ready.the_row
+update_ready_sends = declared_send update_ready.the_type (
+  search parts depth 60 fits 20000,
+  (
+    search (growth_sends, parts) depth 60 fits 20000,
+    (search (write_sends, parts) depth 60 fits 20000, tt),
+  ),
+)
+
+level_sends : IsSend level.the_row
+level_sends = search parts depth 60 fits 20000
+
+plan_sends : IsSend plan.the_row
+plan_sends = declared_send plan.the_type (
+  search (code_sends, parts) depth 60 fits 20000,
+  (search (level_sends, parts) depth 60 fits 20000, tt),
+)
+
+update_sends : IsSend update.the_row
+update_sends = declared_send update.the_type (
+  search (live_code_sends, parts) depth 60 fits 20000,
+  (search (frame_sends, parts) depth 60 fits 20000, tt),
+)
+
+mark_sends : IsSend mark.the_row
+mark_sends = search (update_sends, parts) depth 60 fits 20000
+
+progress_sends : IsSend progress.the_row
+progress_sends = declared_send progress.the_type (
+  search (mark_sends, parts) depth 60 fits 20000,
+  (search parts depth 60 fits 20000, (search parts depth 60 fits 20000, tt)),
+)
+
+kind_sends : IsSend kind.the_row
+kind_sends = search parts depth 60 fits 20000
+
+room_sends : IsSend room.the_row
+room_sends = declared_send room.the_type (
+  search (kind_sends, parts) depth 60 fits 20000,
+  (
+    search (growth_sends, parts) depth 60 fits 20000,
+    (search (update_sends, parts) depth 60 fits 20000, tt),
+  ),
+)
+
+own_sends : IsSend own.the_row
+own_sends = declared_send own.the_type (
+  search (write_sends, parts) depth 60 fits 20000,
+  (
+    search parts depth 60 fits 20000,
+    (search (room_sends, parts) depth 60 fits 20000, tt),
+  ),
+)
+
+step_sends : IsSend step.the_row
+step_sends = variants_send step.enum (
+  (search (own_sends, parts) depth 60 fits 20000, tt),
+  ((search (update_ready_sends, parts) depth 60 fits 20000, tt), tt),
+)
+
 ready_sends : IsSend ready.the_row
-ready_sends =
-    declared_send ready.the_type
-    (search parts depth 60 fits 20000, (search (growth_sends, parts) depth 60 fits 20000, (search (write_sends, parts) depth 60 fits 20000, tt)))
+ready_sends = declared_send ready.the_type (
+  search parts depth 60 fits 20000,
+  (
+    search parts depth 60 fits 20000,
+    (search (step_sends, parts) depth 60 fits 20000, tt),
+  ),
+)
 
 pub flat_sends : IsSend flat.the_row
 flat_sends = declared_send flat.the_type (
   search parts depth 60 fits 20000,
   (
-    search (live_code_sends, parts) depth 60 fits 20000,
+    search (plan_sends, parts) depth 60 fits 20000,
     (
-      search (frame_sends, parts) depth 60 fits 20000,
-      (search (store_sends, parts) depth 60 fits 20000, (search (ready_sends, parts) depth 60 fits 20000, tt)),
+      search (progress_sends, parts) depth 60 fits 20000,
+      (
+        search (store_sends, parts) depth 60 fits 20000,
+        (search (ready_sends, parts) depth 60 fits 20000, tt),
+      ),
     ),
   ),
 )

@@ -1,41 +1,44 @@
--- What a role over flat code shows, and when it is ready for an act.
-use Rattle.std.specs.Prelude.{◌≡◌, ◌<◌, ℕ, true, Some, length}
+-- What a role over code shows, and when it is ready for an act.
+use Rattle.std.specs.Prelude.{◌≡◌, ◌<◌, ◌+◌, ℕ, List, [], ◌∷◌, Some, length, min}
 use Rattle.dioc_terms.specs.declared.entries.Act.{Act}
 use Rattle.dioc_terms.specs.KeptStores.{store_of, room}
-use Rattle.dioc_terms.specs.Processes.{Process}
-use Rattle.dpoc_process.specs.Acting.{acting}
-use Rattle.dpoc_process.specs.Growth.{value_at}
 use Rattle.dpoc_process.specs.LocalStates.{LocalState}
-use Rattle.flat_code.specs.Places.{processes}
-use Rattle.flat_role.specs.declared.ready.Ready.{Ready}
+use Rattle.flat_role.specs.declared.marks.Mark.{Mark}
+use Rattle.flat_role.specs.declared.marks.Mark.TheVariants as marks
 use Rattle.flat_role.specs.declared.states.FlatRole.{FlatRole}
-use Rattle.flat_role.specs.Frames.{frame_process, is_open}
-use Rattle.flat_role.specs.ReadyParts.{IsReadyFor}
+use Rattle.flat_role.specs.declared.steps.Ready.{Ready}
+use Rattle.flat_role.specs.Progress.{runs_by}
+use Rattle.flat_role.specs.ReadySteps.{IsReadyBy}
 
--- the process that the frames stand for, over the code
-abbrev pub frames_of : FlatRole → Process
-frames_of flat = frame_process (processes flat.code.code.ops.items) flat.frame
+-- how many ops run in the place of the code's own
+abbrev pub update_len : Mark → ℕ
+update_len (marks.Became update) = length update.value.code.code.ops.items
+update_len m = 0
 
--- how many ops there are
+-- the greatest number of a count
+abbrev pub most : ℕ
+most = 18446744073709551615
+
+-- so many, with those of the updates; the greatest number where there are more
+abbrev pub with_updates : ℕ → List Mark → ℕ
+with_updates n [] = n
+with_updates n (m ∷ ms) = with_updates (min (n + update_len m) most) ms
+
+-- how many ops there are, those of updates included
 abbrev pub code_len : FlatRole → ℕ
-code_len flat = length flat.code.code.ops.items
+code_len flat = with_updates (length flat.plan.code.ops.items) flat.progress.marks.items
 
 abbrev pub local_of : FlatRole → LocalState
 local_of flat = record {
   role = flat.role;
-  process = frames_of flat;
+  process = runs_by flat.role flat.plan flat.progress;
   store = store_of flat.store;
 }
 
--- the state keeps what was made ready of the part that does the act, has opened the way to it, and
--- has room for one more variable
+-- the state keeps what was made ready of the place that does the act, and has room for one more
+-- variable
 pub record IsReady (flat : FlatRole) (a : Act) : Type 0 where
   pub ready : Ready
   pub kept : flat.ready ≡ Some ready
-  pub part : Process
-  pub acts : acting flat.role a (frames_of flat) ≡ Some part
-  pub made : IsReadyFor flat.code.code.ops.items flat.role a (value_at (store_of flat.store) part)
-      part
-      ready
-  pub opened : is_open (processes flat.code.code.ops.items) flat.frame ≡ true
+  pub made : IsReadyBy flat.role flat.plan flat.progress (store_of flat.store) a ready
   pub has_room : 0 < room flat.store

@@ -20,12 +20,10 @@ pub record IsReadyFor (ops : List Op) (me : Role) (a : Act) (v : Value) (R : Pro
   pub grows : Grows ops me v R ready.growth
   pub write : write_of ready.write ≡ write_at v R
 
--- what was made ready of the part that does the act, kept at a place, and what is shown of it
+-- what was made ready of the part that does the act, and what is shown of it
 pub record IsMade (ops : List Op) (me : Role) (s : Store) (a : Act) (found : Option Process)
-    (place : Option Ready) (p : Prepared) : Type 0 where
+    (ready : Ready) (p : Prepared) : Type 0 where
   pub part : Process
   pub is_found : found ≡ Some part
-  pub ready : Ready
-  pub kept : place ≡ Some ready
   pub made : IsReadyFor ops me a (value_at s part) part ready
   pub shown : IsPreparedFor me a (value_at s part) part p

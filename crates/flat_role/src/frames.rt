@@ -50,8 +50,7 @@ pub(crate) fn is_ended(code: &LiveCode, frame: &Frame) -> bool
         Frame::Gathering(keys) => keys.is_empty(),
         Frame::Arrived(proc) => has_ended(proc),
         Frame::Seq(first_over, first, second) => {
-            // (Most second parts go on, which is seen at once, while a first part may be deep.)
-            is_ended(code, second) && (*first_over || is_ended(code, first))
+            (*first_over || is_ended(code, first)) && is_ended(code, second)
         }
         Frame::Par(left_over, left, right_over, right) => {
             (*left_over || is_ended(code, left)) && (*right_over || is_ended(code, right))

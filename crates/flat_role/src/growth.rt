@@ -77,19 +77,12 @@ pub(crate) fn growth_at(
         (part_process (processes code.now.code.ops.items) part.entry)) }
 {
     match part {
-        Part::At(place) => match code.op_at(place) {
-            Op::Send { .. } | Op::Recv { .. } | Op::Assign { .. } | Op::Read { .. } => {
-                Ok(Growth::Certain(Frame::Ended))
-            }
-            _ => growth_of(alloc, me, value, code, place),
-        },
+        Part::At(place) => growth_of(alloc, me, value, code, place),
         Part::Telling(_) | Part::Gathering(_) => Ok(Growth::Rest),
     }
 }
 
 /// What is made ready of the op at a place.
-// (Apart, since most ops grow to nothing, and need no room for what others grow to.)
-#[inline(never)]
 #[tactic(auto, using(crate::proofs::FrameLemmas::at_placed, crate::proofs::FrameLemmas::placed_at))]
 fn growth_of(
     alloc: Global,
@@ -316,7 +309,7 @@ fn followed_turn(
 }
 
 /// The begin of a scope: what is told where it keeps its body, and what follows the body.
-fn led_scope(
+pub(crate) fn led_scope(
     alloc: Global,
     me: &Role,
     code: &LiveCode,
@@ -383,7 +376,7 @@ fn leader_end(
 }
 
 /// The begin of a scope that another role leads: what follows the body.
-fn followed_scope(
+pub(crate) fn followed_scope(
     alloc: Global,
     me: &Role,
     index: Index,

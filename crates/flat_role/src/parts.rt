@@ -85,7 +85,7 @@ fn add_put(
 }
 
 /// Adds the act that takes the message of this tag.
-fn add_take(
+pub(crate) fn add_take(
     alloc: Global,
     from: &Role,
     me: &Role,

@@ -53,7 +53,7 @@ pub(crate) fn prepared_at(
 }
 
 /// What is shown of the act that an op does.
-fn prepared_op(
+pub(crate) fn prepared_op(
     alloc: Global,
     me: &Role,
     act: &Act,
@@ -93,7 +93,11 @@ fn prepared_op(
 }
 
 /// What is shown of an act with this entry, and with neither a head nor a message.
-fn prepared_entry(alloc: Global, act: &Act, entry: Option<Entry>) -> Result<Prepared, Memory>
+pub(crate) fn prepared_entry(
+    alloc: Global,
+    act: &Act,
+    entry: Option<Entry>,
+) -> Result<Prepared, Memory>
     ensures act { IfOk result (λ shown. shown.act ≡ act.now) }
     ensures entry { IfOk result (λ shown. shown.entry ≡ entry) }
     ensures head { IfOk result (λ shown. shown.head ≡ None) }
@@ -215,8 +219,8 @@ fn prepared_pick(
     prepared_entry(alloc, act, entry)
 }
 
-/// What is shown of an act by which the role follows what another leads.
-fn prepared_follow(
+/// What is shown of an act by which the role takes an auxiliary message of another.
+pub(crate) fn prepared_follow(
     alloc: Global,
     me: &Role,
     act: &Act,
@@ -277,7 +281,7 @@ fn prepared_tell(
     })
 }
 
-fn prepared_gather(
+pub(crate) fn prepared_gather(
     alloc: Global,
     me: &Role,
     act: &Act,

@@ -1,6 +1,6 @@
 //! What is made ready of an act, and how it is used when the act is done.
 
-ghost use Rattle.std.specs.Prelude.{◌≡◌, ◌<◌, ◌↔◌, true, None, Some, IfOk, IfSome, IsErrOf, OnErr, OnOk, length};
+ghost use Rattle.std.specs.Prelude.{◌≡◌, ◌<◌, ◌↔◌, true, None, Some, IfOk, IsErrOf, OnOk, length};
 ghost use Rattle.std.specs.Option.{is_some};
 ghost use Rattle.dioc_terms.specs.KeptStores.{store_of, room};
 ghost use Rattle.dpoc_process.specs.Acting.{acting};
@@ -19,11 +19,12 @@ use crate::growth::{Growth, grown, growth_at};
 use crate::live_code::LiveCode;
 use crate::offered::{Part, find};
 use crate::prepared::{prepared_at, value_for, write_for};
-use dioc_terms::{Act, Memory, Role, Store, Value};
+use dioc_terms::{Act, Memory, Role, Store, Value, give_up};
 use dpoc_process::growth::Write;
 use dpoc_process::ready::{apply, split};
 use dpoc_process::{Got, PrepareFault, Prepared};
 use std::alloc::Global;
+use std::mem;
 use std::snapshot::Snapshot;
 
 /// What was made ready of an act.
@@ -38,21 +39,18 @@ pub(crate) struct Ready {
 pub(crate) fn clear(place: &mut Option<Ready>)
     ensures { place.new ≡ None }
 {
-    if place.is_some() {
-        let_go(place);
-    }
-}
-
-// (Apart, since nothing was made ready where a step came before.)
-#[inline(never)]
-fn let_go(place: &mut Option<Ready>)
-    ensures { place.new ≡ None }
-{
     drop(place.take());
 }
 
-/// All that the step by an act needs, room for a variable included, which is kept at the place, and
-/// what is shown of it. The frames don't offer the act exactly where the error is `NoAct`.
+/// Keeps what was made ready.
+pub(crate) fn keep_ready(place: &mut Option<Ready>, ready: Ready)
+    ensures { place.new ≡ Some ready }
+{
+    drop(mem::replace(place, Some(ready)));
+}
+
+/// All that the step by an act needs, room for a variable included, and what is shown of it. The
+/// frames don't offer the act exactly where the error is `NoAct`.
 pub(crate) fn make_ready(
     alloc: Global,
     me: &Role,
@@ -60,26 +58,23 @@ pub(crate) fn make_ready(
     frame: &Frame,
     store: &mut Store,
     act: &Act,
-    place: &mut Option<Ready>,
-) -> Result<Prepared, PrepareFault>
+) -> Result<(Ready, Prepared), PrepareFault>
     requires placed { is_placed (length code.now.code.ops.items) frame.now ≡ true }
     requires opened { is_open (processes code.now.code.ops.items) frame.now ≡ true }
-    requires unready { place.old ≡ None }
     ensures same { store_of store.new ≡ store_of store.old }
     ensures has_room { OnOk result (0 < room store.new) }
     ensures no_act { IsErrOf result PrepareFault.NoAct ↔ (acting me.now act.now
         (frame_process (processes code.now.code.ops.items) frame.now) ≡ None) }
-    ensures made { IfOk result (IsMade code.now.code.ops.items me.now (store_of store.old)
+    ensures made { IfOk result (λ made. IsMade code.now.code.ops.items me.now (store_of store.old)
         act.now
         (acting me.now act.now (frame_process (processes code.now.code.ops.items) frame.now))
-        place.new) }
-    ensures unready { OnErr result (place.new ≡ None) }
+        made.0 made.1) }
 {
     match find(me, act, code, frame) {
         None => Err(PrepareFault::NoAct),
         Some(part) => {
             store.reserve(1)?;
-            match made_ready(alloc, me, code, store, act, part, place) {
+            match made_ready(alloc, me, code, store, act, part) {
                 Ok(made) => Ok(made),
                 Err(_) => Err(PrepareFault::Memory),
             }
@@ -87,7 +82,7 @@ pub(crate) fn make_ready(
     }
 }
 
-/// All that the step of a part needs, which is kept at the place, and what is shown of it.
+/// All that the step of a part needs, and what is shown of it.
 fn made_ready(
     alloc: Global,
     me: &Role,
@@ -95,47 +90,40 @@ fn made_ready(
     store: &Store,
     act: &Act,
     part: Part<'_>,
-    place: &mut Option<Ready>,
-) -> Result<Prepared, Memory>
-    requires inside { IsInside (length code.now.code.ops.items) part }
-    requires unready { place.old ≡ None }
-    ensures made { IfOk result (IsMade code.now.code.ops.items me.now (store_of store.now)
-        act.now (Some (part_process (processes code.now.code.ops.items) part.entry)) place.new) }
-    ensures unready { OnErr result (place.new ≡ None) }
+) -> Result<(Ready, Prepared), Memory>
+    requires { IsInside (length code.now.code.ops.items) part }
+    ensures { IfOk result (λ made. IsMade code.now.code.ops.items me.now (store_of store.now)
+        act.now (Some (part_process (processes code.now.code.ops.items) part.entry))
+        made.0 made.1) }
 {
     let value = value_for(alloc, store, code, part)?;
-    keep_ready(alloc, me, code, act, &value, part, place)?;
-    let shown = prepared_at(alloc, me, act, &value, code, part);
-    if shown.is_err() {
-        clear(place);
+    let prepared = prepared_at(alloc, me, act, &value, code, part)?;
+    match ready_at(alloc, me, code, act, &value, part) {
+        Ok(ready) => Ok((ready, prepared)),
+        Err(fault) => give_up(prepared, fault),
     }
-    shown
 }
 
-/// Keeps what is made ready of a part.
-fn keep_ready(
+/// What is made ready of a part.
+fn ready_at(
     alloc: Global,
     me: &Role,
     code: &LiveCode,
     act: &Act,
     value: &Value,
     part: Part<'_>,
-    place: &mut Option<Ready>,
-) -> Result<(), Memory>
+) -> Result<Ready, Memory>
     requires { IsInside (length code.now.code.ops.items) part }
-    ensures kept { OnOk result (IfSome place.new (IsReadyFor code.now.code.ops.items me.now
-        act.now value.now (part_process (processes code.now.code.ops.items) part.entry))) }
-    ensures there { OnOk result (is_some place.new ≡ true) }
-    ensures same { OnErr result (place.new ≡ place.old) }
+    ensures { IfOk result (IsReadyFor code.now.code.ops.items me.now act.now value.now
+        (part_process (processes code.now.code.ops.items) part.entry)) }
 {
     let write = write_for(alloc, value, code, part)?;
     let growth = growth_at(alloc, me, value, code, part)?;
-    *place = Some(Ready {
+    Ok(Ready {
         act: Snapshot::of(act),
         growth,
         write,
-    });
-    Ok(())
+    })
 }
 
 /// Changes the frames and the store by an act for which this was made ready. It takes no memory:

@@ -1,36 +1,46 @@
-//! A role whose process is kept as flat code.
+//! A role that runs over code.
 
-ghost use Rattle.std.specs.Prelude.{◌≡◌, true, IfOk, length};
+ghost use Rattle.std.specs.Prelude.{◌≡◌, ◌≤◌, true, IfOk, length, vec_capacity};
 ghost use Rattle.dioc_terms.specs.KeptStores.{store_of};
-ghost use Rattle.flat_role.specs.Frames.{is_placed};
+ghost use Rattle.flat_code.specs.Codes.{process_of};
+ghost use Rattle.flat_role.specs.PlanMarks.{plan_len};
+ghost use Rattle.flat_role.specs.Progress.{marks_by};
+ghost use Rattle.role_statuses.specs.KeptTests.{is_kept};
+ghost use Rattle.role_statuses.specs.ListLaws.{active};
 
-use crate::frames::{Frame, is_ended};
-use crate::live_code::LiveCode;
-use crate::offered::{add_offers, can_act};
-use crate::opening::settle;
-use crate::ready::{Ready, advance, clear, make_ready};
+use crate::advancing::advance;
+use crate::progress::Progress;
+use crate::readying::make_ready;
+use crate::steps::Ready;
 use dioc_terms::{Act, Memory, Role, Store, give_up};
 use dpoc_process::{Got, PrepareFault, Prepared, Runs};
-use flat_code::Code;
+use flat_code::{Code, Plan};
 use std::alloc::Global;
+use std::mem;
 
-/// A role that runs over flat code: the code, which only grows, by the parts of updates, and frames
-/// that say what is still to be done of it. A step copies nothing of the process.
+/// A role that runs over flat code: the code, which never changes, a mark for each of its places,
+/// and the places that can act. A step writes the mark of the place that acts and those of the
+/// constructs around it that end with it.
 pub struct FlatRole {
     role: Role,
-    code: LiveCode,
-    frame: Frame,
+    plan: Plan,
+    progress: Progress,
     store: Store,
     ready: Option<Ready>,
-    ghost placed: { is_placed (length code.code.ops.items) frame ≡ true },
+    ghost as_long: { length progress.marks.items ≡ plan_len plan },
+    ghost kept: { is_kept role (marks_by role plan progress) (process_of plan.code) ≡ true },
+    ghost listed: { progress.active.items ≡ active role (marks_by role plan progress)
+        (process_of plan.code) },
+    ghost room: { plan_len plan ≤ vec_capacity progress.active },
+    ghost spare: { plan_len plan ≤ vec_capacity progress.fresh },
 }
 
 impl Drop for FlatRole {
     fn drop(self) {
         let FlatRole {
             role: _,
-            code: _,
-            frame: _,
+            plan: _,
+            progress: _,
             store: _,
             ready: _,
         } = self;
@@ -39,35 +49,41 @@ impl Drop for FlatRole {
 
 impl FlatRole {
     ghost use Rattle.dpoc_process.specs.RoleLaws.{local};
-    ghost use Rattle.flat_code.specs.Codes.{process_of};
     ghost use Rattle.flat_role.specs.FlatStates.{code_len, local_of};
 
     /// The role with the process that the code stands for and this store. It notes of each place
-    /// of the code where its live part stands, in memory by the code's length, of which the want is
-    /// the error.
+    /// of the code what is known of it, in memory by the code's length, of which the want is the
+    /// error.
     pub fn new(alloc: Global, role: Role, code: Code, store: Store) -> Result<FlatRole, Memory>
         ensures { IfOk result (λ flat. local_of flat ≡ local role (process_of code)
             (store_of store)) }
     {
-        let frame = Frame::At(code.start);
-        match LiveCode::new(alloc, code) {
-            Ok(code) => Ok(FlatRole {
+        let plan = match Plan::new(alloc, code) {
+            Ok(plan) => plan,
+            Err(fault) => return give_up((role, store), fault),
+        };
+        match Progress::new(alloc, &role, &plan) {
+            Ok(progress) => Ok(FlatRole {
                 role,
-                code,
-                frame,
+                plan,
+                progress,
                 store,
                 ready: None,
             }),
-            Err(fault) => give_up((role, store), fault),
+            Err(fault) => give_up(((role, store), plan), fault),
         }
     }
 
-    /// How many ops the code has: those that it was made with, and those of the parts that were
-    /// linked since. It takes no memory.
+    /// How many ops there are: those of the code that it was made with, and those of the updates
+    /// that run in it; the greatest number where there are more. It takes no memory.
     pub fn code_len(&self) -> usize
         ensures { result ≡ code_len self.now }
     {
-        self.code.code.ops.len()
+        let mut len = self.plan.code.ops.len();
+        for mark in self.progress.marks.as_slice() {
+            len = len.saturating_add(mark.update_len());
+        }
+        len
     }
 }
 
@@ -79,31 +95,26 @@ impl Runs for FlatRole {
     ghost is_ready = { IsReady };
 
     fn acts(&self, alloc: Global) -> Result<Vec<Act>, Memory> {
-        let mut acts = Vec::new(alloc);
-        let _over = add_offers(alloc, &self.role, &self.code, &self.frame, &mut acts)?;
-        Ok(acts)
+        self.progress.acts(alloc, &self.role, &self.plan)
     }
 
     fn prepare(&mut self, alloc: Global, act: &Act) -> Result<Prepared, PrepareFault> {
         clear(&mut self.ready);
-        if is_ended(&self.code, &self.frame) {
-            return Err(PrepareFault::NoAct);
-        }
-        // (Once the frames are open, whether one offers the act shows as its part is looked for.)
-        match settle(alloc, &mut self.code, &mut self.frame) {
-            Ok(()) => make_ready(
-                alloc,
-                &self.role,
-                &self.code,
-                &self.frame,
-                &mut self.store,
-                act,
-                &mut self.ready,
-            ),
-            Err(_) => match can_act(&self.role, act, &self.code, &self.frame) {
-                true => Err(PrepareFault::Memory),
-                false => Err(PrepareFault::NoAct),
-            },
+        match self.progress.find(&self.role, &self.plan, act) {
+            None => Err(PrepareFault::NoAct),
+            Some(at) => {
+                let (ready, prepared) = make_ready(
+                    alloc,
+                    &self.role,
+                    &self.plan,
+                    &mut self.progress,
+                    &mut self.store,
+                    act,
+                    at,
+                )?;
+                keep_ready(&mut self.ready, ready);
+                Ok(prepared)
+            }
         }
     }
 
@@ -111,9 +122,9 @@ impl Runs for FlatRole {
         let ready = self.ready.take().unwrap();
         advance(
             &self.role,
+            &self.plan,
             act,
-            &self.code,
-            &mut self.frame,
+            &mut self.progress,
             &mut self.store,
             ready,
             got,
@@ -121,10 +132,24 @@ impl Runs for FlatRole {
     }
 
     fn is_done(&self) -> bool {
-        is_ended(&self.code, &self.frame)
+        self.progress.is_done(&self.role, &self.plan)
     }
 
     fn store(&self) -> &Store {
         &self.store
     }
+}
+
+/// Lets go of what was made ready.
+fn clear(place: &mut Option<Ready>)
+    ensures { place.new ≡ None }
+{
+    drop(place.take());
+}
+
+/// Keeps what was made ready.
+fn keep_ready(place: &mut Option<Ready>, ready: Ready)
+    ensures { place.new ≡ Some ready }
+{
+    drop(mem::replace(place, Some(ready)));
 }

@@ -3,9 +3,10 @@ use Rattle.std.proofs.Common.{◌≡◌, Some, length, slice_get, refl, sym, ap,
 use Rattle.std.proofs.lemmas.Option.{slice_get_read, slice_get_within}
 use Rattle.dpoc_process.specs.LocalStates.{offered}
 use Rattle.flat_role.specs.FlatStates.{local_of}
+use Rattle.process_steps.specs.Steps.{is_offered}
 use Rattle.role_runner.proofs.EndLemmas.{all_by_place}
 use Rattle.role_runner.proofs.TieLemmas.{if_refused_at, not_yet_is, refused_not_behind}
-use Rattle.role_runner.proofs.TurnLemmas.{looked_through, refused_here, refused_on, tried_next}
+use Rattle.role_runner.proofs.TurnLemmas.{looked_through, offered_in, refused_here, refused_on, tried_next}
 use Rattle.role_runner.specs.Acts.{act_fault}
 use Rattle.role_runner.specs.Ties.{IsRefusedTry, RefusedIn}
 use Rattle.stage.proofs.MetLemmas.{looked_met}
@@ -39,6 +40,16 @@ loop-act-preserved g c =
           (λ a was. refused_on (act_fault a) u v w fault.NotYet was held.looked) c.loop-act.invariant.tried act there
           (refused_here (act_fault act) u v w fault.NotYet c.loop-act.invariant.looked (looked_met v w held.looked) held);
     }
+
+pub try_act-next-requires-clause-offered : goal.try_act-next-requires-clause-offered
+try_act-next-requires-clause-offered g c =
+    let acts = offered (local_of c.args.state.now) in
+    let now = c.as_slice-act-items.result.now in
+    let act = c.act-item.result in
+    let here : now ≡ acts = c.as_slice-act-items.ensures.value ∙ c.in-Ok.ensures in
+    let there : slice_get acts c.loop-act.act-index ≡ Some act =
+    ap (λ l. slice_get l c.loop-act.act-index) (sym here) ∙ slice_get_read now (length now) c.loop-act.act-index act refl c.loop-act-test.true c.act-item.is in
+    ap (λ l. is_offered act (offered l)) c.loop-act.invariant.same ∙ offered_in acts c.loop-act.act-index act there
 
 pub returns-clause-tried : goal.returns-clause-tried
 returns-clause-tried g c = λ _.

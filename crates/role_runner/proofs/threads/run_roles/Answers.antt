@@ -1,5 +1,5 @@
 -- The seats went to threads and came back, and what those left tells how the roles came to their end.
-use Rattle.std.proofs.Common.{◌≡◌, ◌≢◌, ◌↔◌, Some, None, map, take, arith, length, refl}
+use Rattle.std.proofs.Common.{◌≡◌, ◌≢◌, ◌↔◌, Some, None, map, take, arith, length, refl, ap₂, ◌∙◌}
 use Rattle.std.specs.Prelude.{if◌then◌else◌}
 use Rattle.dioc_terms.specs.Plain.{plain}
 use Rattle.role_runner.proofs.EndLemmas.{ended_exactly, limit_exactly, told_if}
@@ -38,7 +38,10 @@ returns-clause-went g c =
 pub returns-clause-ended : goal.returns-clause-ended
 returns-clause-ended g c =
     let told = ending_in c.args.limit (take (length c.args.bundle.now.cast) c.run_jobs-jobs.result.0.items) in
-    let is : c.ending_if-ending.result ≡ (if c.run_jobs-jobs.result.1 then Some told else None) = cc in
+    let is : c.ending_if-ending.result ≡ (if c.run_jobs-jobs.result.1 then Some told else None) =
+    c.ending_if-ending.ensures
+    ∙ ap₂ (λ n jobs. if c.run_jobs-jobs.result.1 then Some (ending_in c.args.limit (take n jobs)) else None)
+    c.len-2.ensures c.as_slice.ensures.value in
     told_if (λ (e : Ending). e ≢ ending.Memory → ((e ≡ ending.Ended) ↔ AllEnded (plain c.args.bundle.now) (map view c.close_jobs.result.items))) c.run_jobs-jobs.result.1 c.ending_if-ending.result told is (λ (enough : told ≢ ending.Memory).
     ended_exactly c.args.stage.now (plain c.args.bundle.now) c.args.limit c.run_jobs-jobs.result.0.items (map view c.close_jobs.result.items)
     (were_left c.args.stage.now (plain c.args.bundle.now) c.args.limit c.args.seats.items c.requires.of c.requires.fresh c.run_jobs-jobs.result.0.items c.run_jobs-jobs.ensures.all c.run_jobs-jobs.ensures.ends
@@ -48,7 +51,10 @@ returns-clause-ended g c =
 pub returns-clause-limit : goal.returns-clause-limit
 returns-clause-limit g c =
     let told = ending_in c.args.limit (take (length c.args.bundle.now.cast) c.run_jobs-jobs.result.0.items) in
-    let is : c.ending_if-ending.result ≡ (if c.run_jobs-jobs.result.1 then Some told else None) = cc in
+    let is : c.ending_if-ending.result ≡ (if c.run_jobs-jobs.result.1 then Some told else None) =
+    c.ending_if-ending.ensures
+    ∙ ap₂ (λ n jobs. if c.run_jobs-jobs.result.1 then Some (ending_in c.args.limit (take n jobs)) else None)
+    c.len-2.ensures c.as_slice.ensures.value in
     told_if (λ (e : Ending). e ≢ ending.Memory → ((e ≡ ending.Limit) ↔ SomeCut (plain c.args.bundle.now) c.args.limit (map view c.close_jobs.result.items))) c.run_jobs-jobs.result.1 c.ending_if-ending.result told is (λ (enough : told ≢ ending.Memory).
     limit_exactly c.args.stage.now (plain c.args.bundle.now) c.args.limit c.run_jobs-jobs.result.0.items (map view c.close_jobs.result.items)
     (were_left c.args.stage.now (plain c.args.bundle.now) c.args.limit c.args.seats.items c.requires.of c.requires.fresh c.run_jobs-jobs.result.0.items c.run_jobs-jobs.ensures.all c.run_jobs-jobs.ensures.ends

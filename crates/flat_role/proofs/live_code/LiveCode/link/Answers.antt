@@ -1,6 +1,7 @@
 -- What is known is of all ops again, also where memory ran out.
-use Rattle.std.proofs.Common.{◌≡◌, ◌<◌, ◌+◌, ◌-◌, [], true, length, take, drop, sym, ap, ap₂, ◌∙◌, subst, arith}
+use Rattle.std.proofs.Common.{◌≡◌, ◌<◌, ◌+◌, ◌-◌, [], true, length, take, drop, sym, ap, ap₂, ◌∙◌, subst, append-nil, arith}
 use Rattle.flat_code.proofs.PlaceLemmas.{cut_back}
+use Rattle.flat_code.specs.Layout.{IsLaid}
 use Rattle.flat_code.specs.Places.{are_placed}
 use Rattle.flat_role.proofs.LiveLemmas.{behind, length_lives, lives_append, placed_behind}
 use Rattle.flat_role.specs.LivePlaces.{lives_from, lives_of}
@@ -52,7 +53,11 @@ invariant_of-self-in-Err c =
         (
           subst (λ x. c.link.new.code.start < length x) (sym same)
               (subst (λ n. n < length old) (sym c.link.ensures.start) c.args.self.now.code.starts),
-          tt,
+          (
+            subst (λ x. IsLaid x c.link.new.code.start) (sym same)
+                (subst (λ n. IsLaid old n) (sym c.link.ensures.start) c.args.self.now.code.laid),
+            tt,
+          ),
         ),
       ),
       (
@@ -61,4 +66,15 @@ invariant_of-self-in-Err c =
             ∙ (c.in-Err.ensures.front ∙ (c.args.self.now.known ∙ ap lives_of (sym same)))),
         tt,
       ),
+    )
+
+pub returns-in-Err-clause-appended : goal.returns-in-Err-clause-appended
+returns-in-Err-clause-appended c =
+    let old = c.args.self.now.code.ops.items in
+    let new = c.link.new.code.ops.items in
+    let before : c.len-before.result ≡ length old = omega (arith, c.len-before.ensures) in (
+      [],
+      c.truncate-in-Err.ensures.items
+          ∙ (ap (λ n. take n new) before
+          ∙ (cut_back old new c.link.ensures.appended ∙ sym (append-nil old))),
     )

@@ -1,72 +1,66 @@
--- What is made ready is of the part that does the act, which is there exactly where the process
--- offers the act. Settling the frames keeps the process, also where memory runs out.
-use Rattle.std.proofs.Common.{◌≡◌, true, false, refl, sym, ap, ◌∙◌}
-use Rattle.std.proofs.lemmas.Result.{IfOk-weaker}
-use Rattle.std.specs.Option.{is_some}
-use Rattle.dioc_terms.specs.KeptStores.{store_of}
-use Rattle.dioc_terms.specs.Processes.{Process}
-use Rattle.dpoc_process.proofs.ActingLemmas.{acting-offered}
-use Rattle.dpoc_process.proofs.StateLemmas.{not_offered, acting_nowhere, shows-prepared}
-use Rattle.dpoc_process.specs.Acting.{acting}
-use Rattle.dpoc_process.specs.RoleLaws.{local}
-use Rattle.dpoc_process.specs.RoleSteps.{IsPrepared}
-use Rattle.flat_code.specs.Places.{processes}
-use Rattle.flat_role.proofs.FrameLemmas.{over_offers}
-use Rattle.flat_role.specs.FlatStates.{frames_of}
-use Rattle.flat_role.specs.Frames.{frame_process}
-use Rattle.flat_role.specs.ReadyParts.{IsMade}
-use Rattle.process_steps.specs.Steps.{ended, offers, is_offered}
+-- A place that offers the act is found exactly where the process offers it. What is made ready
+-- there leaves the process as it is.
+use Rattle.std.proofs.Common.{◌≡◌, true, false, get_or, refl, sym, ◌∙◌, Result, Ok, Err}
+use Rattle.std.specs.Prelude.{IsErrAnd, IsErrOf}
+use Rattle.dpoc_process.specs.declared.runs.PrepareFault.{PrepareFault}
+use Rattle.dpoc_process.specs.declared.runs.PrepareFault.TheVariants.{Memory as no_memory, NoAct}
+use Rattle.flat_code.specs.Codes.{process_of}
+use Rattle.flat_role.specs.Progress.{marks_by, runs_by}
+use Rattle.flat_role.proofs.FlatLemmas.{is-progress}
+use Rattle.flat_role.proofs.FoundLemmas.{found-offered}
+use Rattle.process_steps.specs.Steps.{is_offered, offers}
+use Rattle.role_statuses.proofs.KeptTestLemmas.{kept-is_tested}
 use Rattle.flat_role.proofs.states.FlatRoleRuns.prepare.Goals as goal
 
-pub returns-then-is_ended-clause-no_act : goal.returns-then-is_ended-clause-no_act
-returns-then-is_ended-clause-no_act c =
-    let me = c.args.self.now.role in
-    let a = c.args.act.now in
-    let P = frames_of c.args.self.now in
-    let over : ended P ≡ true = sym c.is_ended.ensures ∙ c.if-is_ended.true in
-    let none : is_offered a (offers me P) ≡ false = ap (is_offered a) (over_offers me P over) in
-    (λ fault. none, λ none. refl)
+pub find-requires : goal.find-requires
+find-requires c = is-progress c.args.self.now
 
-pub returns-in-Ok-clause-no_act : goal.returns-in-Ok-clause-no_act
-returns-in-Ok-clause-no_act c =
-    let me = c.args.self.now.role in
+pub make_ready-requires-clause-progress : goal.make_ready-requires-clause-progress
+make_ready-requires-clause-progress c = is-progress c.args.self.now
+
+pub invariant_of-self-in-Break-1 : goal.invariant_of-self-in-Break-1
+invariant_of-self-in-Break-1 c =
+    let flat = c.args.self.now in
+    let is = c.make_ready.ensures.progress in
+    record {
+      as_long = is.as_long;
+      kept = kept-is_tested.said flat.role (marks_by flat.role flat.plan c.make_ready.new.progress)
+          (process_of flat.plan.code) is.kept;
+      listed = is.listed;
+      room = is.room;
+      spare = is.spare;
+    }
+
+pub invariant_of-self-in-Some : goal.invariant_of-self-in-Some
+invariant_of-self-in-Some c =
+    let flat = c.args.self.now in
+    let is = c.make_ready.ensures.progress in
+    record {
+      as_long = is.as_long;
+      kept = kept-is_tested.said flat.role (marks_by flat.role flat.plan c.make_ready.new.progress)
+          (process_of flat.plan.code) is.kept;
+      listed = is.listed;
+      room = is.room;
+      spare = is.spare;
+    }
+
+-- no error is of two kinds
+never_both : {T : Type 0} (r : Result T PrepareFault) → IsErrAnd r (λ e. e ≡ no_memory)
+    → IsErrOf r NoAct → ⊥
+never_both (Ok x) memory no_act = absurd memory
+never_both (Err e) memory no_act = cc
+
+not_both : true ≡ false → ⊥
+not_both e = cc
+
+pub returns-in_err-ready-in-Some-clause-no_act : goal.returns-in_err-ready-in-Some-clause-no_act
+returns-in_err-ready-in-Some-clause-no_act c =
+    let flat = c.args.self.now in
     let a = c.args.act.now in
-    let P = frames_of c.args.self.now in
-    let same = ap (acting me a) c.settle.ensures.same in (
-      λ fault. not_offered me a P (sym same ∙ c.make_ready.ensures.no_act.0 fault),
-      λ none. c.make_ready.ensures.no_act.1 (same ∙ acting_nowhere me a P none),
+    let offered : is_offered a (offers flat.role (runs_by flat.role flat.plan flat.progress)) ≡ true =
+    found-offered flat.role flat.plan flat.progress (is-progress flat) a c.in-Some.at
+    (get_or flat.progress.active.items c.in-Some.at 0)
+    (c.in-Some.ensures.found c.in-Some.at refl) in (
+      λ fault. absurd (never_both c.from_residual.result c.from_residual.ensures.1 fault),
+      λ none. absurd (not_both (sym offered ∙ none)),
     )
-
-pub returns-in-Ok-clause-shown : goal.returns-in-Ok-clause-shown
-returns-in-Ok-clause-shown c =
-    let me = c.args.self.now.role in
-    let a = c.args.act.now in
-    let s = store_of c.args.self.now.store in
-    let P = frames_of c.args.self.now in
-    let ops = c.settle.new.code.code.ops.items in
-    let Q : Process = frame_process (processes ops) c.settle.new.frame in
-    IfOk-weaker c.make_ready.result (IsMade ops me s a (acting me a Q) c.make_ready.new.place)
-    (IsPrepared (local me P s) a)
-    (λ shown made. shows-prepared me s a P
-    (ap (acting me a) (sym c.settle.ensures.same) ∙ made.is_found) made.shown)
-    c.make_ready.ensures.made
-
-pub returns-in-true-clause-no_act : goal.returns-in-true-clause-no_act
-returns-in-true-clause-no_act c =
-    let me = c.args.self.now.role in
-    let a = c.args.act.now in
-    let P = frames_of c.args.self.now in
-    let same = ap (acting me a) c.settle.ensures.same in
-    let offered : is_offered a (offers me P) ≡ true = sym (acting-offered me a P)
-    ∙ (ap is_some (sym same) ∙ (sym c.can_act.ensures ∙ c.in-true.is)) in
-    (λ fault. cc, λ none. cc)
-
-pub returns-in-false-clause-no_act : goal.returns-in-false-clause-no_act
-returns-in-false-clause-no_act c =
-    let me = c.args.self.now.role in
-    let a = c.args.act.now in
-    let P = frames_of c.args.self.now in
-    let same = ap (acting me a) c.settle.ensures.same in
-    let none : is_offered a (offers me P) ≡ false = sym (acting-offered me a P)
-    ∙ (ap is_some (sym same) ∙ (sym c.can_act.ensures ∙ c.in-false.is)) in
-    (λ fault. none, λ none. refl)

@@ -1,0 +1,62 @@
+-- A place in which another process comes: a scope that an update replaces, and a tell once its
+-- first message is put.
+use Rattle.std.specs.Prelude.{◌≡◌, Bool, true, false, Option, None, Some}
+use Rattle.dioc_terms.specs.declared.names.Role.{Role}
+use Rattle.dioc_terms.specs.Processes.{Process, Skip, ScopeLead, ScopeFollow, Tell, More, Part}
+use Rattle.dpoc_process.specs.Changes.{Becomes}
+use Rattle.dpoc_process.specs.Growth.{follower_end, leader_end}
+use Rattle.dpoc_process.specs.Handed.{Handed, Message, Parted}
+use Rattle.flat_code.specs.Places.{processes}
+use Rattle.flat_role.specs.declared.marks.Mark.{Mark as KeptMark}
+use Rattle.flat_role.specs.declared.marks.Mark.TheVariants as kept
+use Rattle.flat_role.specs.declared.replacing.Kind.{Kind}
+use Rattle.flat_role.specs.declared.replacing.Kind.TheVariants as kind
+use Rattle.flat_role.specs.declared.replacing.Room.{Room}
+use Rattle.flat_role.specs.Growths.{flat_grown}
+use Rattle.process_steps.specs.Steps.{after, telling}
+
+-- its first act may put another process in its place
+abbrev pub is_replaced : Process → Bool
+is_replaced (ScopeLead head others P) = true
+is_replaced (ScopeFollow i leader P) = true
+is_replaced (Tell (More k l ms)) = true
+is_replaced R = false
+
+-- its first act does so, by what comes with it
+abbrev pub replaces : Process → Handed → Bool
+replaces (ScopeLead head others P) (Parted own ms) = true
+replaces (ScopeFollow i leader P) (Message (Part n Q)) = true
+replaces (Tell (More k l ms)) h = true
+replaces R h = false
+
+-- what runs in its place then
+abbrev pub replacing : Role → Process → Handed → Process
+replacing me (ScopeLead head others P) (Parted own ms) =
+    after (telling ms) (after own (leader_end me others head.index))
+replacing me (ScopeFollow i leader P) (Message (Part n Q)) = after Q (follower_end me leader i)
+replacing me (Tell (More k l ms)) h = telling ms
+replacing me R h = Skip
+
+-- what there is room for comes with the act
+abbrev pub comes : Kind → Handed → Bool
+comes kind.Leads (Parted own ms) = true
+comes kind.Follows (Message (Part n Q)) = true
+comes kind.Tells h = true
+comes k h = false
+
+-- all that the process in the place of R needs
+pub record IsRoom (me : Role) (R : Process) (room : Room) : Type 0 where
+  pub grows : (h : Handed) → replaces R h ≡ true
+      → flat_grown (processes room.update.value.code.code.ops.items) room.growth h
+      ≡ Becomes (replacing me R h)
+  pub when : (h : Handed) → comes room.kind h ≡ replaces R h
+
+-- there is room exactly where another process may come
+abbrev pub IsRoomFor : Role → Process → Option Room → Type 0
+IsRoomFor me R None = is_replaced R ≡ false
+IsRoomFor me R (Some room) = IsRoom me R room
+
+-- and only for the first act
+abbrev pub IsRoomAt : Role → KeptMark → Process → Option Room → Type 0
+IsRoomAt me kept.Untouched P room = IsRoomFor me P room
+IsRoomAt me m P room = room ≡ None

@@ -1,0 +1,254 @@
+//! An act that is done.
+
+ghost use Rattle.std.specs.Prelude.{◌≡◌, ◌≢◌, ◌<◌, ◌≤◌, ◌+◌, ◌++◌, ℕ, true, None, IfSome, drop, length, take, vec_capacity};
+ghost use Rattle.dioc_terms.specs.declared.entries.Act.{Act as OneAct};
+ghost use Rattle.dioc_terms.specs.declared.names.Role.{Role as RoleName};
+ghost use Rattle.dioc_terms.specs.KeptStores.{store_of, room};
+ghost use Rattle.dioc_terms.specs.Stores.{Store as Spec};
+ghost use Rattle.dpoc_process.specs.Growth.{handed_value, with_written};
+ghost use Rattle.dpoc_process.specs.Handed.{Brings, IsEnabled, handed};
+ghost use Rattle.dpoc_process.specs.KeptGrowth.{write_of};
+ghost use Rattle.dpoc_process.specs.RoleLaws.{local};
+ghost use Rattle.dpoc_process.specs.RoleSteps.{IsStep};
+ghost use Rattle.flat_role.specs.Advancing.{ComesTo, IsActed, IsActingBy, IsGoing, IsReplacedBy, IsUpdateAt, IsUpdatedIn, entered_places, mark_in};
+ghost use Rattle.flat_role.specs.PlanMarks.{plan_len, static_at};
+ghost use Rattle.flat_role.specs.Progress.{IsFound, IsProgress, runs_by};
+ghost use Rattle.flat_role.specs.ReadySteps.{IsReadyBy, IsStepFor};
+ghost use Rattle.flat_role.specs.Replacing.{IsRoom, replaces, replacing};
+ghost use Rattle.process_steps.specs.Steps.{Deed, Given};
+ghost use Rattle.role_statuses.specs.Statuses.{Status, Became};
+
+use crate::active::give_way;
+use crate::climbing::{climb, write};
+use crate::entering::enter;
+use crate::frames::is_ended;
+use crate::marks::{Mark, Update};
+use crate::moved::moved;
+use crate::progress::Progress;
+use crate::ready::{Ready as UpdateReady, advance as advance_update};
+use crate::replacing::Room;
+use crate::steps::{Own, Ready, Step};
+use dioc_terms::{Act, Role, Store};
+use dpoc_process::Got;
+use dpoc_process::growth::Write;
+use dpoc_process::ready::{apply, split};
+use flat_code::Plan;
+
+/// Does the act for which this was made ready, with what comes with it. It takes no memory: there is
+/// room for one more variable.
+pub(crate) fn advance(
+    me: &Role,
+    plan: &Plan,
+    act: &Act,
+    progress: &mut Progress,
+    store: &mut Store,
+    ready: Ready,
+    got: Got,
+)
+    requires progress { IsProgress me.now plan.now progress.old }
+    requires ready { IsReadyBy me.now plan.now progress.old (store_of store.old) act.now ready }
+    requires has_room { 0 < room store.old }
+    requires can { IsEnabled (local me.now (runs_by me.now plan.now progress.old)
+        (store_of store.old)) act.now (handed got) }
+    ensures progress { IsProgress me.now plan.now progress.new }
+    ensures steps { (given : Given) → Brings (local me.now (runs_by me.now plan.now progress.old)
+        (store_of store.old)) act.now (handed got) given → IsStep (local me.now
+        (runs_by me.now plan.now progress.old) (store_of store.old)) act.now given (local me.now
+        (runs_by me.now plan.now progress.new) (store_of store.new)) }
+{
+    let Ready { at, step, .. } = ready;
+    let place = progress.active[at];
+    let over = act_at(me, plan, act, progress, store, place, (step, got));
+    let stop = climb(me, plan, &mut progress.marks, place, over);
+    go_on(me, plan, progress, at, stop);
+}
+
+/// Does the act at the place, and writes its mark alone. The answer is whether nothing is left to do
+/// there.
+fn act_at(
+    me: &Role,
+    plan: &Plan,
+    act: &Act,
+    progress: &mut Progress,
+    store: &mut Store,
+    place: usize,
+    by: (Step, Got),
+) -> bool
+    requires progress { IsProgress me.now plan.now progress.old }
+    requires has_room { 0 < room store.old }
+    requires can { IsEnabled (local me.now (runs_by me.now plan.now progress.old)
+        (store_of store.old)) act.now (handed by.1) }
+    requires found { (at : ℕ) × IsFound me.now plan.now progress.old act.now at place }
+    requires ready { IsStepFor me.now (store_of store.old) act.now
+        (mark_in progress.old.marks.items place) (static_at plan.now place) by.0 }
+    ensures as_long { length progress.new.marks.items ≡ plan_len plan.now }
+    ensures active { progress.new.active ≡ progress.old.active }
+    ensures fresh { progress.new.fresh ≡ progress.old.fresh }
+    ensures acted { IsActed me.now plan.now progress.old (store_of store.old) (store_of store.new)
+        act.now (handed by.1) place progress.new.marks.items result }
+{
+    let (step, got) = by;
+    match step {
+        Step::Own(own) => do_own(plan, &mut progress.marks, place, store, own, got),
+        Step::Updated(ready) => {
+            do_updated(me, act, &mut progress.marks, place, store, ready, got)
+        }
+    }
+}
+
+/// Puts the places that can act where it goes on in the place of the one that acted.
+fn go_on(me: &Role, plan: &Plan, progress: &mut Progress, at: usize, stop: Option<usize>)
+    requires as_long { length progress.old.marks.items ≡ plan_len plan.now }
+    requires inside { at < length progress.old.active.items }
+    requires stops { IfSome stop (λ place. place < plan_len plan.now) }
+    requires spare { length (entered_places me.now plan.now progress.old.marks.items stop)
+        ≤ vec_capacity progress.old.fresh }
+    requires room { length progress.old.active.items
+        + length (entered_places me.now plan.now progress.old.marks.items stop)
+        ≤ vec_capacity progress.old.active + 1 }
+    ensures same { progress.new.marks ≡ progress.old.marks }
+    ensures listed { progress.new.active.items ≡ take at progress.old.active.items
+        ++ (entered_places me.now plan.now progress.old.marks.items stop
+        ++ drop (at + 1) progress.old.active.items) }
+    ensures room { vec_capacity progress.new.active ≡ vec_capacity progress.old.active }
+    ensures spare { vec_capacity progress.new.fresh ≡ vec_capacity progress.old.fresh }
+{
+    progress.fresh.clear();
+    if let Some(stop) = stop {
+        if !matches!(progress.marks[stop], Mark::Both(_, _)) {
+            enter(
+                me,
+                plan,
+                progress.marks.as_slice(),
+                stop,
+                &mut progress.fresh,
+            );
+        }
+    }
+    give_way(&mut progress.active, at, progress.fresh.as_slice());
+}
+
+/// Does an act of the code at a place. The answer is whether nothing is left to do there.
+fn do_own(
+    plan: &Plan,
+    marks: &mut Vec<Mark>,
+    place: usize,
+    store: &mut Store,
+    own: Own,
+    got: Got,
+) -> bool
+    requires inside { place < plan_len plan.now }
+    requires as_long { length marks.old.items ≡ plan_len plan.now }
+    requires has_room { 0 < room store.old }
+    ensures as_long { length marks.new.items ≡ plan_len plan.now }
+    ensures moved { (me : RoleName) (a : OneAct) (d : Deed) (y : Status) →
+        IsActingBy me plan.now marks.old.items place (store_of store.old) own (handed got) a d y →
+        ComesTo me plan.now marks.old.items marks.new.items place result y
+        × (store_of store.new ≡ with_written (write_of own.write) (handed_value (handed got))
+        (store_of store.old)) }
+    ensures replaced { (me : RoleName) → IsReplacedBy me plan.now marks.old.items place own
+        (handed got) → ComesTo me plan.now marks.old.items marks.new.items place result
+        (Became (replacing me (static_at plan.now place) (handed got)))
+        × (store_of store.new ≡ with_written (write_of own.write) None (store_of store.old)) }
+{
+    let Own {
+        write: written,
+        pick,
+        room,
+    } = own;
+    match room {
+        Some(room) => {
+            if room.is_for(&got) {
+                return put_other(plan, marks, place, store, (written, room), got);
+            }
+            drop(room);
+            go_on_itself(plan, marks, place, store, (written, pick), got)
+        }
+        None => go_on_itself(plan, marks, place, store, (written, pick), got),
+    }
+}
+
+/// Puts another process in the place.
+#[inline(never)]
+fn put_other(
+    plan: &Plan,
+    marks: &mut Vec<Mark>,
+    place: usize,
+    store: &mut Store,
+    by: (Write, Room),
+    got: Got,
+) -> bool
+    requires inside { place < plan_len plan.now }
+    requires as_long { length marks.old.items ≡ plan_len plan.now }
+    requires has_room { 0 < room store.old }
+    ensures as_long { length marks.new.items ≡ plan_len plan.now }
+    ensures stored { store_of store.new ≡ with_written (write_of by.0) None (store_of store.old) }
+    ensures put { (me : RoleName) → IsRoom me (static_at plan.now place) by.1 →
+        replaces (static_at plan.now place) (handed got) ≡ true →
+        ComesTo me plan.now marks.old.items marks.new.items place result
+        (Became (replacing me (static_at plan.now place) (handed got))) }
+{
+    let (written, room) = by;
+    apply(store, written, None);
+    let (mark, over) = room.filled(got);
+    write(plan, marks, place, mark);
+    over
+}
+
+/// The place goes on itself.
+fn go_on_itself(
+    plan: &Plan,
+    marks: &mut Vec<Mark>,
+    place: usize,
+    store: &mut Store,
+    by: (Write, bool),
+    got: Got,
+) -> bool
+    requires inside { place < plan_len plan.now }
+    requires as_long { length marks.old.items ≡ plan_len plan.now }
+    requires has_room { 0 < room store.old }
+    ensures as_long { length marks.new.items ≡ plan_len plan.now }
+    ensures stored { store_of store.new ≡ with_written (write_of by.0) (handed_value (handed got))
+        (store_of store.old) }
+    ensures moved { (me : RoleName) (s : Spec) (a : OneAct) (d : Deed) (y : Status) →
+        IsGoing me plan.now marks.old.items place s by.1 (handed got) a d y →
+        ComesTo me plan.now marks.old.items marks.new.items place result y }
+{
+    let (written, pick) = by;
+    let (mark, over) = moved(plan, place, &marks[place], pick, &got);
+    write(plan, marks, place, mark);
+    let (value, rest) = split(got);
+    drop(rest);
+    apply(store, written, value);
+    over
+}
+
+/// Does an act of an update at a place. The answer is whether nothing is left to do there.
+#[inline(never)]
+fn do_updated(
+    me: &Role,
+    act: &Act,
+    marks: &mut Vec<Mark>,
+    place: usize,
+    store: &mut Store,
+    ready: UpdateReady,
+    got: Got,
+) -> bool
+    requires inside { place < length marks.old.items }
+    requires has_room { 0 < room store.old }
+    requires ready { IsUpdateAt me.now (store_of store.old) act.now
+        (mark_in marks.old.items place) ready }
+    ensures changed { IsUpdatedIn me.now act.now (handed got) marks.old.items marks.new.items place
+        ready result }
+    ensures stored { store_of store.new ≡ with_written (write_of ready.write)
+        (handed_value (handed got)) (store_of store.old) }
+{
+    match &mut marks[place] {
+        Mark::Became(update) => {
+            let Update { code, frame } = &mut **update;
+            advance_update(me, act, code, frame, store, ready, got);
+            is_ended(code, frame)
+        }
+        _ => unreachable!(),
+    }
+}

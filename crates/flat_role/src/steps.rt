@@ -1,0 +1,34 @@
+//! What was made ready of an act.
+
+use crate::ready::Ready as UpdateReady;
+use crate::replacing::Room;
+use dioc_terms::Act;
+use dpoc_process::growth::Write;
+use std::snapshot::Snapshot;
+
+/// What was made ready of an act.
+#[derive(Drop)]
+pub(crate) struct Ready {
+    pub act: Snapshot<Act>,
+    /// Where the place that does it stands among those that can act.
+    pub at: usize,
+    pub step: Step,
+}
+
+/// Whose act it is.
+#[derive(Drop)]
+pub(crate) enum Step {
+    /// One of the code's.
+    Own(Own),
+    /// One of an update's.
+    Updated(UpdateReady),
+}
+
+/// What is made ready of an act of the code: what it writes, what a leader picks, and for the begin
+/// of a scope room for an update.
+#[derive(Drop)]
+pub(crate) struct Own {
+    pub write: Write,
+    pub pick: bool,
+    pub room: Option<Room>,
+}
