@@ -167,8 +167,7 @@ impl<R: Runs> Net<R> {
     pub fn is_ended(&self) -> bool
         ensures { result ≡ network_ended self.now.bundle.cast (network_of self.now) }
     {
-        let done = all_done(self.roles.as_slice());
-        self.mail.len() == 0 && done
+        self.mail.len() == 0 && all_done(self.roles.as_slice())
     }
 
     /// Whether the process of a role of the cast has ended. Its messages may still be pending. It

@@ -1,7 +1,7 @@
 //! The parts of a step: where a role is, the room that a step needs, and what it does to a role,
 //! the mail and the history.
 
-ghost use Rattle.std.specs.Prelude.{◌≡◌, ◌<◌, ◌≤◌, ℕ, List, true, false, Option, None, Some, IsSome, IfErr, IfOk, OnErr, OnOk, length, map};
+ghost use Rattle.std.specs.Prelude.{◌≡◌, ◌<◌, ◌≤◌, ℕ, List, true, false, Option, None, Some, IsSome, IfErr, OnErr, OnOk, length, map};
 ghost use Rattle.std.specs.Option.{option_map};
 ghost use Rattle.std.specs.List.{list_all, position};
 ghost use Rattle.dioc_terms.specs.declared.entries.Act.TheVariants as acts;
@@ -71,32 +71,6 @@ pub(crate) fn make_room(mail: &mut Mail, history: &mut History) -> Result<(), Me
 {
     history.reserve(1)?;
     mail.reserve(1)
-}
-
-/// Makes a role ready for an act whose message is there, and shows what is known of it.
-pub(crate) fn make_ready<R: Runs>(
-    alloc: Global,
-    state: &mut R,
-    mail: &Mail,
-    act: &Act,
-) -> Result<Prepared, StepFault>
-    ensures same { R.local state.new ≡ R.local state.old }
-    ensures ready { OnOk result (R.is_ready state.new act.now) }
-    ensures there { OnOk result (is_there act.now mail.now ≡ true) }
-    ensures shown { IfOk result (IsPrepared (R.local state.old) act.now) }
-    ensures refused { IfErr result (ReadyFault (R.local state.old) mail.now act.now) }
-{
-    match state.prepare(alloc, act) {
-        Ok(prepared) => {
-            if is_there(mail, act) {
-                return Ok(prepared);
-            }
-            drop(prepared);
-            Err(StepFault::NotYet)
-        }
-        Err(PrepareFault::NoAct) => Err(StepFault::NoAct),
-        Err(PrepareFault::Memory) => Err(StepFault::Memory),
-    }
 }
 
 /// Whether what the act needs is there: every act but a take whose message isn't pending.
@@ -211,17 +185,25 @@ fn do_act<R: Runs>(
     ensures same_updates { OnErr result (updates.new ≡ updates.old) }
     ensures same_history { OnErr result (history.new ≡ history.old) }
 {
-    let prepared = make_ready(alloc, state, mail, act)?;
-    if is_scope(act) {
-        return match begin_scope(
-            alloc, cast, state, book, bodies, updates, history, act, prepared,
-        ) {
-            Ok(()) => Ok(()),
-            Err(_) => Err(StepFault::Memory),
-        };
+    match state.prepare(alloc, act) {
+        Ok(prepared) => {
+            if !is_there(mail, act) {
+                return Err(StepFault::NotYet);
+            }
+            if is_scope(act) {
+                return match begin_scope(
+                    alloc, cast, state, book, bodies, updates, history, act, prepared,
+                ) {
+                    Ok(()) => Ok(()),
+                    Err(_) => Err(StepFault::Memory),
+                };
+            }
+            commit(state, mail, history, act, prepared);
+            Ok(())
+        }
+        Err(PrepareFault::NoAct) => Err(StepFault::NoAct),
+        Err(PrepareFault::Memory) => Err(StepFault::Memory),
     }
-    commit(state, mail, history, act, prepared);
-    Ok(())
 }
 
 /// The step of a role of the cast by an act. After a refusal the roles, the messages, the number of

@@ -11,51 +11,51 @@ use Rattle.net_core.specs.Scopes.{Tells}
 use Rattle.net_core.proofs.DeedLemmas.{given_plain}
 use Rattle.net_core.proofs.parts.do_act.Goals as goal
 
-pub returns-in-Ok-clause-did : goal.returns-in-Ok-clause-did
-returns-in-Ok-clause-did g c = λ rules of bodies.
+pub returns-in-Ok-begin_scope-clause-did : goal.returns-in-Ok-begin_scope-clause-did
+returns-in-Ok-begin_scope-clause-did g c = λ rules of bodies.
     record {
-      offers = c.in_ok-prepared.ensures.shown.can_act;
-      there = c.in_ok-prepared.ensures.there;
+      offers = c.in-Ok.ensures.shown.can_act;
+      there = sym c.is_there.ensures ∙ c.if-not-is_there.false;
       done = subst (λ (s : LocalState). IsDone c.args.act.now
           (given_to c.args.cast.now rules c.args.mail.now (book_of c.args.book.now) c.args.updates.now s.store c.args.act.now)
           s c.args.mail.now c.args.updates.now c.args.history.now.entries
           (g.R.Runs.local c.begin_scope.new.state) c.args.mail.now c.begin_scope.new.updates c.begin_scope.new.history.entries)
-          c.in_ok-prepared.ensures.same (c.in-Ok.ensures.did rules c.args.mail.now of bodies);
+          c.prepare.ensures.same (c.in-Ok-begin_scope.ensures.did rules c.args.mail.now of bodies);
     }
 
 pub begin_scope-requires-clause-tells : goal.begin_scope-requires-clause-tells
 begin_scope-requires-clause-tells g c =
-    subst (λ (s : LocalState). Tells c.args.cast.now s c.args.act.now) (sym c.in_ok-prepared.ensures.same) c.requires.tells
+    subst (λ (s : LocalState). Tells c.args.cast.now s c.args.act.now) (sym c.prepare.ensures.same) c.requires.tells
 
 pub begin_scope-requires-clause-shown : goal.begin_scope-requires-clause-shown
 begin_scope-requires-clause-shown g c =
-    subst (λ (s : LocalState). IsPrepared s c.args.act.now c.in_ok-prepared.prepared) (sym c.in_ok-prepared.ensures.same) c.in_ok-prepared.ensures.shown
+    subst (λ (s : LocalState). IsPrepared s c.args.act.now c.in-Ok.prepared) (sym c.prepare.ensures.same) c.in-Ok.ensures.shown
 
 pub commit-requires-clause-shown : goal.commit-requires-clause-shown
 commit-requires-clause-shown g c =
-    subst (λ (s : LocalState). IsPrepared s c.args.act.now c.in_ok-prepared.prepared) (sym c.in_ok-prepared.ensures.same) c.in_ok-prepared.ensures.shown
+    subst (λ (s : LocalState). IsPrepared s c.args.act.now c.in-Ok.prepared) (sym c.prepare.ensures.same) c.in-Ok.ensures.shown
 
 pub commit-requires-clause-can : goal.commit-requires-clause-can
 commit-requires-clause-can g c =
     let plain : asks_scope c.args.act.now ≡ false = sym c.is_scope.ensures ∙ c.if-is_scope.false in
-    subst (λ (s : LocalState). is_done (step_at s c.args.act.now (given_from_mail c.args.act.now c.args.mail.now)) ≡ true) (sym c.in_ok-prepared.ensures.same)
-    (c.requires.can.can plain c.in_ok-prepared.ensures.shown.can_act c.in_ok-prepared.ensures.there)
+    subst (λ (s : LocalState). is_done (step_at s c.args.act.now (given_from_mail c.args.act.now c.args.mail.now)) ≡ true) (sym c.prepare.ensures.same)
+    (c.requires.can.can plain c.in-Ok.ensures.shown.can_act (sym c.is_there.ensures ∙ c.if-not-is_there.false))
 
 pub commit-requires-clause-free : goal.commit-requires-clause-free
 commit-requires-clause-free g c =
-    λ k is. c.requires.can.free k is c.in_ok-prepared.ensures.shown.can_act
+    λ k is. c.requires.can.free k is c.in-Ok.ensures.shown.can_act
 
-pub returns-clause-did : goal.returns-clause-did
-returns-clause-did g c = λ rules of bodies.
+pub returns-else-is_scope-clause-did : goal.returns-else-is_scope-clause-did
+returns-else-is_scope-clause-did g c = λ rules of bodies.
     let plain : asks_scope c.args.act.now ≡ false = sym c.is_scope.ensures ∙ c.if-is_scope.false in
     let s = g.R.Runs.local c.args.state.now in
     record {
-      offers = c.in_ok-prepared.ensures.shown.can_act;
-      there = c.in_ok-prepared.ensures.there;
+      offers = c.in-Ok.ensures.shown.can_act;
+      there = sym c.is_there.ensures ∙ c.if-not-is_there.false;
       done = subst (λ (given : Given). IsDone c.args.act.now given s c.args.mail.now c.args.updates.now c.args.history.now.entries
           (g.R.Runs.local c.commit.new.state) c.commit.new.mail c.args.updates.now c.commit.new.history.entries)
           (given_plain c.args.cast.now rules c.args.mail.now (book_of c.args.book.now) c.args.updates.now s.store c.args.act.now plain)
           (subst (λ (t : LocalState). IsDone c.args.act.now (given_from_mail c.args.act.now c.args.mail.now) t c.args.mail.now c.args.updates.now c.args.history.now.entries
           (g.R.Runs.local c.commit.new.state) c.commit.new.mail c.args.updates.now c.commit.new.history.entries)
-          c.in_ok-prepared.ensures.same (c.commit.ensures c.args.updates.now));
+          c.prepare.ensures.same (c.commit.ensures c.args.updates.now));
     }

@@ -17,7 +17,7 @@ pub returns-then-len-eq0 : goal.returns-then-len-eq0
 returns-then-len-eq0 g c =
     let i = c.self.inside in
     let parts : Parts = record { cast = i.cast; locals = map g.R.Runs.local i.roles.items; mail = i.mail; book = i.book; bodies = map body_seen i.bodies; coming = map due_seen i.coming.items; updates = i.updates; history = i.history.entries } in
-    c.all_done-done.ensures ∙ ap (list_all (λ state. ended (g.R.Runs.local state).process)) c.as_slice.ensures.value
+    c.all_done.ensures ∙ ap (list_all (λ state. ended (g.R.Runs.local state).process)) c.as_slice.ensures.value
     ∙ ended_is g.R.Runs.local (plain i.of.value) i.limit parts c.self.invariant i.roles.items true refl ((λ e. c.len.ensures.none.0 c.if-len-eq0.true), (λ h. refl))
     ∙ ap (λ (net : NetState). network_ended net.bundle.cast (network_of net)) c.self.view_is
 
