@@ -1,12 +1,13 @@
 -- An agenda lists the acts of a net, and is brought up to date by listing anew what the last act touches.
-use Rattle.std.proofs.Common.{◌≡◌, ◌<◌, ◌+◌, ◌-◌, ℕ, zero, suc, List, [], ◌∷◌, ◌++◌, length, Bool, true, false, ◌&&◌, not, Option, Some, slice_get, refl, sym, ap, ap₂, ◌∙◌, subst, map, arith, take, drop, get_or}
-use Rattle.std.specs.Prelude.{flat_map, if◌then◌else◌, slice_set}
-use Rattle.std.specs.List.{list_all}
+use Rattle.std.proofs.Common.{◌≡◌, ◌<◌, ◌≤◌, ◌+◌, ◌-◌, ℕ, zero, suc, List, [], ◌∷◌, ◌++◌, length, Bool, true, false, ◌&&◌, not, Option, Some, slice_get, refl, sym, ap, ap₂, ◌∙◌, subst, map, arith, take, drop, get_or}
+use Rattle.std.specs.Prelude.{flat_map, if◌then◌else◌, slice_set, vec_len}
+use Rattle.std.specs.List.{between, list_all}
 use Rattle.std.proofs.lemmas.Bool.{and_from, both_ways, cond-false, cond-true, or_left, or_right}
 use Rattle.std.proofs.lemmas.List.{drop_more, get_or-map, get_or_at, length-map, length-take, map-set}
 use Rattle.std.proofs.lemmas.List.Edits.{map_over_more}
 use Rattle.std.proofs.lemmas.List.Folds.{flat_map-map, list_all_at}
 use Rattle.std.proofs.lemmas.Option.{slice_get_read}
+use Rattle.std.proofs.lemmas.Slice.{between_to_end}
 use Rattle.dioc_terms.specs.declared.entries.Act.{Act}
 use Rattle.dioc_terms.specs.declared.names.Role.{Role}
 use Rattle.dioc_terms.specs.Equality.{member, role_eq}
@@ -22,7 +23,7 @@ use Rattle.net_core.specs.MovesIn.{ready_of}
 use Rattle.net_core.specs.Nets.{IsSoundRun, NetState, network_of}
 use Rattle.schedule.specs.declared.agenda.ReadyRole.{ReadyRole}
 use Rattle.schedule.proofs.TouchLemmas.{untouched, untouched_by_change}
-use Rattle.schedule.specs.Agendas.{IsStale, agenda_of, moves_of, ready_in, refreshed, ready_seen, touches}
+use Rattle.schedule.specs.Agendas.{IsStale, SparesRest, agenda_of, moves_of, ready_in, refreshed, ready_seen, touches}
 use Rattle.schedule.specs.Turns.{IsMoveOf, IsScheduled, has_ended}
 
 -- whether a change is listed
@@ -74,6 +75,39 @@ pub got_later : (xs : List Move) (place : ℕ) (m : Move) → (place ≡ 0 → �
 got_later xs zero m some h = absurd (some refl)
 got_later xs (suc place) m some h = ap (slice_get xs) (omega arith) ∙ h
 
+-- an agenda with acts has a role
+pub some_role : (agenda : List ReadyRole) (place : ℕ) → place < length (flat_map moves_of (map ready_seen agenda)) → 0 < length agenda
+some_role [] place within = absurd (omega (arith, within))
+some_role (ready ∷ later) place within = omega arith
+
+-- a move among the first of two lists, and among the second
+got_front : (xs ys : List Move) (place : ℕ) (m : Move) → slice_get xs place ≡ Some m → slice_get (xs ++ ys) place ≡ Some m
+got_front [] ys place m got = cc
+got_front (x ∷ xs) ys zero m got = got
+got_front (x ∷ xs) ys (suc place) m got = got_front xs ys place m got
+
+got_back : (xs ys : List Move) (place : ℕ) (m : Move) → length xs ≤ place → slice_get ys (place - length xs) ≡ Some m → slice_get (xs ++ ys) place ≡ Some m
+got_back [] ys place m past got = ap (slice_get ys) (omega arith) ∙ got
+got_back (x ∷ xs) ys zero m past got = absurd (omega (arith, past))
+got_back (x ∷ xs) ys (suc place) m past got = got_back xs ys place m (omega (arith, past)) (ap (slice_get ys) (omega arith) ∙ got)
+
+-- an act of the first role of an agenda, and of the others
+pub got_first : (agenda : List ReadyRole) (ready : ReadyRole) (place : ℕ) (m : Move) → 0 < length agenda
+    → slice_get (moves_of (ready_seen (get_or agenda 0 ready))) place ≡ Some m → slice_get (flat_map moves_of (map ready_seen agenda)) place ≡ Some m
+got_first [] ready place m some got = absurd (omega (arith, some))
+got_first (first ∷ later) ready place m some got = got_front (moves_of (ready_seen first)) (flat_map moves_of (map ready_seen later)) place m got
+
+pub got_behind : (agenda : List ReadyRole) (ready : ReadyRole) (count place : ℕ) (m : Move) → 0 < length agenda
+    → count ≡ vec_len (get_or agenda 0 ready).acts → count ≤ place → slice_get (flat_map moves_of (map ready_seen (between 1 (length agenda) agenda))) (place - count) ≡ Some m
+    → slice_get (flat_map moves_of (map ready_seen agenda)) place ≡ Some m
+got_behind [] ready count place m some all past got = absurd (omega (arith, some))
+got_behind (first ∷ later) ready count place m some all past got =
+    let acts : count ≡ length (moves_of (ready_seen first)) = omega (arith, all, first.acts.ok.0, length-map first.acts.items (move.Act first.role)) in
+    let rest : List Move = flat_map moves_of (map ready_seen later) in
+    let behind : slice_get rest (place - count) ≡ Some m =
+    ap (λ (l : List ReadyRole). slice_get (flat_map moves_of (map ready_seen l)) (place - count)) (sym (between_to_end (first ∷ later) 1 (length (first ∷ later)) (omega arith))) ∙ got in
+    got_back (moves_of (ready_seen first)) rest place m (omega (arith, acts, past)) (ap (λ n. slice_get rest (place - n)) (sym acts) ∙ behind)
+
 -- a role that stands in the cast
 member_got : (cast : List Role) (i : ℕ) (q : Role) → slice_get cast i ≡ Some q → member q cast ≡ true
 member_got [] i q h = cc
@@ -111,6 +145,11 @@ stale_after known old new (move.Act q a) agenda run made is =
     (λ apart. ap (λ M. ready_of M r) made.goes.network
     ∙ untouched known old.bundle old.history (network_of old) run.sound run.runs q a made.outcome made.steps r apart))
     ∙ ap (λ (b : PlainBundle). map (ready_in (network_of new)) b.cast) (sym made.goes.bundle)
+
+-- so is one that differs from it in nothing but what is listed anew
+pub stale_spared : (new : NetState) (m : Move) (before after : List (Role × List Act)) → SparesRest m before after → IsStale new (Some m) before → IsStale new (Some m) after
+stale_spared new move.Change before after spares stale = spares ∙ stale
+stale_spared new (move.Act q a) before after spares stale = spares (network_of new) ∙ stale
 
 -- the roles of an agenda stay when it is brought up to date
 roles_stay : (N : Network) (q : Role) (a : Act) (agenda : List (Role × List Act)) → map (λ ready. ready.0) (refreshed N q a agenda) ≡ map (λ ready. ready.0) agenda

@@ -42,6 +42,11 @@ again N q a ready = if touches q a ready.0 then ready_in N ready.0 else ready
 abbrev pub refreshed : Network → Role → Act → List (Role × List Act) → List (Role × List Act)
 refreshed N q a agenda = map (again N q a) agenda
 
+-- two agendas that differ in nothing but what is listed anew after the move
+abbrev pub SparesRest : Move → List (Role × List Act) → List (Role × List Act) → Type 0
+SparesRest move.Change old new = new ≡ old
+SparesRest (move.Act q a) old new = (N : Network) → refreshed N q a new ≡ refreshed N q a old
+
 -- an agenda from before the last move, which was this one; before the first there is none
 abbrev pub IsStale : NetState → Option Move → List (Role × List Act) → Type 0
 IsStale net None agenda = Unit {0}

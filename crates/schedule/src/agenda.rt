@@ -1,11 +1,11 @@
 //! The agenda: what each role of a net can do now, kept from turn to turn. An act changes only what
 //! the role that does it can do, and where it puts a message, what the receiver can do.
 
-ghost use Rattle.std.specs.Prelude.{◌≡◌, ◌<◌, ◌^◌, ◌-◌, true, Some, IfOk, OnOk, flat_map, length, map, slice_get};
+ghost use Rattle.std.specs.Prelude.{◌≡◌, ◌<◌, ◌^◌, ◌-◌, ◌∷◌, [], true, Some, IfOk, OnOk, flat_map, length, map, slice_get};
 ghost use Rattle.std.specs.List.{list_all};
 ghost use Rattle.dioc_terms.specs.Equality.{member};
 ghost use Rattle.net_core.specs.Nets.{network_of};
-ghost use Rattle.schedule.specs.Agendas.{IsStale, again, agenda_of, moves_of, puts_to, refreshed, ready_seen, touches};
+ghost use Rattle.schedule.specs.Agendas.{IsStale, SparesRest, again, agenda_of, moves_of, puts_to, refreshed, ready_seen, touches};
 
 use dioc_terms::{Act, Memory, Role, give_up};
 use dpoc_process::Runs;
@@ -154,31 +154,32 @@ pub(crate) fn count_acts(agenda: &[ReadyRole]) -> u128
     count
 }
 
-/// The act of that number, of all in an agenda, as a move.
-pub(crate) fn move_at(alloc: Global, agenda: &[ReadyRole], place: u128) -> Result<Move, Memory>
-    requires { place < length (flat_map moves_of (map ready_seen agenda.now)) }
-    ensures { IfOk result
-        (λ next. slice_get (flat_map moves_of (map ready_seen agenda.now)) place ≡ Some next) }
+/// The act of that number, of all in an agenda, as a move. The agenda has it no more: what its role
+/// can do is listed anew once the move is made.
+pub(crate) fn move_at(alloc: Global, agenda: &mut [ReadyRole], place: u128) -> Result<Move, Memory>
+    requires { place < length (flat_map moves_of (map ready_seen agenda.old)) }
+    ensures next { IfOk result
+        (λ next. slice_get (flat_map moves_of (map ready_seen agenda.old)) place ≡ Some next) }
+    ensures rest { IfOk result
+        (λ next. SparesRest next (map ready_seen agenda.old) (map ready_seen agenda.new)) }
 {
-    match agenda {
-        [] => unreachable!(),
-        [ready, later @ ..] => {
-            let count = ready.acts.len() as u128;
-            if place < count {
-                move_of(alloc, ready, place as usize)
-            } else {
-                move_at(alloc, later, place - count)
-            }
-        }
+    let count = agenda[0].acts.len() as u128;
+    if place < count {
+        move_of(alloc, &mut agenda[0], place as usize)
+    } else {
+        move_at(alloc, &mut agenda[1..], place - count)
     }
 }
 
-/// The act of that number of one role, as a move.
-fn move_of(alloc: Global, ready: &ReadyRole, place: usize) -> Result<Move, Memory>
-    requires { place < length ready.now.acts.items }
-    ensures { IfOk result (λ next. slice_get (moves_of (ready_seen ready.now)) place ≡ Some next) }
+/// The act of that number of one role, as a move. The role has it no more.
+fn move_of(alloc: Global, ready: &mut ReadyRole, place: usize) -> Result<Move, Memory>
+    requires { place < length ready.old.acts.items }
+    ensures next { IfOk result
+        (λ next. slice_get (moves_of (ready_seen ready.old)) place ≡ Some next) }
+    ensures rest { IfOk result
+        (λ next. SparesRest next (ready_seen ready.old ∷ []) (ready_seen ready.new ∷ [])) }
 {
-    let act = ready.acts[place].copy(alloc)?;
     let role = ready.role.copy(alloc)?;
+    let act = ready.acts.swap_remove(place);
     Ok(Move::Act(role, act))
 }
