@@ -17,6 +17,8 @@ mod history;
 #[cfg(test)]
 mod lock;
 #[cfg(test)]
+mod made;
+#[cfg(test)]
 mod mailbox;
 #[cfg(test)]
 mod meeting;

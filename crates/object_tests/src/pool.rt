@@ -1,12 +1,12 @@
 //! Workers that claim at the same time, and answers that depend on nobody else.
 
-ghost use Rattle.std.specs.Prelude.{◌≡◌, ◌≤◌, All, IfOk, length};
+ghost use Rattle.std.specs.Prelude.{◌≤◌, All, length};
 ghost use Rattle.dioc_terms.specs.Bundles.{IsFormed};
 ghost use Rattle.dioc_terms.specs.Plain.{plain};
 
+use crate::made::bundles;
 use crate::meeting::Meeting;
 use dioc_terms::{Bundle, Memory, give_up};
-use load_gen::make;
 use session_pool::{Answer, OpenWatch, Watch, run_sessions};
 use std::alloc::Global;
 use std::sync::Wait;
@@ -29,21 +29,6 @@ impl Watch for HoldFirst {
     }
 }
 
-/// So many bundles, each made of another number.
-fn bundles(alloc: Global, count: u32) -> Result<Vec<Bundle>, Memory>
-    requires { count ≤ 1000 }
-    ensures formed { IfOk result (λ bundles. All (λ b. IsFormed (plain b)) bundles.items) }
-    ensures count { IfOk result (λ bundles. length bundles.items ≡ count) }
-{
-    let mut bundles = Vec::new(alloc);
-    'made: while bundles.len() < count as usize {
-        let number = bundles.len() as u64;
-        let bundle = make(alloc, number, 1)?;
-        bundles.push(bundle)?;
-    }
-    Ok(bundles)
-}
-
 /// Whether two sessions were answered the same.
 fn same(first: &Answer, second: &Answer) -> bool {
     match (first, second) {
@@ -60,7 +45,7 @@ fn same(first: &Answer, second: &Answer) -> bool {
 
 #[test]
 fn two_workers_claim_at_once(rt: HostRuntime) -> Result<(), Fail> {
-    let bundles = bundles(rt.alloc(), 2)?;
+    let bundles = bundles(rt.alloc(), 0, 1, 2)?;
     let watch = HoldFirst {
         second: Meeting::new(),
     };
@@ -101,7 +86,7 @@ fn answers_alike<R: Threads + Wait + Sync>(
 
 #[test]
 fn workers_change_no_answer(rt: HostRuntime) -> Result<(), Fail> {
-    let bundles = bundles(rt.alloc(), 100)?;
+    let bundles = bundles(rt.alloc(), 0, 1, 100)?;
     let alike = answers_alike(&rt, rt.alloc(), bundles.as_slice());
     drop(bundles);
     assert!(rt; alike == Ok(true));

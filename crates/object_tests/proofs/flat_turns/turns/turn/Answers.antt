@@ -7,7 +7,7 @@ pub advance-requires-clause-can : goal.advance-requires-clause-can
 advance-requires-clause-can g c =
     let s = g.R.Runs.local c.args.state.now in
     let a = c.args.act.now in
-    let h = handed c.args.got in
+    let h = handed c.in-Ok.got in
     subst (λ t. IsEnabled t a h) (sym c.prepare.ensures.same)
-    (c.offers_are_steps.ensures.exactly s.role s.store s.process a (given_like h) c.requires
-    ∙ c.in-Ok.ensures.shown.can_act)
+    (c.offers_are_steps.ensures.exactly s.role s.store s.process a (given_like h) c.in-Ok.ensures
+    ∙ c.in_ok-prepared.ensures.shown.can_act)

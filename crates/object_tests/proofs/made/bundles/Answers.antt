@@ -3,7 +3,7 @@ use Rattle.std.proofs.Common.{◌∷◌, [], All, length, ap, arith, subst, sym,
 use Rattle.std.proofs.lemmas.List.Elements.{All-push}
 use Rattle.dioc_terms.specs.Bundles.{IsFormed}
 use Rattle.dioc_terms.specs.Plain.{plain}
-use Rattle.object_tests.proofs.pool.bundles.Goals as goal
+use Rattle.object_tests.proofs.made.bundles.Goals as goal
 
 pub made-preserved : goal.made-preserved
 made-preserved c =

@@ -3,7 +3,7 @@ use Rattle.std.proofs.Common.{◌≡◌, true, sym, subst}
 use Rattle.dioc_terms.specs.Equality.{member}
 use Rattle.dioc_terms.specs.Plain.{plain}
 use Rattle.net_core.proofs.StartLemmas.{roles_of_cast}
-use Rattle.object_tests.proofs.flat_turns.turns.part_of.Goals as goal
+use Rattle.object_tests.proofs.flat_turns.tasks.part_of.Goals as goal
 
 pub project-requires : goal.project-requires
 project-requires c = λ q is.
