@@ -1,10 +1,9 @@
 //! The picture of a trace.
 
-ghost use Rattle.std.specs.Prelude.{◌≡◌, ◌≤◌, ◌<◌, ◌^◌, ◌++◌, length, OnOk, OnErr, IsErrOf};
+ghost use Rattle.std.specs.Prelude.{◌≡◌, ◌≤◌, ◌<◌, ◌++◌, length, OnOk, OnErr, IsErrOf};
 ghost use Rattle.limits.specs.Limits.{most_roles};
-ghost use Rattle.text_pieces.specs.Pieces.{KeepsFront};
 ghost use Rattle.trace_picture.specs.Lanes.{lanes_of};
-ghost use Rattle.trace_picture.specs.Pictures.{most_entries, picture, picture_of};
+ghost use Rattle.trace_picture.specs.Pictures.{most_entries, picture};
 ghost use Rattle.trace_picture.specs.declared.drawing.PictureFault.TheVariants.{Memory as picture_memory};
 
 use crate::lanes::lanes_of;
@@ -43,46 +42,6 @@ pub enum PictureFault {
     /// Memory ran out.
     #[error("out of memory")]
     Memory,
-}
-
-fn write_any(
-    alloc: Global,
-    style: Style,
-    lanes: &[Role],
-    entries: &[Entry],
-    last: &Option<Last>,
-    out: &mut Vec<u8>,
-) -> Result<(), Memory>
-    requires lanes { length lanes.now ≤ most_roles }
-    requires entries { length entries.now < 2 ^ 32 }
-    ensures ok { OnOk result (out.new.items ≡ out.old.items
-        ++ picture_of style lanes.now entries.now last.now) }
-    ensures memory { OnErr result (KeepsFront out.old.items out.new.items) }
-{
-    match style {
-        Style::Terminal => write_terminal(alloc, lanes, entries, last, out),
-        Style::Mermaid => write_mermaid(alloc, lanes, entries, last, out),
-        Style::Svg => write_svg(alloc, lanes, entries, last, out),
-    }
-}
-
-fn write_whole(
-    alloc: Global,
-    style: Style,
-    lanes: &[Role],
-    entries: &[Entry],
-    last: &Option<Last>,
-    out: &mut Vec<u8>,
-) -> Result<(), Memory>
-    requires lanes { length lanes.now ≤ most_roles }
-    requires entries { length entries.now < 2 ^ 32 }
-    ensures ok { OnOk result (out.new.items ≡ out.old.items
-        ++ picture_of style lanes.now entries.now last.now) }
-    ensures memory { OnErr result (out.new.items ≡ out.old.items) }
-{
-    let start = out.len();
-    let written = write_any(alloc, style, lanes, entries, last, out);
-    cut_back(written, start, out)
 }
 
 impl From<Memory> for PictureFault {
@@ -124,6 +83,12 @@ pub fn write_picture(
     if lanes.len() > MOST_ROLES {
         return Err(PictureFault::TooManyRoles);
     }
-    write_whole(alloc, style, &lanes, entries, last, out)?;
+    let start = out.len();
+    let written = match style {
+        Style::Terminal => write_terminal(alloc, &lanes, entries, last, out),
+        Style::Mermaid => write_mermaid(alloc, &lanes, entries, last, out),
+        Style::Svg => write_svg(alloc, &lanes, entries, last, out),
+    };
+    cut_back(written, start, out)?;
     Ok(())
 }

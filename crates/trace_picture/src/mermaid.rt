@@ -1,13 +1,11 @@
 //! The picture of a trace as a Mermaid sequence diagram.
 
-ghost use Rattle.std.specs.Prelude.{◌≡◌, ◌≤◌, ◌++◌, length, flat_map, OnOk, OnErr};
+ghost use Rattle.std.specs.Prelude.{◌≡◌, ◌≤◌, ◌++◌, decimal, length, flat_map, OnOk, OnErr};
 ghost use Rattle.limits.specs.Limits.{most_roles};
 ghost use Rattle.text_pieces.specs.Pieces.{KeepsFront};
 ghost use Rattle.trace_picture.specs.Runs.{pieces_from};
 ghost use Rattle.trace_picture.specs.Mermaid.{is_quiet, mermaid_byte, mermaid_words, participant, participants, across, arrow_front, over_front, mermaid_front, mermaid_entry, mermaid_last, title_text, mermaid_head, mermaid_picture};
 
-use crate::fragments::Fragment::{Number, Plain};
-use crate::fragments::write_fragments;
 use crate::labels::{write_label, write_last_line};
 use crate::runs::write_shortened;
 use crate::shapes::{Shape, shape_of};
@@ -54,19 +52,23 @@ fn write_mermaid_words(bytes: &[u8], out: &mut Vec<u8>) -> Result<(), Memory>
     Ok(())
 }
 
+/// Appends a number between two texts.
+fn write_numbered(before: &[u8], number: u64, after: &[u8], out: &mut Vec<u8>) -> Result<(), Memory>
+    ensures ok { OnOk result (out.new.items ≡ out.old.items
+        ++ (before.now ++ decimal number ++ after.now)) }
+    ensures memory { OnErr result (KeepsFront out.old.items out.new.items) }
+{
+    write_bytes(before, out)?;
+    write_number(number, out)?;
+    write_bytes(after, out)
+}
+
 #[tactic(auto, unfolding(crate::specs::Mermaid::participant))]
 fn write_participant(lane: usize, role: &Role, out: &mut Vec<u8>) -> Result<(), Memory>
     ensures ok { OnOk result (out.new.items ≡ out.old.items ++ participant lane role.now) }
     ensures memory { OnErr result (KeepsFront out.old.items out.new.items) }
 {
-    write_fragments(
-        &[
-            Plain(b"    participant r"),
-            Number(lane as u64),
-            Plain(b" as "),
-        ],
-        out,
-    )?;
+    write_numbered(b"    participant r", lane as u64, b" as ", out)?;
     write_mermaid_words(role.0.bytes(), out)?;
     write_bytes(b"\n", out)
 }
@@ -103,11 +105,7 @@ fn write_across(lanes: usize, out: &mut Vec<u8>) -> Result<(), Memory>
     if lanes <= 1 {
         return write_bytes(b"    Note over r0: ", out);
     }
-    let last = lanes as u64 - 1;
-    write_fragments(
-        &[Plain(b"    Note over r0,r"), Number(last), Plain(b": ")],
-        out,
-    )
+    write_numbered(b"    Note over r0,r", lanes as u64 - 1, b": ", out)
 }
 
 /// Appends an arrow between two lanes.
@@ -116,14 +114,9 @@ fn write_arrow(from: usize, to: usize, out: &mut Vec<u8>) -> Result<(), Memory>
     ensures ok { OnOk result (out.new.items ≡ out.old.items ++ arrow_front from to) }
     ensures memory { OnErr result (KeepsFront out.old.items out.new.items) }
 {
-    let fragments = [
-        Plain(b"    r"),
-        Number(from as u64),
-        Plain(b"-)r"),
-        Number(to as u64),
-        Plain(b": "),
-    ];
-    write_fragments(&fragments, out)
+    write_numbered(b"    r", from as u64, b"-)r", out)?;
+    write_number(to as u64, out)?;
+    write_bytes(b": ", out)
 }
 
 /// Appends what begins a note over a lane.
@@ -132,10 +125,7 @@ fn write_over(lane: usize, out: &mut Vec<u8>) -> Result<(), Memory>
     ensures ok { OnOk result (out.new.items ≡ out.old.items ++ over_front lane) }
     ensures memory { OnErr result (KeepsFront out.old.items out.new.items) }
 {
-    write_fragments(
-        &[Plain(b"    Note over r"), Number(lane as u64), Plain(b": ")],
-        out,
-    )
+    write_numbered(b"    Note over r", lane as u64, b": ", out)
 }
 
 /// Appends what stands before the label of an entry.

@@ -7,10 +7,10 @@ use Rattle.trace_picture.specs.Mermaid.{participant}
 use Rattle.trace_picture.proofs.mermaid.write_participant.Goals as goal
 
 pub returns-in_err-write_mermaid_words-clause-memory : goal.returns-in_err-write_mermaid_words-clause-memory
-returns-in_err-write_mermaid_words-clause-memory c = still_front _ _ _ _ _ c.in_ok-write_fragments.ensures.ok c.in_err-write_mermaid_words.ensures.memory
+returns-in_err-write_mermaid_words-clause-memory c = still_front _ _ _ _ _ c.in_ok-write_numbered.ensures.ok c.in_err-write_mermaid_words.ensures.memory
 
 pub returns-clause-memory : goal.returns-clause-memory
-returns-clause-memory c = err_front _ _ _ _ _ c.in_ok-write_fragments.ensures.ok (err_front _ _ _ _ _ c.in_ok-write_mermaid_words.ensures.ok c.write_bytes.ensures.memory)
+returns-clause-memory c = err_front _ _ _ _ _ c.in_ok-write_numbered.ensures.ok (err_front _ _ _ _ _ c.in_ok-write_mermaid_words.ensures.ok c.write_bytes.ensures.memory)
 
 pub returns-clause-ok : goal.returns-clause-ok
 unfolding participant
