@@ -9,8 +9,8 @@ ghost use Rattle.marked_laws.specs.Offers.{DistinctOffers};
 ghost use Rattle.marked_laws.specs.RunLaws.{Extensions};
 ghost use Rattle.marked_laws.specs.Versions.{RunsReadNoVersion};
 
-/// What the crates below prove of terms, together.
-fn known()
+/// The laws of terms and of connectedness that hold of each sound bundle, together. It does nothing.
+pub fn term_laws()
     ensures mentions { MentionsAreRoles }
     ensures casts { CastsAreRoles }
     ensures bodies { StampedBodies }
@@ -29,7 +29,7 @@ fn known()
 pub fn simulation()
     ensures { Simulation }
 {
-    known();
+    term_laws();
 }
 
 /// A law: in that play nobody passes the end of a scope or of a loop's turn before all its roles
@@ -37,7 +37,7 @@ pub fn simulation()
 pub fn settlement()
     ensures { Settlement }
 {
-    known();
+    term_laws();
 }
 
 /// A law: no two pending messages have one key, and no two ready receives of one role have one key.
@@ -45,28 +45,28 @@ pub fn settlement()
 pub fn unique_keys()
     ensures { UniqueKeys }
 {
-    known();
+    term_laws();
 }
 
 /// A law: in every network of a run no act stands twice in what a role offers. It does nothing.
 pub fn distinct_offers()
     ensures { DistinctOffers }
 {
-    known();
+    term_laws();
 }
 
 /// A law: a network that has not ended has a step of a role. It does nothing.
 pub fn progress()
     ensures { Progress }
 {
-    known();
+    term_laws();
 }
 
 /// A law: where every process has ended, no message is pending. It does nothing.
 pub fn nothing_left()
     ensures { NothingLeft }
 {
-    known();
+    term_laws();
 }
 
 /// A law: a run of two histories, one after the other, is a run of the second after one of the

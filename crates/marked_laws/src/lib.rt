@@ -6,6 +6,6 @@ mod mail_laws;
 
 pub use laws::{
     distinct_offers, nothing_left, progress, runs_extend, runs_read_no_version, settlement,
-    simulation, unique_keys,
+    simulation, term_laws, unique_keys,
 };
 pub use mail_laws::mail_is_a_map;

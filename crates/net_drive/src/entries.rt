@@ -51,6 +51,7 @@ pub(crate) fn take_turn<R: Runs>(
     ensures agenda { IfOk result
         (λ tried. tried ≢ Tried.Strays → map ready_seen agenda.new.items ≡ agenda_of net.new) }
 {
+    marked_laws::term_laws();
     known();
     match try_entry(net, next, entry)? {
         Tried::Came => {
@@ -77,6 +78,7 @@ fn try_entry<R: Runs>(net: &mut Net<R>, next: &Move, entry: &Entry) -> Result<Tr
     requires next { next.now ≡ shown_move entry.now }
     ensures { IfOk result (IsTried net.old entry.now net.new) }
 {
+    marked_laws::term_laws();
     known();
     let place = net.history().len();
     let is_made = make(net, next)?;
@@ -134,6 +136,7 @@ fn make_on<R: Runs>(
         next.now) net.old net.new) }
     ensures agenda { OnOk result (map ready_seen agenda.new.items ≡ agenda_of net.new) }
 {
+    marked_laws::term_laws();
     known();
     if !make(net, next)? {
         return Ok(false);

@@ -1,32 +1,20 @@
 //! What holds of driven traces. Each function is a law: it does nothing, and whoever calls it knows
 //! what its contract says.
 
-ghost use Rattle.connectedness.specs.Laws.{RolesAtEnds, StampedConnected};
-ghost use Rattle.dioc_terms.specs.TermLaws.{MentionsAreRoles, CastsAreRoles, StampedBodies};
 ghost use Rattle.drive_laws.specs.Laws.{Readiness, AuxiliaryEnds};
 ghost use Rattle.marked_laws.specs.Laws.{Simulation, Settlement};
 ghost use Rattle.net_drive.specs.Laws.{DrivenRuns, SameTraces, DrivenExactly, StraysAreExact};
 ghost use Rattle.net_drive.specs.Strays.{DriveStraysAreExact};
 ghost use Rattle.process_steps.specs.Laws.{OffersAreSteps};
 
-/// What the crates below prove, together.
+/// What the crates below prove of runs, together.
 pub(crate) fn known()
-    ensures mentions { MentionsAreRoles }
-    ensures casts { CastsAreRoles }
-    ensures bodies { StampedBodies }
-    ensures ends { RolesAtEnds }
-    ensures stamps { StampedConnected }
     ensures offered { OffersAreSteps }
     ensures readiness { Readiness }
     ensures auxiliary { AuxiliaryEnds }
     ensures simulation { Simulation }
     ensures settlement { Settlement }
 {
-    dioc_terms::mentions_are_roles();
-    dioc_terms::casts_are_roles();
-    dioc_terms::stamped_bodies();
-    connectedness::roles_at_ends();
-    connectedness::stamped_connected();
     process_steps::offers_are_steps();
     drive_laws::readiness();
     drive_laws::auxiliary_ends();
@@ -39,6 +27,7 @@ pub(crate) fn known()
 pub fn driven_runs()
     ensures { DrivenRuns }
 {
+    marked_laws::term_laws();
     known();
 }
 
@@ -47,6 +36,7 @@ pub fn driven_runs()
 pub fn same_traces()
     ensures { SameTraces }
 {
+    marked_laws::term_laws();
     known();
 }
 
@@ -55,6 +45,7 @@ pub fn same_traces()
 pub fn driven_exactly()
     ensures { DrivenExactly }
 {
+    marked_laws::term_laws();
     known();
 }
 
@@ -63,6 +54,7 @@ pub fn driven_exactly()
 pub fn strays_are_exact()
     ensures { StraysAreExact }
 {
+    marked_laws::term_laws();
     known();
 }
 
@@ -72,5 +64,6 @@ pub fn strays_are_exact()
 pub fn drive_strays_are_exact()
     ensures { DriveStraysAreExact }
 {
+    marked_laws::term_laws();
     known();
 }

@@ -146,6 +146,7 @@ fn drive_entries<R: Runs>(
     ensures bundle { IfOk result (λ stray. stray ≡ None → net.new.bundle ≡ net.old.bundle) }
     ensures limit { IfOk result (λ stray. stray ≡ None → net.new.limit ≡ net.old.limit) }
 {
+    marked_laws::term_laws();
     known();
     let mut number = 0;
     for entry in trace {
@@ -194,6 +195,7 @@ fn reach_by<R: Runs>(
     ensures agenda { IfOk result
         (λ has_come. has_come ≡ true → map ready_seen agenda.new.items ≡ agenda_of net.new) }
 {
+    marked_laws::term_laws();
     known();
     'turns: loop {
         has_run(net);
@@ -211,6 +213,7 @@ fn settle<R: Runs>(net: &mut Net<R>, agenda: &mut Vec<ReadyRole>) -> Result<(), 
     requires agenda { map ready_seen agenda.old.items ≡ agenda_of net.old }
     ensures { OnOk result (Settles net.old net.new) }
 {
+    marked_laws::term_laws();
     known();
     'turns: loop {
         has_run(net);

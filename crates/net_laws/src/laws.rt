@@ -1,25 +1,8 @@
 //! What holds of each bundle that is accepted. Each function is a law: it does nothing, and whoever
 //! calls it knows what its contract says.
 
-ghost use Rattle.connectedness.specs.Laws.{RolesAtEnds, StampedConnected};
-ghost use Rattle.dioc_terms.specs.TermLaws.{MentionsAreRoles, CastsAreRoles, StampedBodies};
 ghost use Rattle.net_laws.specs.Headline.{EveryRun};
 ghost use Rattle.net_laws.specs.Laws.{AcceptedIsSound, MovesAreSteps, RunsAreSound, SchedulesArePrompt, SchedulesReadNoVersion};
-
-/// What the crates below prove of terms, together.
-fn known()
-    ensures mentions { MentionsAreRoles }
-    ensures casts { CastsAreRoles }
-    ensures bodies { StampedBodies }
-    ensures ends { RolesAtEnds }
-    ensures stamps { StampedConnected }
-{
-    dioc_terms::mentions_are_roles();
-    dioc_terms::casts_are_roles();
-    dioc_terms::stamped_bodies();
-    connectedness::roles_at_ends();
-    connectedness::stamped_connected();
-}
 
 /// A law: a bundle that is accepted is sound, whatever its choreography and its rules. It does
 /// nothing.
@@ -34,7 +17,7 @@ pub fn accepted_is_sound()
 pub fn moves_are_steps()
     ensures { MovesAreSteps }
 {
-    known();
+    marked_laws::term_laws();
     accepted_is_sound();
     marked_laws::progress();
     process_steps::offers_are_steps();
@@ -46,7 +29,7 @@ pub fn moves_are_steps()
 pub fn runs_are_sound()
     ensures { RunsAreSound }
 {
-    known();
+    marked_laws::term_laws();
     accepted_is_sound();
     marked_laws::progress();
     marked_laws::simulation();

@@ -20,7 +20,6 @@ ghost use Rattle.turn_lock.specs.Words.{view};
 
 use crate::actors::Actor;
 use crate::gates::{Gate, Place};
-use crate::known::known;
 use dioc_terms::{Act, Entry, Key, Payload};
 use dpoc_process::{Got, Prepared, Runs};
 use flat_role::FlatRole;
@@ -105,7 +104,7 @@ fn on_stage<R: Wait, G: Gate>(
     ensures refused { IfErr result.1 (IsUncommitted (plain actor.now.bundle.now)
         actor.now.role.now (view seat) (view result.0) (local_of state.now) act.now) }
 {
-    known();
+    marked_laws::term_laws();
     process_steps::offers_are_steps();
     process_steps::steps_show_their_acts();
     match act {
@@ -146,7 +145,7 @@ fn alone<R: Wait, G: Gate>(
     ensures refused { IfErr result.1 (IsUncommitted (plain actor.now.bundle.now)
         actor.now.role.now (view seat) (view result.0) (local_of state.now) act.now) }
 {
-    known();
+    marked_laws::term_laws();
     process_steps::offers_are_steps();
     process_steps::steps_show_their_acts();
     let entry = entry_of(prepared);

@@ -5,7 +5,6 @@ mod acting;
 mod actors;
 mod feeding;
 mod gates;
-mod known;
 mod playing;
 mod runs;
 mod scopes;

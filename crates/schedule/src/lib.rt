@@ -3,7 +3,6 @@
 #![tactic(auto)]
 
 mod agenda;
-mod laws;
 mod numbers;
 mod runs;
 mod turns;

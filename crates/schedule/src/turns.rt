@@ -10,7 +10,6 @@ ghost use Rattle.schedule.specs.Agendas.{IsStale, SparesRest, agenda_of, moves_o
 ghost use Rattle.schedule.specs.Turns.{Advances, CanMake, IsMoveOf, IsScheduled, has_ended};
 
 use crate::agenda::{ReadyRole, count_acts, move_at};
-use crate::laws::known;
 use crate::numbers::move_place;
 use dioc_terms::{Act, Memory, Role};
 use dpoc_process::Runs;
@@ -34,7 +33,8 @@ pub(crate) fn take_next<R: Runs>(
     ensures stale { IfOk result (λ made. IsStale net.new (Some made) (map ready_seen agenda.new)) }
     ensures err { OnErr result (net.new ≡ net.old) }
 {
-    known();
+    marked_laws::term_laws();
+    marked_laws::progress();
     let next = next_move(net, agenda, seed)?;
     make(net, &next)?;
     Ok(next)
