@@ -27,6 +27,11 @@ pub trait Runs: Drop {
     fn acts(&self, alloc: Global) -> Result<Vec<Act>, Memory>
         ensures { IfOk result (λ acts. acts.items ≡ offered (local self.now)) };
 
+    /// Lists the acts that the process offers, as `acts` does, in a list from before: an act that
+    /// stands there already may stay as it is. After `Memory` the list may have any acts.
+    fn refresh_acts(&self, alloc: Global, acts: &mut Vec<Act>) -> Result<(), Memory>
+        ensures { OnOk result (acts.new.items ≡ offered (local self.now)) };
+
     /// Makes the role ready for an act, and shows what is known of the act before it is done.
     ///
     /// It takes all memory of the step and keeps it; the process, the variables and the inputs left

@@ -60,6 +60,12 @@ impl Runs for RoleState {
         offers_of(alloc, &self.role, &self.proc)
     }
 
+    fn refresh_acts(&self, alloc: Global, acts: &mut Vec<Act>) -> Result<(), Memory> {
+        let listed = self.acts(alloc)?;
+        drop(mem::replace(acts, listed));
+        Ok(())
+    }
+
     fn prepare(&mut self, alloc: Global, act: &Act) -> Result<Prepared, PrepareFault> {
         clear(&mut self.ready);
         match make_ready(alloc, &self.role, &self.proc, &mut self.store, act) {

@@ -98,6 +98,12 @@ impl Runs for FlatRole {
         self.progress.acts(alloc, &self.role, &self.plan)
     }
 
+    fn refresh_acts(&self, alloc: Global, acts: &mut Vec<Act>) -> Result<(), Memory> {
+        let listed = self.acts(alloc)?;
+        drop(mem::replace(acts, listed));
+        Ok(())
+    }
+
     fn prepare(&mut self, alloc: Global, act: &Act) -> Result<Prepared, PrepareFault> {
         clear(&mut self.ready);
         match self.progress.find(&self.role, &self.plan, act) {
