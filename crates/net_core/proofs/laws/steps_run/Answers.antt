@@ -3,4 +3,4 @@ use Rattle.net_core.proofs.RunLemmas.{steps_run}
 use Rattle.net_core.proofs.laws.steps_run.Goals as goal
 
 pub returns : goal.returns
-returns c = steps_run c.known.ensures c.offers_are_steps.ensures
+returns c = steps_run c.term_laws.ensures c.offers_are_steps.ensures

@@ -2,7 +2,6 @@
 use Rattle.std.proofs.Common.{true, false, sym, ap, ◌∙◌, subst}
 use Rattle.std.specs.Prelude.{map}
 use Rattle.dioc_terms.specs.Plain.{setting}
-use Rattle.marked_laws.proofs.Premise.{Known}
 use Rattle.network_steps.specs.Schedule.{move_step}
 use Rattle.net_drive.specs.Making.{Makes}
 use Rattle.net_drive.proofs.Trying.{move_made}
@@ -25,13 +24,7 @@ returns-then-not-branch-clause-agenda g c =
 
 pub bring_up-requires : goal.bring_up-requires
 bring_up-requires g c =
-    let known : Known = record {
-      mentions = c.known.ensures.mentions;
-      casts = c.known.ensures.casts;
-      bodies = c.known.ensures.bodies;
-      ends = c.known.ensures.ends;
-      stamps = c.known.ensures.stamps;
-    } in
+    let known = c.term_laws.ensures in
     let old = c.args.net.now in
     let new = c.make.new.net in
     let made : Makes (move_step (setting old.bundle) (network_of old) c.args.next.now) old new true =

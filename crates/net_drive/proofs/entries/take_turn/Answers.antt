@@ -2,7 +2,6 @@
 use Rattle.std.proofs.Common.{◌<◌, length, sym, subst}
 use Rattle.std.specs.Prelude.{map}
 use Rattle.dioc_terms.specs.Plain.{setting}
-use Rattle.marked_laws.proofs.Premise.{Known}
 use Rattle.network_steps.specs.declared.moves.Move.{Move}
 use Rattle.net_drive.specs.declared.entries.Tried.TheVariants as tried
 use Rattle.net_drive.specs.Driven.{first_auxiliary}
@@ -24,13 +23,7 @@ try_entry-requires-clause-few g c = few_made c.known.ensures.auxiliary c.args.ne
 
 pub bring_up-requires : goal.bring_up-requires
 bring_up-requires g c =
-    let known : Known = record {
-      mentions = c.known.ensures.mentions;
-      casts = c.known.ensures.casts;
-      bodies = c.known.ensures.bodies;
-      ends = c.known.ensures.ends;
-      stamps = c.known.ensures.stamps;
-    } in
+    let known = c.term_laws.ensures in
     let old = c.args.net.now in
     let new = c.try_entry.new.net in
     let come : HasCome old c.args.entry.now new = subst (IsTried old c.args.entry.now new) c.in-Came.is c.in_ok-try_entry.ensures in
@@ -51,13 +44,7 @@ take_auxiliary-requires-clause-few g c =
 
 pub returns-then-branch-clause-turn : goal.returns-then-branch-clause-turn
 returns-then-branch-clause-turn g c =
-    let known : Known = record {
-      mentions = c.known.ensures.mentions;
-      casts = c.known.ensures.casts;
-      bodies = c.known.ensures.bodies;
-      ends = c.known.ensures.ends;
-      stamps = c.known.ensures.stamps;
-    } in
+    let known = c.term_laws.ensures in
     let old = c.args.net.now in
     let between = c.try_entry.new.net in
     let new = c.take_auxiliary.new.net in
@@ -67,13 +54,7 @@ returns-then-branch-clause-turn g c =
 
 pub returns-else-branch-clause-turn : goal.returns-else-branch-clause-turn
 returns-else-branch-clause-turn g c =
-    let known : Known = record {
-      mentions = c.known.ensures.mentions;
-      casts = c.known.ensures.casts;
-      bodies = c.known.ensures.bodies;
-      ends = c.known.ensures.ends;
-      stamps = c.known.ensures.stamps;
-    } in
+    let known = c.term_laws.ensures in
     let old = c.args.net.now in
     let between = c.try_entry.new.net in
     let new = c.take_auxiliary.new.net in

@@ -3,7 +3,6 @@ use Rattle.std.proofs.Common.{◌≡◌, ◌∙◌, false, length, slice_get, sy
 use Rattle.std.specs.Option.{option_map_or}
 use Rattle.dioc_terms.specs.Equality.{entry_eq}
 use Rattle.dioc_terms.specs.Plain.{setting}
-use Rattle.marked_laws.proofs.Premise.{Known}
 use Rattle.network_steps.specs.declared.moves.Move.{Move}
 use Rattle.network_steps.specs.Schedule.{move_step}
 use Rattle.net_drive.specs.declared.entries.Tried.{Tried}
@@ -15,13 +14,7 @@ use Rattle.net_drive.proofs.entries.try_entry.Goals as goal
 
 pub returns : goal.returns
 returns g c =
-    let known : Known = record {
-      mentions = c.known.ensures.mentions;
-      casts = c.known.ensures.casts;
-      bodies = c.known.ensures.bodies;
-      ends = c.known.ensures.ends;
-      stamps = c.known.ensures.stamps;
-    } in
+    let known = c.term_laws.ensures in
     let old = c.args.net.now in
     let new = c.make.new.net in
     let e = c.args.entry.now in

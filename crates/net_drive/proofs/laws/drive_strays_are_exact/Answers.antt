@@ -4,4 +4,4 @@ use Rattle.net_drive.proofs.laws.drive_strays_are_exact.Goals as goal
 
 pub returns : goal.returns
 returns c = let k = c.known.ensures in
-    drive_strays_are_exact (driven_exactly (record { mentions = k.mentions; casts = k.casts; bodies = k.bodies; ends = k.ends; stamps = k.stamps }) k.offered k.readiness k.auxiliary k.simulation k.settlement)
+    drive_strays_are_exact (driven_exactly c.term_laws.ensures k.offered k.readiness k.auxiliary k.simulation k.settlement)

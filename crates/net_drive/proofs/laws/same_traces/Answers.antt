@@ -3,4 +3,4 @@ use Rattle.net_drive.proofs.laws.same_traces.Goals as goal
 
 pub returns : goal.returns
 returns c = let k = c.known.ensures in
-    same_traces (record { mentions = k.mentions; casts = k.casts; bodies = k.bodies; ends = k.ends; stamps = k.stamps }) k.offered k.readiness k.auxiliary k.simulation k.settlement
+    same_traces c.term_laws.ensures k.offered k.readiness k.auxiliary k.simulation k.settlement

@@ -3,4 +3,4 @@ use Rattle.net_drive.proofs.laws.strays_are_exact.Goals as goal
 
 pub returns : goal.returns
 returns c = let k = c.known.ensures in
-    strays_are_exact (record { mentions = k.mentions; casts = k.casts; bodies = k.bodies; ends = k.ends; stamps = k.stamps }) k.offered k.readiness k.auxiliary
+    strays_are_exact c.term_laws.ensures k.offered k.readiness k.auxiliary

@@ -2,7 +2,6 @@
 use Rattle.std.proofs.Common.{◌≡◌, ◌≤◌, ◌+◌, suc, [], ◌∷◌, ◌++◌, length, take, drop, true, refl, sym, ap, ◌∙◌, subst, arith, append-nil}
 use Rattle.std.proofs.lemmas.List.{drop_all, length-take-le, take_all}
 use Rattle.marked_laws.specs.Laws.{IsSound}
-use Rattle.marked_laws.proofs.Premise.{Known}
 use Rattle.net_drive.specs.Driving.{DrivesOn, IsStuckAt, Reaches, Settles}
 use Rattle.net_drive.specs.Strays.{IsDriveStray}
 use Rattle.net_drive.proofs.DriveStrays.{stuck_stray}
@@ -27,7 +26,7 @@ reach-requires-clause-shown g c =
 pub returns-then-not-branch-clause-driven : goal.returns-then-not-branch-clause-driven
 returns-then-not-branch-clause-driven g c =
     let k = c.known.ensures in
-    let known : Known = record { mentions = k.mentions; casts = k.casts; bodies = k.bodies; ends = k.ends; stamps = k.stamps } in
+    let known = c.term_laws.ensures in
     let start = c.args.net.now in
     let net = c.loop-entry.net in
     let i = c.loop-entry.entry-index in

@@ -1,7 +1,6 @@
 -- Each auxiliary move leads on, until none is left.
 use Rattle.std.proofs.Common.{[], true, false, subst, sym}
 use Rattle.dioc_terms.specs.Plain.{setting}
-use Rattle.marked_laws.proofs.Premise.{Known}
 use Rattle.net_drive.specs.Driven.{first_auxiliary}
 use Rattle.net_drive.specs.Driving.{DrivesOn, Settles}
 use Rattle.net_drive.specs.Making.{Makes}
@@ -30,7 +29,7 @@ returns-then-not-branch g c =
 pub turns-preserved : goal.turns-preserved
 turns-preserved g c =
     let k = c.known.ensures in
-    let known : Known = record { mentions = k.mentions; casts = k.casts; bodies = k.bodies; ends = k.ends; stamps = k.stamps } in
+    let known = c.term_laws.ensures in
     let net = c.turns.net in
     let new = c.take_auxiliary.new.net in
     let made : Makes (first_auxiliary (setting net.bundle) (network_of net)) net new true =

@@ -26,13 +26,13 @@ put_of-key-requires-clause-put g c = (c.in-Put.field-0, c.requires.shown.act ∙
 
 pub put_of-key-requires-clause-sends : goal.put_of-key-requires-clause-sends
 put_of-key-requires-clause-sends g c =
-    put_sends c.known.ensures c.offers_are_steps.ensures c.steps_show_their_acts.ensures (plain c.args.actor.now.bundle.now) c.requires.sound c.args.actor.now.role.now (view c.args.seat) (local_of c.args.state.now) c.requires.tied
+    put_sends c.term_laws.ensures c.offers_are_steps.ensures c.steps_show_their_acts.ensures (plain c.args.actor.now.bundle.now) c.requires.sound c.args.actor.now.role.now (view c.args.seat) (local_of c.args.state.now) c.requires.tied
     c.in-Put.field-0 c.args.prepared (subst (λ a. IsPrepared (local_of c.args.state.now) a c.args.prepared) c.in-Put.is c.requires.shown)
 
 pub commit_put-seat-requires-clause-can : goal.commit_put-seat-requires-clause-can
 commit_put-seat-requires-clause-can g c =
     let is : c.args.act.now ≡ act.Put c.put_of-key.result.0 = sym c.requires.shown.act ∙ c.put_of-key.ensures.key in
-    put_can c.known.ensures c.offers_are_steps.ensures c.steps_show_their_acts.ensures (plain c.args.actor.now.bundle.now) c.requires.sound c.args.actor.now.role.now (view c.args.seat) (local_of c.args.state.now) c.requires.tied
+    put_can c.term_laws.ensures c.offers_are_steps.ensures c.steps_show_their_acts.ensures (plain c.args.actor.now.bundle.now) c.requires.sound c.args.actor.now.role.now (view c.args.seat) (local_of c.args.state.now) c.requires.tied
     c.put_of-key.result.0 c.args.prepared (subst (λ a. IsPrepared (local_of c.args.state.now) a c.args.prepared) is c.requires.shown) c.put_of-key.result.1 c.put_of-key.ensures.payload
 
 pub returns-in-Put-clause-done : goal.returns-in-Put-clause-done
@@ -50,7 +50,7 @@ returns-in-Put-clause-done g c =
     let both = if_ok_at (λ (x : GotValue). (x ≡ got.Nothing) × (c.commit_put-seat.result.1 ≡ Ok tt)) c.nothing.result came c.nothing.ensures.done there in
     let done = if_ok_at (λ _. Committed role_fault v w key.from (act.Put key) Alone (Puts key (load payload))) c.commit_put-seat.result.1 tt c.commit_put-seat.ensures.done both.1 in
     subst (IsCommitted bundle q v w s c.args.act.now) (sym both.0) (subst (λ a. IsCommitted bundle q v w s a got.Nothing) (sym is)
-    (put_committed c.known.ensures c.offers_are_steps.ensures c.steps_show_their_acts.ensures bundle c.requires.sound q v s c.requires.tied key c.args.prepared shown payload c.put_of-key.ensures.payload w done)))
+    (put_committed c.term_laws.ensures c.offers_are_steps.ensures c.steps_show_their_acts.ensures bundle c.requires.sound q v s c.requires.tied key c.args.prepared shown payload c.put_of-key.ensures.payload w done)))
 
 pub returns-in-Put-clause-refused : goal.returns-in-Put-clause-refused
 returns-in-Put-clause-refused g c =
@@ -84,7 +84,7 @@ commit_take-seat-requires-clause-can g c =
     let entry = c.entry_of.ensures ∙ ap (λ e. Some e) c.into_take-key.ensures.take in
     let is : c.args.act.now ≡ act.Take key =
     take_key c.offers_are_steps.ensures c.steps_show_their_acts.ensures s c.args.act.now c.args.prepared c.requires.shown c.in-Take.field-0 c.in-Take.is key c.into_take-key.result.1 entry in
-    take_can c.known.ensures c.offers_are_steps.ensures c.steps_show_their_acts.ensures (plain c.args.actor.now.bundle.now) c.requires.sound c.args.actor.now.role.now (view c.args.seat) s c.requires.tied
+    take_can c.term_laws.ensures c.offers_are_steps.ensures c.steps_show_their_acts.ensures (plain c.args.actor.now.bundle.now) c.requires.sound c.args.actor.now.role.now (view c.args.seat) s c.requires.tied
     key c.args.prepared (subst (λ a. IsPrepared s a c.args.prepared) is c.requires.shown) c.into_take-key.result.1 entry
 
 pub returns-in-Take-clause-done : goal.returns-in-Take-clause-done
@@ -104,7 +104,7 @@ returns-in-Take-clause-done g c =
     let both = if_ok_at (λ (x : GotValue). (p : Payload) × (x ≡ got.Payload p) × (c.commit_take-seat.result.1 ≡ Ok p)) c.message.result came c.message.ensures.done there in
     let done = if_ok_at (λ p. Committed (take_fault key) v w key.to (act.Take key) (Got (load p)) (Takes key var (load p))) c.commit_take-seat.result.1 both.0 c.commit_take-seat.ensures.done both.2 in
     subst (IsCommitted bundle q v w s c.args.act.now) (sym both.1) (subst (λ a. IsCommitted bundle q v w s a (got.Payload both.0)) (sym is)
-    (take_committed c.known.ensures c.offers_are_steps.ensures c.steps_show_their_acts.ensures bundle c.requires.sound q v s c.requires.tied key c.args.prepared shown var w both.0 done)))
+    (take_committed c.term_laws.ensures c.offers_are_steps.ensures c.steps_show_their_acts.ensures bundle c.requires.sound q v s c.requires.tied key c.args.prepared shown var w both.0 done)))
 
 pub returns-in-Take-clause-refused : goal.returns-in-Take-clause-refused
 returns-in-Take-clause-refused g c =

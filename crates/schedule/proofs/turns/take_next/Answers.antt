@@ -2,7 +2,6 @@
 use Rattle.std.proofs.Common.{length}
 use Rattle.std.specs.Prelude.{map}
 use Rattle.dioc_terms.specs.Plain.{setting}
-use Rattle.marked_laws.proofs.Premise.{Known}
 use Rattle.network_steps.specs.Schedule.{move_place, moves}
 use Rattle.net_core.specs.Nets.{network_of}
 use Rattle.schedule.proofs.AgendaLemmas.{stale_after, stale_spared}
@@ -14,14 +13,8 @@ use Rattle.schedule.proofs.turns.take_next.Goals as goal
 
 pub next_move-requires-clause-some : goal.next_move-requires-clause-some
 next_move-requires-clause-some g c =
-    let known : Known = record {
-      mentions = c.known.ensures.mentions;
-      casts = c.known.ensures.casts;
-      bodies = c.known.ensures.bodies;
-      ends = c.known.ensures.ends;
-      stamps = c.known.ensures.stamps;
-    } in
-    some_move known c.known.ensures.progress c.args.net.now c.requires.run c.requires.goes
+    let known = c.term_laws.ensures in
+    some_move known c.progress.ensures c.args.net.now c.requires.run c.requires.goes
 
 pub make-requires-clause-can : goal.make-requires-clause-can
 make-requires-clause-can g c =
@@ -36,12 +29,6 @@ returns-clause-advanced g c = advances c.args.net.now c.make.new.net c.args.seed
 
 pub returns-clause-stale : goal.returns-clause-stale
 returns-clause-stale g c =
-    let known : Known = record {
-      mentions = c.known.ensures.mentions;
-      casts = c.known.ensures.casts;
-      bodies = c.known.ensures.bodies;
-      ends = c.known.ensures.ends;
-      stamps = c.known.ensures.stamps;
-    } in
+    let known = c.term_laws.ensures in
     stale_spared c.make.new.net c.in_ok-next.next (map ready_seen c.args.agenda.now) (map ready_seen c.next_move.new.agenda) c.in_ok-next.ensures.rest
     (stale_after known c.args.net.now c.make.new.net c.in_ok-next.next (map ready_seen c.args.agenda.now) c.requires.run c.in_ok-make.ensures.made c.requires.agenda)
