@@ -1,7 +1,7 @@
 //! What a book keeps of rules and of changes: copies, so that a change takes no memory and no body
 //! is walked again.
 
-ghost use Rattle.std.specs.Prelude.{◌≡◌, ◌&&◌, not, true, false, ℕ, List, nat_lt, int_lt};
+ghost use Rattle.std.specs.Prelude.{◌≡◌, ◌&&◌, true, false, ℕ, List, nat_lt, int_lt};
 ghost use Rattle.std.specs.List.{list_all};
 ghost use Rattle.std.specs.Option.{option_map_or};
 ghost use Rattle.dioc_terms.specs.Conditions.{has_no_join};
@@ -77,9 +77,10 @@ impl KeptRule {
     }
 }
 
-/// Whether a conjunct of the condition that compares a property with a constant is false, so that
-/// the condition doesn't hold, whatever the store and the environment. It costs far less than the
-/// test of the whole condition.
+/// Whether a conjunct of the condition asks for another value of a property than the scope's, so
+/// that the condition doesn't hold, whatever the store and the environment. It costs far less than
+/// the test of the whole condition. Of a property that is given twice it may leave the answer to
+/// that test, as of one that is to be Nil.
 fn is_excluded(cond: &Expr, props: &[(Name, Value)]) -> bool
     ensures { result ≡ true → (s : Stored) (env : List ℕ → Value)
         → holds (expression cond.now) s (bound props.now) env ≡ false }
@@ -91,29 +92,33 @@ fn is_excluded(cond: &Expr, props: &[(Name, Value)]) -> bool
     }
 }
 
-/// Whether one of the two is a property, the other a constant, and the property's value another.
+/// Whether one of the two is a property and the other a constant that the property can't be, so
+/// that they aren't equal.
 fn are_apart(left: &Expr, right: &Expr, props: &[(Name, Value)]) -> bool
     ensures { result ≡ true → (s : Stored) (env : List ℕ → Value) → holds (Bin Oper.Eq
         (expression left.now) (expression right.now)) s (bound props.now) env ≡ false }
 {
     match (left, right) {
-        (Expr::Prop(name), Expr::Const(value)) => is_other(props, name, value),
-        (Expr::Const(value), Expr::Prop(name)) => is_other(props, name, value),
+        (Expr::Prop(name), Expr::Const(value)) => is_nowhere(props, name, value),
+        (Expr::Const(value), Expr::Prop(name)) => is_nowhere(props, name, value),
         _ => false,
     }
 }
 
-/// Whether the last value of the name among the properties, Nil where there is none, isn't this.
-fn is_other(props: &[(Name, Value)], name: &Name, value: &Value) -> bool
-    ensures { result ≡ not (value_eq (bound props.now name.now) value.now) }
+/// Whether the value isn't Nil, and no property of that name has it. Values are compared before
+/// names, since they are most often numbers.
+fn is_nowhere(props: &[(Name, Value)], name: &Name, value: &Value) -> bool
+    ensures { result ≡ true → value_eq (bound props.now name.now) value.now ≡ false }
 {
-    let mut is_other = !matches!(value, Value::Nil);
-    for (key, last) in props {
-        if key == name {
-            is_other = last != value;
+    if matches!(value, Value::Nil) {
+        return false;
+    }
+    for (key, held) in props {
+        if held == value && key == name {
+            return false;
         }
     }
-    is_other
+    true
 }
 
 /// Whether each of the roles is one of the others.
