@@ -17,6 +17,7 @@ use crate::faults::ChangeFault;
 use crate::laws::steps_run;
 use crate::listing::{is_first_due, list_moves, ready_at};
 use crate::parts::{all_done, is_done_at, step_role};
+use crate::scopes::Fixed;
 use crate::starting::{keep_bodies, keep_script, role_states};
 use dioc_terms::{Act, Bundle, Items, Memory, Role, Roles};
 use dpoc_process::{Begins, Runs};
@@ -274,13 +275,16 @@ impl<R: Runs> Net<R> {
         dioc_terms::casts_are_roles();
         process_steps::steps_show_their_acts();
         scope_leader::leaders_tell();
+        let fixed = Fixed {
+            alloc: self.alloc,
+            cast: &self.cast,
+            book: &self.book,
+            bodies: &self.bodies,
+        };
         match step_role(
-            self.alloc,
-            &self.cast,
+            &fixed,
             &mut self.roles,
             &mut self.mail,
-            &self.book,
-            &self.bodies,
             &mut self.updates,
             &mut self.history,
             role,
