@@ -13,6 +13,7 @@ pub mod MetLemmas
 pub mod HoldLemmas
 pub mod MarkLemmas
 pub mod HeldLemmas
+pub mod FirstLemmas
 pub mod SeatingLemmas
 pub mod Crossing
 pub mod Examples

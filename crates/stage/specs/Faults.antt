@@ -1,8 +1,10 @@
 -- Why a commit is refused in the hold of a home.
-use Rattle.std.specs.Prelude.{length, Bool, nat_le, nat_lt, Option, Some, None, is_none, if◌then◌else◌, slice_get}
+use Rattle.std.specs.Prelude.{length, Bool, true, false, not, nat_le, nat_lt, Option, Some, None, is_none, if◌then◌else◌, slice_get}
 use Rattle.std.specs.List.{list_all}
 use Rattle.std.specs.Option.{option_or}
 use Rattle.dioc_terms.specs.declared.bundles.Timed.{Timed}
+use Rattle.dioc_terms.specs.declared.entries.Act.{Act}
+use Rattle.dioc_terms.specs.declared.entries.Act.TheVariants as act
 use Rattle.dioc_terms.specs.declared.processes.Key.{Key}
 use Rattle.dioc_terms.specs.Messages.{visible}
 use Rattle.network_steps.specs.Network.{pending_at}
@@ -38,6 +40,19 @@ abbrev pub take_fault : Key → HomeState → Option CommitFault
 take_fault k home =
     option_or (role_fault home)
     (fault_if (is_none (pending_at k (network_at home.bundle home.history).pending)) fault.NotYet)
+
+-- the fault for which a commit of the act is refused, by the home that is found
+abbrev pub act_fault : Act → HomeState → Option CommitFault
+act_fault (act.Take k) = take_fault k
+act_fault _ = role_fault
+
+abbrev pub says_not_yet : Option CommitFault → Bool
+says_not_yet (Some fault.NotYet) = true
+says_not_yet _ = false
+
+-- a commit of the act isn't refused since it may not come yet
+abbrev pub comes_now : HomeState → Act → Bool
+comes_now home a = not (says_not_yet (act_fault a home))
 
 -- of the script's next change, after so many visible entries
 abbrev pub next_fault : HomeState → Option Timed → Option CommitFault

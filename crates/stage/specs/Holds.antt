@@ -1,6 +1,8 @@
 -- What the commits of scopes and of changes, and the marks, ask of their seat, and what they leave
 -- it.
-use Rattle.std.specs.Prelude.{◌≡◌, ℕ, length, Option, Some}
+use Rattle.std.specs.Prelude.{◌≡◌, ℕ, List, length, Option, Some}
+use Rattle.std.specs.List.{position}
+use Rattle.dioc_terms.specs.declared.entries.Act.{Act}
 use Rattle.dioc_terms.specs.declared.entries.Act.TheVariants as act
 use Rattle.dioc_terms.specs.declared.entries.Entry.{Entry}
 use Rattle.dioc_terms.specs.declared.names.Role.{Role}
@@ -11,7 +13,7 @@ use Rattle.turn_lock.specs.declared.views.View.{View}
 use Rattle.turn_lock.specs.Views.{number}
 use Rattle.stage.specs.Begins.{CanBegin, begin_in, update_in}
 use Rattle.stage.specs.Changes.{next_entry}
-use Rattle.stage.specs.Faults.{feeder_fault, role_fault}
+use Rattle.stage.specs.Faults.{comes_now, feeder_fault, role_fault}
 use Rattle.stage.specs.Homes.{HasEnded, HomeState, IsCut}
 use Rattle.stage.specs.Owners.{cast_place}
 use Rattle.stage.specs.Seats.{Base, Added, Committed, IsFound, LookedOn}
@@ -58,3 +60,11 @@ pub record SawHome (v w : View Entry Base) : Type 0 where
   pub looked : LookedOn v w
   pub home : HomeState
   pub found : IsFound v w.seen home
+
+-- the seat has looked on, and this is where the first of the acts stands whose commit the home that
+-- was found doesn't refuse since it may not come yet
+pub record FoundFirst (v w : View Entry Base) (acts : List Act) (first : Option ℕ) : Type 0 where
+  pub looked : LookedOn v w
+  pub home : HomeState
+  pub found : IsFound v w.seen home
+  pub first_is : first ≡ position (comes_now home) acts

@@ -1,14 +1,15 @@
 //! What lies under the lock of a stage: all that the roles share.
 
-ghost use Rattle.std.specs.Prelude.{◌≡◌, ◌≢◌, IfSome, nat_le, length};
+ghost use Rattle.std.specs.Prelude.{◌≡◌, ◌≢◌, ◌<◌, IfSome, nat_le, length};
+ghost use Rattle.std.specs.List.{position};
 ghost use Rattle.dioc_terms.specs.Plain.{plain};
 ghost use Rattle.network_steps.specs.Schedule.{change_is_due};
-ghost use Rattle.stage.specs.Faults.{role_fault, take_fault};
+ghost use Rattle.stage.specs.Faults.{comes_now, role_fault, take_fault};
 ghost use Rattle.stage.specs.Homes.{IsSoundHome};
 
 use crate::faults::{CommitFault, Why};
 use crate::marks::Marks;
-use dioc_terms::{Bundle, Entry, Key, Name, Roles};
+use dioc_terms::{Act, Bundle, Entry, Key, Name, Roles};
 use net_core::{Coming, is_first_due};
 use role_mailbox::Mail;
 use rule_book::Book;
@@ -208,5 +209,25 @@ impl Home {
         } else {
             Some(CommitFault::NotYet)
         }
+    }
+
+    /// Where the first of these acts stands whose commit isn't refused now since it may not come
+    /// yet.
+    pub(crate) fn first_ready(&self, acts: &[Act]) -> Option<usize>
+        ensures first { result ≡ position (comes_now self.now) acts.now }
+        ensures within { IfSome result (λ at. at < length acts.now) }
+    {
+        acts.iter().position(|act| self.comes_now(act))
+    }
+
+    /// Whether a commit of the act isn't refused now since it may not come yet.
+    fn comes_now(&self, act: &Act) -> bool
+        ensures { result ≡ comes_now self.now act.now }
+    {
+        let fault = match act {
+            Act::Take(key) => self.take_fault(key),
+            _ => self.role_fault(),
+        };
+        !matches!(fault, Some(CommitFault::NotYet))
     }
 }

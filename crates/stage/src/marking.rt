@@ -1,21 +1,42 @@
-//! The calls of a stage that add no entry: a role has finished, or the stage is to stop.
+//! The calls of a stage that add no entry: a role asks which of its acts may come, has finished, or
+//! stops the stage.
 
-ghost use Rattle.std.specs.Prelude.{◌≡◌};
+ghost use Rattle.std.specs.Prelude.{◌≡◌, ◌<◌, IfSome, length};
 ghost use Rattle.stage.specs.Held.{HeldOnce};
-ghost use Rattle.stage.specs.Holds.{HasFinished, SawHome, SawLimit};
+ghost use Rattle.stage.specs.Holds.{FoundFirst, HasFinished, SawHome, SawLimit};
 ghost use Rattle.stage.specs.Homes.{HomeState};
 ghost use Rattle.stage.specs.Marks.{with_finished, with_stop};
 
 use crate::faults::Why;
 use crate::home::Home;
 use crate::stage::Stage;
-use dioc_terms::Role;
+use dioc_terms::{Act, Role};
 use std::sync::Wait;
 use turn_lock::Seat;
 
 impl Stage {
     ghost use Rattle.stage.specs.Stages.{IsSeatIn};
     ghost use Rattle.turn_lock.specs.Words.{view, known};
+
+    /// Asks in one hold where the first of these acts stands whose commit isn't refused there since
+    /// it may not come yet. It is none where each is refused so. Nothing is changed.
+    pub fn first_ready<R: Wait>(
+        &self,
+        rt: &R,
+        seat: Seat<Home>,
+        acts: &[Act],
+    ) -> (Seat<Home>, Option<usize>)
+        requires of { IsSeatIn self.now seat }
+        ensures of { IsSeatIn self.now result.0 }
+        ensures first { FoundFirst (view seat) (view result.0) acts.now result.1 }
+        ensures within { IfSome result.1 (λ at. at < length acts.now) }
+        ensures held { (home : HomeState)
+            × HeldOnce (known seat) (known result.0) home home }
+    {
+        let mut turn = self.enter(rt, seat);
+        let first = turn.home().first_ready(acts);
+        (self.turns.leave(turn), first)
+    }
 
     /// Marks the seat's role, whose process has ended, as finished. Once all are, changes are
     /// refused and nobody waits any more.
