@@ -11,6 +11,7 @@ ghost use Rattle.role_statuses.specs.ListLaws.{active};
 use crate::advancing::advance;
 use crate::progress::Progress;
 use crate::readying::make_ready;
+use crate::relisting::refresh_acts;
 use crate::steps::{Ready, clear};
 use dioc_terms::{Act, Memory, Role, Store, give_up};
 use dpoc_process::{Got, PrepareFault, Prepared, Runs};
@@ -99,9 +100,7 @@ impl Runs for FlatRole {
     }
 
     fn refresh_acts(&self, alloc: Global, acts: &mut Vec<Act>) -> Result<(), Memory> {
-        let listed = self.acts(alloc)?;
-        drop(mem::replace(acts, listed));
-        Ok(())
+        refresh_acts(&self.progress, alloc, &self.role, &self.plan, acts)
     }
 
     fn prepare(&mut self, alloc: Global, act: &Act) -> Result<Prepared, PrepareFault> {
