@@ -4,7 +4,6 @@ use Rattle.std.proofs.lemmas.Result.{IfOk-weaker}
 use Rattle.std.specs.Prelude.{OnOk}
 use Rattle.dioc_terms.specs.declared.values.Value.{Value}
 use Rattle.dioc_terms.specs.KeptStores.{store_of}
-use Rattle.dpoc_process.specs.Growth.{value_at}
 use Rattle.dpoc_process.specs.KeptReady.{IsPreparedFor}
 use Rattle.flat_role.proofs.FoundLemmas.{own_meant}
 use Rattle.flat_role.proofs.LeafActs.{front_acts}
