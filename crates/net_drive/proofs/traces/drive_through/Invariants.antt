@@ -3,7 +3,7 @@ use Rattle.std.proofs.Common.{◌≡◌, drop, take}
 use Rattle.std.specs.Prelude.{map}
 use Rattle.net_drive.specs.Driving.{DrivesOn}
 use Rattle.schedule.specs.Agendas.{agenda_of, ready_seen}
-use Rattle.net_drive.proofs.traces.drive_entries.Given as goal
+use Rattle.net_drive.proofs.traces.drive_through.Given as goal
 
 abbrev pub invariant-loop-entry : goal.invariant-loop-entry
 invariant-loop-entry g l = record {

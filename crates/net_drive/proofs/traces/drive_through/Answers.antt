@@ -7,10 +7,10 @@ use Rattle.net_drive.specs.Strays.{IsDriveStray}
 use Rattle.net_drive.proofs.DriveStrays.{stuck_stray}
 use Rattle.net_drive.proofs.Exactness.{same_traces, strays_are_exact}
 use Rattle.net_drive.proofs.OnTheWay.{entry_more, entry_shown, join, part_left, room_on, shown_so_far, stay, way_whole, whole_driven}
-use Rattle.net_drive.proofs.traces.drive_entries.Goals as goal
+use Rattle.net_drive.proofs.traces.drive_through.Goals as goal
 
 pub loop-entry-init : goal.loop-entry-init
-loop-entry-init g c = record { number = refl; way = stay c.args.net.now c.args.trace.now; agenda = c.requires.agenda }
+loop-entry-init g c = record { number = refl; way = stay c.args.net.now c.args.trace.now; agenda = c.in_ok-agenda.ensures }
 
 pub reach-requires-clause-room : goal.reach-requires-clause-room
 reach-requires-clause-room g c =
