@@ -156,16 +156,13 @@ fn do_own(
         pick,
         room,
     } = own;
-    match room {
-        Some(room) => {
-            if room.is_for(&got) {
-                return put_other(plan, marks, place, store, (written, room), got);
-            }
-            drop(room);
-            go_on_itself(plan, marks, place, store, (written, pick), got)
+    if let Some(room) = room {
+        if room.is_for(&got) {
+            return put_other(plan, marks, place, store, (written, room), got);
         }
-        None => go_on_itself(plan, marks, place, store, (written, pick), got),
+        drop(room);
     }
+    go_on_itself(plan, marks, place, store, (written, pick), got)
 }
 
 /// Puts another process in the place.

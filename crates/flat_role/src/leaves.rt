@@ -1,6 +1,6 @@
 //! What is next at a place that can act.
 
-ghost use Rattle.std.specs.Prelude.{◌≡◌, ◌<◌, ◌++◌, ◌∷◌, [], List, None, Some, true, false, drop, IfOk, OnOk, length, option_map};
+ghost use Rattle.std.specs.Prelude.{◌≡◌, ◌<◌, ◌++◌, ◌∷◌, [], List, None, Some, true, false, drop, IfErr, IfOk, OnOk, length, option_map};
 ghost use Rattle.dioc_terms.specs.declared.entries.Act.TheVariants as acts_of;
 ghost use Rattle.dioc_terms.specs.declared.entries.Entry.TheVariants as entries;
 ghost use Rattle.dioc_terms.specs.declared.names.Role.{Role};
@@ -24,9 +24,9 @@ use crate::offered::{add_offers, can_act};
 use crate::parts::{add_gathered, add_offer, add_take, does, value_of, write_of};
 use crate::prepared::{prepared_entry, prepared_follow, prepared_gather, prepared_op};
 use dioc_terms::{Act, Entry, Index, Key, Memory, Note, Payload, Role, Roles, Store, Tag, Value};
-use dpoc_process::Prepared;
 use dpoc_process::growth::Write;
 use dpoc_process::offered::{gathers, key_of, takes};
+use dpoc_process::{PrepareFault, Prepared};
 use flat_code::{Op, Plan};
 use std::alloc::Global;
 
@@ -377,17 +377,17 @@ pub(crate) fn write_for(alloc: Global, value: &Value, next: Next<'_>) -> Result<
 }
 
 /// What is shown of an act before it is done. Of an update it is the update that shows its acts.
-#[inline(never)]
 pub(crate) fn prepared_for(
     alloc: Global,
     me: &Role,
     act: &Act,
     value: &Value,
     next: Next<'_>,
-) -> Result<Prepared, Memory>
+) -> Result<Prepared, PrepareFault>
     requires { is_update next ≡ false }
-    ensures { (R : Process) → IsNext me.now next.entry R →
+    ensures shown { (R : Process) → IsNext me.now next.entry R →
         IfOk result (IsPreparedFor me.now act.now value.now R) }
+    ensures fault { IfErr result (λ fault. fault ≡ PrepareFault.Memory) }
 {
     match next {
         Next::Op(op) => prepared_op(alloc, me, act, value, op),
@@ -401,6 +401,7 @@ pub(crate) fn prepared_for(
 }
 
 /// What is shown of putting an auxiliary message.
+#[inline(never)]
 fn prepared_put(
     alloc: Global,
     me: &Role,
@@ -408,12 +409,13 @@ fn prepared_put(
     to: &Role,
     index: Index,
     sign: Sign,
-) -> Result<Prepared, Memory>
+) -> Result<Prepared, PrepareFault>
     ensures act { IfOk result (λ shown. shown.act ≡ act.now) }
     ensures entry { IfOk result (λ shown. shown.entry
         ≡ Some (entries.Put (key me.now to.now index (tag_of sign)) (noted (load_of sign)))) }
     ensures head { IfOk result (λ shown. shown.head ≡ None) }
     ensures payload { IfOk result (λ shown. option_map load shown.payload ≡ Some (load_of sign)) }
+    ensures fault { IfErr result (λ fault. fault ≡ PrepareFault.Memory) }
 {
     let key = key_of(alloc, me, to, index, sign.tag())?;
     let act = act.copy(alloc)?;

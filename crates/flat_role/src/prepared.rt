@@ -3,7 +3,7 @@
 //! What is shown is large. So each kind of op has a function of its own, which makes all at once,
 //! and no other op makes room for it.
 
-ghost use Rattle.std.specs.Prelude.{◌≡◌, ◌<◌, List, None, Some, IfOk, length, option_map};
+ghost use Rattle.std.specs.Prelude.{◌≡◌, ◌<◌, List, None, Some, IfErr, IfOk, length, option_map};
 ghost use Rattle.dioc_terms.specs.declared.entries.Entry.TheVariants as entries;
 ghost use Rattle.dioc_terms.specs.declared.processes.Tag.TheVariants as tags;
 ghost use Rattle.dioc_terms.specs.KeptStores.{store_of};
@@ -23,12 +23,12 @@ use dioc_terms::{
     Act, Entry, Index, Key, Memory, Messages, Name, Note, Payload, Role, ScopeHead, Store, Tag,
     Value,
 };
-use dpoc_process::Prepared;
 use dpoc_process::growth::{Write, is_true};
 use dpoc_process::offered::{key_of, operation};
 use dpoc_process::prepared::{
     gather_entry, input_entry, payload_of_tell, pick_entry, set_entry, tell_entry,
 };
+use dpoc_process::{PrepareFault, Prepared};
 use flat_code::Op;
 use std::alloc::Global;
 
@@ -40,10 +40,11 @@ pub(crate) fn prepared_at(
     value: &Value,
     code: &LiveCode,
     part: Part<'_>,
-) -> Result<Prepared, Memory>
+) -> Result<Prepared, PrepareFault>
     requires { IsInside (length code.now.code.ops.items) part }
-    ensures { IfOk result (IsPreparedFor me.now act.now value.now
+    ensures shown { IfOk result (IsPreparedFor me.now act.now value.now
         (part_process (processes code.now.code.ops.items) part.entry)) }
+    ensures fault { IfErr result (λ fault. fault ≡ PrepareFault.Memory) }
 {
     match part {
         Part::At(place) => prepared_op(alloc, me, act, value, code.op_at(place)),
@@ -53,15 +54,17 @@ pub(crate) fn prepared_at(
 }
 
 /// What is shown of the act that an op does.
+#[inline(never)]
 pub(crate) fn prepared_op(
     alloc: Global,
     me: &Role,
     act: &Act,
     value: &Value,
     op: &Op,
-) -> Result<Prepared, Memory>
-    ensures { IfOk result (λ shown. (done : List Process) →
+) -> Result<Prepared, PrepareFault>
+    ensures shown { IfOk result (λ shown. (done : List Process) →
         IsPreparedFor me.now act.now value.now (op_process done op.now) shown) }
+    ensures fault { IfErr result (λ fault. fault ≡ PrepareFault.Memory) }
 {
     match op {
         Op::Send { index, op, to, .. } => prepared_send(alloc, me, act, value, to, *index, op),
@@ -93,15 +96,17 @@ pub(crate) fn prepared_op(
 }
 
 /// What is shown of an act with this entry, and with neither a head nor a message.
+#[inline(never)]
 pub(crate) fn prepared_entry(
     alloc: Global,
     act: &Act,
     entry: Option<Entry>,
-) -> Result<Prepared, Memory>
+) -> Result<Prepared, PrepareFault>
     ensures act { IfOk result (λ shown. shown.act ≡ act.now) }
     ensures entry { IfOk result (λ shown. shown.entry ≡ entry) }
     ensures head { IfOk result (λ shown. shown.head ≡ None) }
     ensures payload { IfOk result (λ shown. shown.payload ≡ None) }
+    ensures fault { IfErr result (λ fault. fault ≡ PrepareFault.Memory) }
 {
     let act = act.copy(alloc)?;
     Ok(Prepared {
@@ -112,6 +117,7 @@ pub(crate) fn prepared_entry(
     })
 }
 
+#[inline(never)]
 fn prepared_send(
     alloc: Global,
     me: &Role,
@@ -120,13 +126,14 @@ fn prepared_send(
     to: &Role,
     index: Index,
     op: &Name,
-) -> Result<Prepared, Memory>
+) -> Result<Prepared, PrepareFault>
     ensures act { IfOk result (λ shown. shown.act ≡ act.now) }
     ensures entry { IfOk result (λ shown. shown.entry
         ≡ Some (entries.Put (key me.now to.now index (tags.Op op.now)) (noted (Val value.now)))) }
     ensures head { IfOk result (λ shown. shown.head ≡ None) }
     ensures payload { IfOk result (λ shown. option_map load shown.payload
         ≡ Some (Val value.now)) }
+    ensures fault { IfErr result (λ fault. fault ≡ PrepareFault.Memory) }
 {
     let key = operation(alloc, me, to, index, op)?;
     let note = Note::Val(value.copy(alloc)?);
@@ -140,6 +147,7 @@ fn prepared_send(
     })
 }
 
+#[inline(never)]
 fn prepared_receive(
     alloc: Global,
     me: &Role,
@@ -148,12 +156,13 @@ fn prepared_receive(
     index: Index,
     op: &Name,
     var: &Name,
-) -> Result<Prepared, Memory>
+) -> Result<Prepared, PrepareFault>
     ensures act { IfOk result (λ shown. shown.act ≡ act.now) }
     ensures entry { IfOk result (λ shown. shown.entry
         ≡ Some (entries.Take (key from.now me.now index (tags.Op op.now)) (Some var.now))) }
     ensures head { IfOk result (λ shown. shown.head ≡ None) }
     ensures payload { IfOk result (λ shown. shown.payload ≡ None) }
+    ensures fault { IfErr result (λ fault. fault ≡ PrepareFault.Memory) }
 {
     let key = operation(alloc, from, me, index, op)?;
     let var = Some(var.copy(alloc)?);
@@ -166,6 +175,7 @@ fn prepared_receive(
     })
 }
 
+#[inline(never)]
 fn prepared_set(
     alloc: Global,
     me: &Role,
@@ -173,17 +183,19 @@ fn prepared_set(
     value: &Value,
     index: Index,
     var: &Name,
-) -> Result<Prepared, Memory>
+) -> Result<Prepared, PrepareFault>
     ensures act { IfOk result (λ shown. shown.act ≡ act.now) }
     ensures entry { IfOk result (λ shown.
         shown.entry ≡ Some (entries.Set index me.now var.now value.now)) }
     ensures head { IfOk result (λ shown. shown.head ≡ None) }
     ensures payload { IfOk result (λ shown. shown.payload ≡ None) }
+    ensures fault { IfErr result (λ fault. fault ≡ PrepareFault.Memory) }
 {
     let entry = set_entry(alloc, index, me, var, value)?;
     prepared_entry(alloc, act, entry)
 }
 
+#[inline(never)]
 fn prepared_input(
     alloc: Global,
     me: &Role,
@@ -191,35 +203,39 @@ fn prepared_input(
     value: &Value,
     index: Index,
     var: &Name,
-) -> Result<Prepared, Memory>
+) -> Result<Prepared, PrepareFault>
     ensures act { IfOk result (λ shown. shown.act ≡ act.now) }
     ensures entry { IfOk result (λ shown.
         shown.entry ≡ Some (entries.Input index me.now var.now value.now)) }
     ensures head { IfOk result (λ shown. shown.head ≡ None) }
     ensures payload { IfOk result (λ shown. shown.payload ≡ None) }
+    ensures fault { IfErr result (λ fault. fault ≡ PrepareFault.Memory) }
 {
     let entry = input_entry(alloc, index, me, var, value)?;
     prepared_entry(alloc, act, entry)
 }
 
+#[inline(never)]
 fn prepared_pick(
     alloc: Global,
     me: &Role,
     act: &Act,
     value: &Value,
     index: Index,
-) -> Result<Prepared, Memory>
+) -> Result<Prepared, PrepareFault>
     ensures act { IfOk result (λ shown. shown.act ≡ act.now) }
     ensures entry { IfOk result (λ shown.
         shown.entry ≡ Some (entries.Pick index me.now (is_true value.now))) }
     ensures head { IfOk result (λ shown. shown.head ≡ None) }
     ensures payload { IfOk result (λ shown. shown.payload ≡ None) }
+    ensures fault { IfErr result (λ fault. fault ≡ PrepareFault.Memory) }
 {
     let entry = pick_entry(alloc, index, me, is_true(value))?;
     prepared_entry(alloc, act, entry)
 }
 
 /// What is shown of an act by which the role takes an auxiliary message of another.
+#[inline(never)]
 pub(crate) fn prepared_follow(
     alloc: Global,
     me: &Role,
@@ -227,12 +243,13 @@ pub(crate) fn prepared_follow(
     leader: &Role,
     index: Index,
     tag: Tag,
-) -> Result<Prepared, Memory>
+) -> Result<Prepared, PrepareFault>
     ensures act { IfOk result (λ shown. shown.act ≡ act.now) }
     ensures entry { IfOk result (λ shown.
         shown.entry ≡ Some (entries.Take (key leader.now me.now index tag) None)) }
     ensures head { IfOk result (λ shown. shown.head ≡ None) }
     ensures payload { IfOk result (λ shown. shown.payload ≡ None) }
+    ensures fault { IfErr result (λ fault. fault ≡ PrepareFault.Memory) }
 {
     let key = key_of(alloc, leader, me, index, tag)?;
     let act = act.copy(alloc)?;
@@ -245,11 +262,13 @@ pub(crate) fn prepared_follow(
 }
 
 /// What is shown of the act that begins a scope, whose choice isn't known yet.
-fn prepared_scope(alloc: Global, act: &Act, head: &ScopeHead) -> Result<Prepared, Memory>
+#[inline(never)]
+fn prepared_scope(alloc: Global, act: &Act, head: &ScopeHead) -> Result<Prepared, PrepareFault>
     ensures act { IfOk result (λ shown. shown.act ≡ act.now) }
     ensures entry { IfOk result (λ shown. shown.entry ≡ None) }
     ensures head { IfOk result (λ shown. shown.head ≡ Some head.now) }
     ensures payload { IfOk result (λ shown. shown.payload ≡ None) }
+    ensures fault { IfErr result (λ fault. fault ≡ PrepareFault.Memory) }
 {
     let head = head.copy(alloc)?;
     let act = act.copy(alloc)?;
@@ -261,14 +280,16 @@ fn prepared_scope(alloc: Global, act: &Act, head: &ScopeHead) -> Result<Prepared
     })
 }
 
+#[inline(never)]
 fn prepared_tell(
     alloc: Global,
     me: &Role,
     act: &Act,
     value: &Value,
     messages: &Messages,
-) -> Result<Prepared, Memory>
-    ensures { IfOk result (IsPreparedFor me.now act.now value.now (Tell (letters messages.now))) }
+) -> Result<Prepared, PrepareFault>
+    ensures shown { IfOk result (IsPreparedFor me.now act.now value.now (Tell (letters messages.now))) }
+    ensures fault { IfErr result (λ fault. fault ≡ PrepareFault.Memory) }
 {
     let entry = tell_entry(alloc, me, value, messages)?;
     let payload = payload_of_tell(alloc, value, messages)?;
@@ -281,14 +302,16 @@ fn prepared_tell(
     })
 }
 
+#[inline(never)]
 pub(crate) fn prepared_gather(
     alloc: Global,
     me: &Role,
     act: &Act,
     value: &Value,
     keys: &[Key],
-) -> Result<Prepared, Memory>
-    ensures { IfOk result (IsPreparedFor me.now act.now value.now (Gather keys.now)) }
+) -> Result<Prepared, PrepareFault>
+    ensures shown { IfOk result (IsPreparedFor me.now act.now value.now (Gather keys.now)) }
+    ensures fault { IfErr result (λ fault. fault ≡ PrepareFault.Memory) }
 {
     let entry = gather_entry(alloc, me, value, keys)?;
     prepared_entry(alloc, act, entry)

@@ -1,6 +1,6 @@
 //! What is made ready of an act, and how it is used when the act is done.
 
-ghost use Rattle.std.specs.Prelude.{◌≡◌, ◌<◌, ◌↔◌, true, None, Some, IfOk, IsErrOf, OnOk, length};
+ghost use Rattle.std.specs.Prelude.{◌≡◌, ◌<◌, ◌↔◌, true, None, Some, IfErr, IfOk, IsErrOf, OnOk, length};
 ghost use Rattle.std.specs.Option.{is_some};
 ghost use Rattle.dioc_terms.specs.KeptStores.{store_of, room};
 ghost use Rattle.dpoc_process.specs.Acting.{acting};
@@ -19,7 +19,7 @@ use crate::growth::{Growth, grown, growth_at};
 use crate::live_code::LiveCode;
 use crate::offered::{Part, find};
 use crate::prepared::{prepared_at, value_for, write_for};
-use dioc_terms::{Act, Memory, Role, Store, Value, give_up};
+use dioc_terms::{Act, Memory, Role, Store, Value};
 use dpoc_process::growth::Write;
 use dpoc_process::ready::{apply, split};
 use dpoc_process::{Got, PrepareFault, Prepared};
@@ -74,10 +74,7 @@ pub(crate) fn make_ready(
         None => Err(PrepareFault::NoAct),
         Some(part) => {
             store.reserve(1)?;
-            match made_ready(alloc, me, code, store, act, part) {
-                Ok(made) => Ok(made),
-                Err(_) => Err(PrepareFault::Memory),
-            }
+            made_ready(alloc, me, code, store, act, part)
         }
     }
 }
@@ -90,18 +87,17 @@ fn made_ready(
     store: &Store,
     act: &Act,
     part: Part<'_>,
-) -> Result<(Ready, Prepared), Memory>
+) -> Result<(Ready, Prepared), PrepareFault>
     requires { IsInside (length code.now.code.ops.items) part }
-    ensures { IfOk result (λ made. IsMade code.now.code.ops.items me.now (store_of store.now)
+    ensures fault { IfErr result (λ fault. fault ≡ PrepareFault.Memory) }
+    ensures made { IfOk result (λ made. IsMade code.now.code.ops.items me.now (store_of store.now)
         act.now (Some (part_process (processes code.now.code.ops.items) part.entry))
         made.0 made.1) }
 {
     let value = value_for(alloc, store, code, part)?;
+    let ready = ready_at(alloc, me, code, act, &value, part)?;
     let prepared = prepared_at(alloc, me, act, &value, code, part)?;
-    match ready_at(alloc, me, code, act, &value, part) {
-        Ok(ready) => Ok((ready, prepared)),
-        Err(fault) => give_up(prepared, fault),
-    }
+    Ok((ready, prepared))
 }
 
 /// What is made ready of a part.

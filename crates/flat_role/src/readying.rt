@@ -1,6 +1,6 @@
 //! What is made ready of an act before it is done.
 
-ghost use Rattle.std.specs.Prelude.{◌≡◌, ◌<◌, false, true, IfOk, OnOk, get_or, length};
+ghost use Rattle.std.specs.Prelude.{◌≡◌, ◌<◌, false, true, IfErr, IfOk, OnOk, get_or, length};
 ghost use Rattle.std.specs.Option.{is_some};
 ghost use Rattle.dioc_terms.specs.declared.names.Role.{Role as RoleName};
 ghost use Rattle.dioc_terms.specs.KeptStores.{store_of, room};
@@ -43,7 +43,7 @@ pub(crate) fn make_ready(
     store: &mut Store,
     found: (&Act, usize),
     ready: &mut Option<Ready>,
-) -> Result<Prepared, Memory>
+) -> Result<Prepared, PrepareFault>
     requires progress { IsProgress me.now plan.now progress.old }
     requires found { IsFound me.now plan.now progress.old found.0.now found.1
         (get_or progress.old.active.items found.1 0) }
@@ -55,6 +55,7 @@ pub(crate) fn make_ready(
         (store_of store.old) found.entry.0.now ready.new) }
     ensures shown { IfOk result (IsPrepared (local me.now
         (runs_by me.now plan.now progress.old) (store_of store.old)) found.entry.0.now) }
+    ensures fault { IfErr result (λ fault. fault ≡ PrepareFault.Memory) }
 {
     store.reserve(1)?;
     let (act, at) = found;
@@ -80,7 +81,7 @@ fn step_at(
     store: &mut Store,
     found: (&Act, usize, usize),
     ready: &mut Option<Ready>,
-) -> Result<Prepared, Memory>
+) -> Result<Prepared, PrepareFault>
     requires inside { found.2 < plan_len plan.now }
     requires as_long { length marks.old.items ≡ plan_len plan.now }
     requires has_room { 0 < room store.old }
@@ -98,20 +99,21 @@ fn step_at(
         found.entry.0.now found.entry.1 ready.new) }
     ensures shown { IfOk result (IsShownBy me.now (store_of store.old) found.entry.0.now
         (front_at me.now plan.now marks.old.items found.entry.2)) }
+    ensures fault { IfErr result (λ fault. fault ≡ PrepareFault.Memory) }
 {
     let (act, at, place) = found;
-    match &mut marks[place] {
-        Mark::Became(update) => update_ready(alloc, me, update, store, (act, at), ready),
-        _ => code_ready(
-            alloc,
-            me,
-            plan,
-            marks.as_slice(),
-            store,
-            (act, at, place),
-            ready,
-        ),
+    if let Mark::Became(update) = &mut marks[place] {
+        return update_ready(alloc, me, update, store, (act, at), ready);
     }
+    code_ready(
+        alloc,
+        me,
+        plan,
+        marks.as_slice(),
+        store,
+        (act, at, place),
+        ready,
+    )
 }
 
 /// Keeps what is made ready of an act of the code, and gives what is shown of it.
@@ -123,7 +125,7 @@ fn code_ready(
     store: &Store,
     found: (&Act, usize, usize),
     ready: &mut Option<Ready>,
-) -> Result<Prepared, Memory>
+) -> Result<Prepared, PrepareFault>
     requires inside { found.2 < plan_len plan.now }
     requires as_long { length marks.now ≡ plan_len plan.now }
     requires leaf { is_leaf (plan_marks me.now plan.now marks.now found.2)
@@ -136,6 +138,7 @@ fn code_ready(
         found.entry.0.now found.entry.1 ready.new) }
     ensures shown { IfOk result (IsShownBy me.now (store_of store.now) found.entry.0.now
         (front_at me.now plan.now marks.now found.entry.2)) }
+    ensures fault { IfErr result (λ fault. fault ≡ PrepareFault.Memory) }
 {
     let (act, at, place) = found;
     let next = next_at(me, plan, marks, place);
@@ -177,7 +180,7 @@ fn update_ready(
     store: &mut Store,
     found: (&Act, usize),
     ready: &mut Option<Ready>,
-) -> Result<Prepared, Memory>
+) -> Result<Prepared, PrepareFault>
     requires { is_some (acting me.now found.0.now (update_process update.old)) ≡ true }
     ensures same { update_process update.new ≡ update_process update.old }
     ensures same_store { store_of store.new ≡ store_of store.old }
@@ -186,6 +189,7 @@ fn update_ready(
         found.entry.0.now update.new) found.entry.0.now found.entry.1 ready.new) }
     ensures shown { IfOk result (IsShownBy me.now (store_of store.old) found.entry.0.now
         (update_process update.old)) }
+    ensures fault { IfErr result (λ fault. fault ≡ PrepareFault.Memory) }
 {
     let (act, at) = found;
     settle(alloc, &mut update.code, &mut update.frame)?;
@@ -199,7 +203,7 @@ fn update_ready(
             });
             Ok(prepared)
         }
-        Err(PrepareFault::Memory) => Err(Memory),
+        Err(PrepareFault::Memory) => Err(PrepareFault::Memory),
         Err(PrepareFault::NoAct) => unreachable!(),
     }
 }

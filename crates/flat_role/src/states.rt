@@ -105,24 +105,22 @@ impl Runs for FlatRole {
 
     fn prepare(&mut self, alloc: Global, act: &Act) -> Result<Prepared, PrepareFault> {
         clear(&mut self.ready);
-        match self.progress.find(&self.role, &self.plan, act) {
-            None => Err(PrepareFault::NoAct),
-            Some(at) => match make_ready(
-                alloc,
-                &self.role,
-                &self.plan,
-                &mut self.progress,
-                &mut self.store,
-                (act, at),
-                &mut self.ready,
-            ) {
-                Ok(prepared) => Ok(prepared),
-                Err(_) => {
-                    clear(&mut self.ready);
-                    Err(PrepareFault::Memory)
-                }
-            },
+        let Some(at) = self.progress.find(&self.role, &self.plan, act) else {
+            return Err(PrepareFault::NoAct);
+        };
+        let made = make_ready(
+            alloc,
+            &self.role,
+            &self.plan,
+            &mut self.progress,
+            &mut self.store,
+            (act, at),
+            &mut self.ready,
+        );
+        if made.is_err() {
+            clear(&mut self.ready);
         }
+        made
     }
 
     fn advance(&mut self, act: &Act, got: Got) {

@@ -58,4 +58,4 @@ returns-clause-shown c =
           c.requires.leaf c.requires.own c.requires.offered;
       shown = subst (λ (v : Value). IsPreparedFor me a v R p)
           (c.in_ok-value.ensures me R next) shown;
-    }) (c.prepared_for.ensures R next)
+    }) (c.prepared_for.ensures.shown R next)

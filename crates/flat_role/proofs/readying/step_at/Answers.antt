@@ -5,8 +5,8 @@ use Rattle.std.specs.Prelude.{IfOk, OnOk}
 use Rattle.std.proofs.lemmas.List.{get_or-set_same, get_or_read, set-get_or}
 use Rattle.std.proofs.lemmas.Result.{on_ok_weaker}
 use Rattle.dioc_terms.specs.declared.entries.Act.{Act}
-use Rattle.dioc_terms.specs.declared.faults.Memory.{Memory}
 use Rattle.dioc_terms.specs.declared.names.Role.{Role}
+use Rattle.dpoc_process.specs.declared.runs.PrepareFault.{PrepareFault}
 use Rattle.dpoc_process.specs.declared.runs.Prepared.{Prepared}
 use Rattle.dioc_terms.specs.KeptStores.{store_of}
 use Rattle.dioc_terms.specs.Processes.{Process}
@@ -35,7 +35,7 @@ update_for me s a P b (steps.Updated ready) is = is
 
 -- the mark that is written stands at the place
 step_for : (me : Role) (s : Store) (a : Act) (P : Process) (marks : List KeptMark) (place at : ℕ)
-    (b : Box Update) (held : Option Ready) (shown : Result Prepared Memory) → place < length marks
+    (b : Box Update) (held : Option Ready) (shown : Result Prepared PrepareFault) → place < length marks
     → OnOk shown (IsKeptFor (IsUpdateStep me s a b.value) a at held)
     → OnOk shown (IsKeptFor (IsStepFor me s a
     (get_or (set marks place (kept.Became b)) place kept.Untouched) P) a at held)
