@@ -401,7 +401,6 @@ pub(crate) fn prepared_for(
 }
 
 /// What is shown of putting an auxiliary message.
-#[inline(never)]
 fn prepared_put(
     alloc: Global,
     me: &Role,

@@ -54,7 +54,6 @@ pub(crate) fn prepared_at(
 }
 
 /// What is shown of the act that an op does.
-#[inline(never)]
 pub(crate) fn prepared_op(
     alloc: Global,
     me: &Role,
@@ -96,7 +95,6 @@ pub(crate) fn prepared_op(
 }
 
 /// What is shown of an act with this entry, and with neither a head nor a message.
-#[inline(never)]
 pub(crate) fn prepared_entry(
     alloc: Global,
     act: &Act,
@@ -117,7 +115,6 @@ pub(crate) fn prepared_entry(
     })
 }
 
-#[inline(never)]
 fn prepared_send(
     alloc: Global,
     me: &Role,
@@ -147,7 +144,6 @@ fn prepared_send(
     })
 }
 
-#[inline(never)]
 fn prepared_receive(
     alloc: Global,
     me: &Role,
@@ -175,7 +171,6 @@ fn prepared_receive(
     })
 }
 
-#[inline(never)]
 fn prepared_set(
     alloc: Global,
     me: &Role,
@@ -195,7 +190,6 @@ fn prepared_set(
     prepared_entry(alloc, act, entry)
 }
 
-#[inline(never)]
 fn prepared_input(
     alloc: Global,
     me: &Role,
@@ -215,7 +209,6 @@ fn prepared_input(
     prepared_entry(alloc, act, entry)
 }
 
-#[inline(never)]
 fn prepared_pick(
     alloc: Global,
     me: &Role,
@@ -235,7 +228,6 @@ fn prepared_pick(
 }
 
 /// What is shown of an act by which the role takes an auxiliary message of another.
-#[inline(never)]
 pub(crate) fn prepared_follow(
     alloc: Global,
     me: &Role,
@@ -262,7 +254,6 @@ pub(crate) fn prepared_follow(
 }
 
 /// What is shown of the act that begins a scope, whose choice isn't known yet.
-#[inline(never)]
 fn prepared_scope(alloc: Global, act: &Act, head: &ScopeHead) -> Result<Prepared, PrepareFault>
     ensures act { IfOk result (λ shown. shown.act ≡ act.now) }
     ensures entry { IfOk result (λ shown. shown.entry ≡ None) }
@@ -280,7 +271,6 @@ fn prepared_scope(alloc: Global, act: &Act, head: &ScopeHead) -> Result<Prepared
     })
 }
 
-#[inline(never)]
 fn prepared_tell(
     alloc: Global,
     me: &Role,
@@ -302,7 +292,6 @@ fn prepared_tell(
     })
 }
 
-#[inline(never)]
 pub(crate) fn prepared_gather(
     alloc: Global,
     me: &Role,

@@ -57,7 +57,6 @@ pub(crate) fn make_ready(
         (runs_by me.now plan.now progress.old) (store_of store.old)) found.entry.0.now) }
     ensures fault { IfErr result (λ fault. fault ≡ PrepareFault.Memory) }
 {
-    store.reserve(1)?;
     let (act, at) = found;
     let place = progress.active[at];
     step_at(
@@ -73,6 +72,7 @@ pub(crate) fn make_ready(
 
 /// Keeps what is made ready of an act at the place, and gives what is shown of it. An update there
 /// may be put in another form.
+#[inline(never)]
 fn step_at(
     alloc: Global,
     me: &Role,
@@ -84,7 +84,6 @@ fn step_at(
 ) -> Result<Prepared, PrepareFault>
     requires inside { found.2 < plan_len plan.now }
     requires as_long { length marks.old.items ≡ plan_len plan.now }
-    requires has_room { 0 < room store.old }
     requires leaf { is_leaf (plan_marks me.now plan.now marks.old.items found.2)
         (static_at plan.now found.2) ≡ true }
     requires offered { is_offered found.0.now
@@ -117,12 +116,13 @@ fn step_at(
 }
 
 /// Keeps what is made ready of an act of the code, and gives what is shown of it.
+#[inline(never)]
 fn code_ready(
     alloc: Global,
     me: &Role,
     plan: &Plan,
     marks: &[Mark],
-    store: &Store,
+    store: &mut Store,
     found: (&Act, usize, usize),
     ready: &mut Option<Ready>,
 ) -> Result<Prepared, PrepareFault>
@@ -133,14 +133,17 @@ fn code_ready(
     requires own { is_became (plan_marks me.now plan.now marks.now found.2) ≡ false }
     requires offered { is_offered found.0.now
         (offers me.now (front_at me.now plan.now marks.now found.2)) ≡ true }
-    ensures step { OnOk result (IsKeptFor (IsStepFor me.now (store_of store.now) found.entry.0.now
+    ensures same_store { store_of store.new ≡ store_of store.old }
+    ensures has_room { OnOk result (0 < room store.new) }
+    ensures step { OnOk result (IsKeptFor (IsStepFor me.now (store_of store.old) found.entry.0.now
         (get_or marks.now found.entry.2 kept.Untouched) (static_at plan.now found.entry.2))
         found.entry.0.now found.entry.1 ready.new) }
-    ensures shown { IfOk result (IsShownBy me.now (store_of store.now) found.entry.0.now
+    ensures shown { IfOk result (IsShownBy me.now (store_of store.old) found.entry.0.now
         (front_at me.now plan.now marks.now found.entry.2)) }
     ensures fault { IfErr result (λ fault. fault ≡ PrepareFault.Memory) }
 {
     let (act, at, place) = found;
+    store.reserve(1)?;
     let next = next_at(me, plan, marks, place);
     let value = value_for(alloc, store, next)?;
     let space = room_at(alloc, me, plan, marks, place)?;

@@ -1,6 +1,5 @@
 -- The place that was found does what the process does, and what is made ready there keeps it.
 use Rattle.std.proofs.Common.{◌≡◌, ℕ, Option, get_or, length, refl, sym, ◌∙◌, subst}
-use Rattle.std.specs.Prelude.{IfOk, OnOk}
 use Rattle.std.proofs.lemmas.List.{get_or_read}
 use Rattle.std.proofs.lemmas.Result.{IfOk-weaker, on_ok_weaker}
 use Rattle.dioc_terms.specs.declared.entries.Act.{Act}
@@ -114,12 +113,9 @@ returns-clause-ready c =
     let found = found-again me plan progress new refl c.step_at.ensures.same a c.args.found.1 place
     (read_place me plan progress c.requires.progress a c.args.found.1 place c.requires.found
     c.index-place.ensures) in
-    subst
-    (λ (s : Store). OnOk c.step_at.result (IsKeptBy me plan new s a c.step_at.new.ready))
-    c.reserve.ensures.same
-    (on_ok_weaker c.step_at.result
-    (kept_of me plan new (store_of c.reserve.new.self) a c.args.found.1 place c.step_at.new.ready
-    found) c.step_at.ensures.step)
+    on_ok_weaker c.step_at.result
+    (kept_of me plan new (store_of c.args.store.now) a c.args.found.1 place c.step_at.new.ready
+    found) c.step_at.ensures.step
 
 pub returns-clause-shown : goal.returns-clause-shown
 returns-clause-shown c =
@@ -128,15 +124,13 @@ returns-clause-shown c =
     let progress = c.args.progress.now in
     let a = c.args.found.0.now in
     let k = c.requires.progress in
-    let s = store_of c.reserve.new.self in
+    let s = store_of c.args.store.now in
     let place = c.index-place.result.now in
     let runs = runs_by me plan progress in
     let found = read_place me plan progress k a c.args.found.1 place c.requires.found
     c.index-place.ensures in
-    subst (λ (t : Store). IfOk c.step_at.result (IsPrepared (local me runs t) a))
-    c.reserve.ensures.same
-    (IfOk-weaker c.step_at.result (IsShownBy me s a (front_at me plan progress.marks.items place))
+    IfOk-weaker c.step_at.result (IsShownBy me s a (front_at me plan progress.marks.items place))
     (IsPrepared (local me runs s) a)
     (λ p shown. shows-prepared me s a runs
     (found-front me plan progress k a c.args.found.1 place found ∙ shown.acts) shown.shown)
-    c.step_at.ensures.shown)
+    c.step_at.ensures.shown
