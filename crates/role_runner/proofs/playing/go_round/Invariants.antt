@@ -12,5 +12,5 @@ invariant-loop g l = record {
   of : IsSeatIn l.actor.stage.now l.seat;
   went : WentOn (view l.fn.seat) (view l.seat);
   tied : IsTied (plain l.actor.bundle.now) l.actor.role.now (view l.seat) (local_of l.state);
-  short : length l.rest.now ≤ length l.acts.now;
+  short : length l.rest ≤ length l.acts;
 }

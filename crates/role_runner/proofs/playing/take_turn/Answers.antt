@@ -9,7 +9,7 @@ use Rattle.stage.specs.Faults.{act_fault}
 use Rattle.turn_lock.specs.Words.{view}
 use Rattle.role_runner.proofs.playing.take_turn.Goals as goal
 
-pub returns-in_default-clause-tried : goal.returns-in_default-clause-tried
-returns-in_default-clause-tried g c = λ is.
+pub returns-in_default-tried-clause-tried : goal.returns-in_default-tried-clause-tried
+returns-in_default-tried-clause-tried g c = λ is.
     subst (All (λ a. RefusedIn (act_fault a) (view c.args.seat) (view c.try_first-seat.result.0) fault.NotYet))
     (c.as_slice-acts.ensures.value ∙ c.in-Ok.ensures) (c.try_first-seat.ensures.tried is)

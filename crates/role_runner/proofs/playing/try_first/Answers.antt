@@ -72,6 +72,6 @@ pub try_act-next-requires-clause-offered : goal.try_act-next-requires-clause-off
 try_act-next-requires-clause-offered g c =
     let now = c.args.acts.now in
     let act = c.index-acts-at.result in
-    let below = subst (λ o. IfSome o (λ at. at < length now)) c.in-Some.is c.first_ready-next.ensures.within in
-    let there : slice_get now c.in-Some.at ≡ Some act = slice_get_read now (length now) c.in-Some.at act refl below c.index-acts-at.is in
-    ap (λ l. is_offered act (offered l)) c.loop.invariant.same ∙ ap (is_offered act) (sym c.requires.all) ∙ offered_in now c.in-Some.at act there
+    let below = subst (λ o. IfSome o (λ at. at < length now)) c.in-Some-first.is c.first_ready-next.ensures.within in
+    let there : slice_get now c.in-Some-first.at ≡ Some act = slice_get_read now (length now) c.in-Some-first.at act refl below c.index-acts-at.is in
+    ap (λ l. is_offered act (offered l)) c.loop.invariant.same ∙ ap (is_offered act) (sym c.requires.all) ∙ offered_in now c.in-Some-first.at act there
