@@ -3,8 +3,8 @@
 use aioc_io::{
     Failed, ReadAllFault, Sink, Source, StdSink, StdSource, SureSource, read_all, write_all,
 };
-use bundle_layout::{LayoutFault, lay_out};
-use bundle_text::read_bundle;
+use bundle_layout::{LayoutFault, lay_out_tokens};
+use bundle_text::read_bundle_with_tokens;
 use diagnostics::{Options, Piece, Status, explain, tell};
 use dioc_terms::SyntaxFault;
 use limits::MOST_BYTES;
@@ -106,20 +106,6 @@ fn tell_diagnostic<E: Sink>(rt: &HostRuntime, file: &[u8], bytes: Vec<u8>, err: 
     }
 }
 
-/// The bytes of a bundle in their layout, or the status of why there is none.
-fn laid_out<E: Sink>(
-    rt: &HostRuntime,
-    file: &[u8],
-    bytes: &[u8],
-    err: &mut E,
-) -> Result<Vec<u8>, Status> {
-    match lay_out(rt.alloc(), bytes) {
-        Ok(text) => Ok(text),
-        Err(LayoutFault::Memory) => Err(Status::Memory),
-        Err(_) => Err(complain(rt, file, b": would be too long in its layout\n", err)),
-    }
-}
-
 /// Does what is wanted with a file whose text is another in its layout, or prints it.
 fn finish<O: Sink, E: Sink>(
     rt: &HostRuntime,
@@ -161,14 +147,16 @@ fn format_text<O: Sink, E: Sink>(
     out: &mut O,
     err: &mut E,
 ) -> Status {
-    match read_bundle(rt.alloc(), &bytes) {
-        Ok(_) => {}
+    let name = file.as_bytes();
+    let tokens = match read_bundle_with_tokens(rt.alloc(), &bytes) {
+        Ok((_, tokens)) => tokens,
         Err(SyntaxFault::Memory) => return Status::Memory,
-        Err(SyntaxFault::Syntax(_)) => return tell_diagnostic(rt, file.as_bytes(), bytes, err),
-    }
-    let text = match laid_out(rt, file.as_bytes(), &bytes, err) {
+        Err(SyntaxFault::Syntax(_)) => return tell_diagnostic(rt, name, bytes, err),
+    };
+    let text = match lay_out_tokens(rt.alloc(), &bytes, tokens) {
         Ok(text) => text,
-        Err(status) => return status,
+        Err(LayoutFault::Memory) => return Status::Memory,
+        Err(_) => return complain(rt, name, b": would be too long in its layout\n", err),
     };
     match aim {
         Aim::Check | Aim::Write if text == bytes => Status::Sound,

@@ -137,16 +137,16 @@ module _ (text : List ℕ) (tokens : List Token) (next : ℕ) (parts : List Part
       let left : drop next tokens ≡ token ∷ drop (next + 1) tokens = drop_more tokens next token inside ∙ ap (λ first. first ∷ drop (next + 1) tokens) is in
       here at (drop at text) (drop next tokens) token (drop (next + 1) tokens) cut.lexes left begins
 
-  token_more : (token : Token) (kind : Kind) (count : ℕ) (sort : Sort) (breaks : ℕ) → slice_get tokens next ≡ Some token → token.start ≡ at → IsLongestToken (drop at text) kind count
-      → IsCut text tokens (next + 1) (parts ++ record { kind = kinds.Token kind; sort = sort; breaks = breaks; start = at; end = at + count } ∷ []) (at + count)
-  token_more token kind count sort breaks found begins longest =
+  token_more : (token : Token) (kind : Kind) (count : ℕ) (sort : Sort) → slice_get tokens next ≡ Some token → token.start ≡ at → IsLongestToken (drop at text) kind count
+      → IsCut text tokens (next + 1) (parts ++ record { kind = kinds.Token kind; sort = sort; start = at; end = at + count } ∷ []) (at + count)
+  token_more token kind count sort found begins longest =
       let shown = token_here token found begins in
       let size = (token_size (drop at text) kind count longest).0 in
       let far : token.end - at ≡ count = same_count (drop at text) token.kind kind (token.end - at) count shown.longest longest in
       let end_is : token.end ≡ at + count = omega (arith, shown.after) in
       let near : at + count - at ≡ count = omega arith in
       let rest = subst (λ count. Lexes token.end (drop count (drop at text)) (drop (next + 1) tokens)) (far ∙ sym near) shown.rest in
-      part_more (kinds.Token kind) (at + count) (next + 1) (record { kind = kinds.Token kind; sort = sort; breaks = breaks; start = at; end = at + count }) refl refl refl (omega (arith, size))
+      part_more (kinds.Token kind) (at + count) (next + 1) (record { kind = kinds.Token kind; sort = sort; start = at; end = at + count }) refl refl refl (omega (arith, size))
       (subst (IsLongestToken (drop at text) kind) (sym near) longest)
       (subst (λ end. Lexes end (drop (at + count - at) (drop at text)) (drop (next + 1) tokens)) end_is rest)
 
@@ -156,16 +156,16 @@ module _ (text : List ℕ) (tokens : List Token) (next : ℕ) (parts : List Part
       let first : get_or tokens next token ≡ token = ap (λ list. get_or list 0 token) (sym (drop_more tokens next token inside) ∙ same) in
       none token (slice_get-get_or tokens next token inside ∙ ap Some first) begins
 
-  comment_more : (breaks : ℕ) → ((token : Token) → slice_get tokens next ≡ Some token → token.start ≡ at → ⊥) → at < length text → BeginsComment (drop at text)
-      → IsCut text tokens next (parts ++ record { kind = kinds.Comment; sort = sorts.End; breaks = breaks; start = at; end = at + line_length (drop at text) } ∷ []) (at + line_length (drop at text)) × (0 < line_length (drop at text))
-  comment_more breaks none inside begins =
+  comment_more : ((token : Token) → slice_get tokens next ≡ Some token → token.start ≡ at → ⊥) → at < length text → BeginsComment (drop at text)
+      → IsCut text tokens next (parts ++ record { kind = kinds.Comment; sort = sorts.End; start = at; end = at + line_length (drop at text) } ∷ []) (at + line_length (drop at text)) × (0 < line_length (drop at text))
+  comment_more none inside begins =
       let left = drop at text in
       let count = line_length left in
       let blank = blank_here at left (drop next tokens) cut.lexes (omega (arith, length-drop at text)) (no_token_here none) in
       let same : blank.count ≡ count = same_blank left blank.count count blank.blank (comment begins refl) in
       let size = blank_size left count (comment begins refl) in
       let far : at + count - at ≡ count = omega arith in (
-        part_more kinds.Comment (at + count) next (record { kind = kinds.Comment; sort = sorts.End; breaks = breaks; start = at; end = at + count }) refl refl refl (omega (arith, size.0)) (begins, far)
+        part_more kinds.Comment (at + count) next (record { kind = kinds.Comment; sort = sorts.End; start = at; end = at + count }) refl refl refl (omega (arith, size.0)) (begins, far)
             (subst (λ count. Lexes (at + line_length left) (drop count left) (drop next tokens)) (sym far) (subst (λ count. Lexes (at + count) (drop count left) (drop next tokens)) same blank.rest)),
         size.0,
       )
@@ -216,16 +216,16 @@ module _ (text starts : List ℕ) (next : ℕ) (parts : List Part) (at : ℕ) (b
       let shown = token_here text by.tokens next parts at by.cut token is begins in
       (token.kind, token.end - at, shown.longest)
 
-  pub token_added : (kind : Kind) (count : ℕ) (sort : Sort) (breaks : ℕ) → slice_get starts next ≡ Some at → IsLongestToken (drop at text) kind count
-      → IsCutBy text starts (next + 1) (parts ++ record { kind = kinds.Token kind; sort = sort; breaks = breaks; start = at; end = at + count } ∷ []) (at + count)
-  token_added kind count sort breaks found longest =
+  pub token_added : (kind : Kind) (count : ℕ) (sort : Sort) → slice_get starts next ≡ Some at → IsLongestToken (drop at text) kind count
+      → IsCutBy text starts (next + 1) (parts ++ record { kind = kinds.Token kind; sort = sort; start = at; end = at + count } ∷ []) (at + count)
+  token_added kind count sort found longest =
       let (token, is, begins) = started by.tokens next at (ap (λ starts. slice_get starts next) (sym by.starts_are) ∙ found) in
-      record { tokens = by.tokens; starts_are = by.starts_are; cut = token_more text by.tokens next parts at by.cut token kind count sort breaks is begins longest }
+      record { tokens = by.tokens; starts_are = by.starts_are; cut = token_more text by.tokens next parts at by.cut token kind count sort is begins longest }
 
-  pub comment_added : (breaks : ℕ) → (slice_get starts next ≡ Some at → ⊥) → at < length text → BeginsComment (drop at text)
-      → IsCutBy text starts next (parts ++ record { kind = kinds.Comment; sort = sorts.End; breaks = breaks; start = at; end = at + line_length (drop at text) } ∷ []) (at + line_length (drop at text)) × (0 < line_length (drop at text))
-  comment_added breaks none inside begins =
-      let more = comment_more text by.tokens next parts at by.cut breaks (no_start none) inside begins in
+  pub comment_added : (slice_get starts next ≡ Some at → ⊥) → at < length text → BeginsComment (drop at text)
+      → IsCutBy text starts next (parts ++ record { kind = kinds.Comment; sort = sorts.End; start = at; end = at + line_length (drop at text) } ∷ []) (at + line_length (drop at text)) × (0 < line_length (drop at text))
+  comment_added none inside begins =
+      let more = comment_more text by.tokens next parts at by.cut (no_start none) inside begins in
       (record { tokens = by.tokens; starts_are = by.starts_are; cut = more.0 }, more.1)
 
   pub space_added : (slice_get starts next ≡ Some at → ⊥) → at < length text → (¬ BeginsComment (drop at text)) → IsCutBy text starts next parts (at + 1)

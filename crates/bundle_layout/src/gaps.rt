@@ -24,7 +24,7 @@ const ONE_SPACE: Gap = Gap {
 };
 
 /// How many columns a block may take that stands on one line, with what follows it there.
-const MOST_COLUMNS: usize = 100;
+const MOST_COLUMNS: u8 = 100;
 
 /// How many spaces more the lines of a block have.
 const INDENT: usize = 2;
@@ -33,18 +33,28 @@ const INDENT: usize = 2;
 #[derive(Clone, Copy)]
 struct Block {
     /// How many columns stand behind its opening bracket up to the end of the item of which it is a
-    /// part.
-    columns: usize,
+    /// part, where one more than a line may take is that or more.
+    columns: u8,
     /// Whether it can't stand on one line: there is a comment in it, or a line break where a
     /// broken block has one.
     broken: bool,
+}
+
+impl Block {
+    /// A block with so many columns behind its opening bracket.
+    fn new(columns: u32, broken: bool) -> Block {
+        Block {
+            columns: columns.min(u32::from(MOST_COLUMNS) + 1) as u8,
+            broken,
+        }
+    }
 }
 
 /// A block that is measured, from its end on.
 #[derive(Clone, Copy)]
 struct Level {
     /// How many columns all parts take that stand behind the current item.
-    behind: usize,
+    behind: u32,
     broken: bool,
     /// Whether the last block that was measured in it is broken.
     inner_broken: bool,
@@ -67,7 +77,7 @@ fn is_seam(previous: Shape, shape: Shape) -> bool {
 
 impl Level {
     /// The level of a block whose last part has so many columns behind it.
-    fn inside(&mut self, behind: usize) -> Level {
+    fn inside(&mut self, behind: u32) -> Level {
         let broken = self.next_broken;
         self.next_broken = false;
         Level {
@@ -89,7 +99,7 @@ fn measure(alloc: Global, units: &[Unit]) -> Result<Vec<Block>, AllocError> {
     let mut blocks = Vec::new(alloc);
     let mut levels = Vec::new(alloc);
     let mut level = OUTSIDE;
-    let mut behind: usize = 0;
+    let mut behind: u32 = 0;
     let mut later: Option<Unit> = None;
     for unit in units.iter().rev() {
         if let Some(later) = later {
@@ -104,10 +114,7 @@ fn measure(alloc: Global, units: &[Unit]) -> Result<Vec<Block>, AllocError> {
             }
             Shape::Open => {
                 let mut outer = levels.pop().unwrap_or(OUTSIDE);
-                blocks.push(Block {
-                    columns: behind.saturating_sub(outer.behind),
-                    broken: level.broken,
-                })?;
+                blocks.push(Block::new(behind.saturating_sub(outer.behind), level.broken))?;
                 outer.add_block(level.broken);
                 level = outer;
             }
@@ -233,8 +240,8 @@ impl<'a> Pen<'a> {
         let is_linked = self.previous == Some(Shape::Else) && self.closed_broken;
         match self.blocks.pop() {
             Some(block) => {
-                let end = self.column.saturating_add(block.columns);
-                is_linked || block.broken || end > MOST_COLUMNS
+                let end = self.column.saturating_add(usize::from(block.columns));
+                is_linked || block.broken || end > usize::from(MOST_COLUMNS)
             }
             None => true,
         }
@@ -281,7 +288,7 @@ impl<'a> Pen<'a> {
 
     /// Goes past a plain part in a line, and gives the gap before it.
     fn go_on(&mut self, unit: &Unit) -> Gap {
-        self.column = self.column.saturating_add(unit.columns());
+        self.column = self.column.saturating_add(unit.columns() as usize);
         self.previous = Some(Shape::Plain);
         if unit.apart { ONE_SPACE } else { NO_GAP }
     }

@@ -1,17 +1,20 @@
 //! The layout of a text.
 
-ghost use Rattle.std.specs.Prelude.{◌≡◌, ℕ, ◌≤◌, vec_len, IfOk, Err};
+ghost use Rattle.std.specs.Prelude.{◌≡◌, ℕ, ◌≤◌, length, vec_len, IfOk, Err};
+ghost use Rattle.std.specs.List.{All};
 ghost use Rattle.limits.specs.Limits.{most_bytes};
 ghost use Rattle.aioc_tokens.specs.Lexing.{Breaks};
+ghost use Rattle.aioc_tokens.specs.Packed.{ArePacked};
 ghost use Rattle.dioc_terms.specs.Plain.{PlainBundle};
 ghost use Rattle.bundle_text.specs.Grammar.{Spells};
-ghost use Rattle.bundle_layout.specs.Pieces.{SamePieces};
+ghost use Rattle.bundle_layout.specs.Pieces.{HasPieces, SamePieces};
+ghost use Rattle.bundle_layout.specs.Parts.{pieces_of, LiesIn};
 
 use crate::gaps::Pen;
-use crate::parts::cut;
+use crate::parts::{Part, cut};
 use crate::shapes::units;
 use crate::written::written;
-use aioc_tokens::{TokenFault, packed_tokens};
+use aioc_tokens::{Packed, TokenFault, packed_tokens};
 use dioc_terms::Memory;
 use std::alloc::{AllocError, Global};
 use thiserror::Error;
@@ -69,12 +72,36 @@ pub fn lay_out(alloc: Global, bytes: &[u8]) -> Result<Vec<u8>, LayoutFault>
     if bytes.len() > MOST_PLACES {
         return Err(LayoutFault::TooLong);
     }
-    let packed = match packed_tokens(alloc, bytes) {
+    let tokens = match packed_tokens(alloc, bytes) {
         Ok(packed) => packed,
         Err(TokenFault::BadByte(at)) => return Err(LayoutFault::BadByte(at)),
         Err(TokenFault::Memory) => return Err(LayoutFault::Memory),
     };
-    let parts = cut(alloc, bytes, &packed.starts, &packed.sorts)?;
+    lay_out_tokens(alloc, bytes, tokens)
+}
+
+/// The parts of a text, whose tokens are let go.
+fn parts_of(alloc: Global, bytes: &[u8], tokens: Packed) -> Result<Vec<Part>, AllocError>
+    requires packed { ArePacked bytes.now tokens.starts.items tokens.sorts.items }
+    requires short { length bytes.now ≤ 4294967295 }
+    ensures pieces { IfOk result (λ v. HasPieces bytes.now (pieces_of bytes.now v.items)) }
+    ensures lie { IfOk result (λ v. All (LiesIn bytes.now) v.items) }
+{
+    cut(alloc, bytes, &tokens.starts, &tokens.sorts)
+}
+
+/// `lay_out` of a text whose tokens are known.
+pub fn lay_out_tokens(alloc: Global, bytes: &[u8], tokens: Packed) -> Result<Vec<u8>, LayoutFault>
+    requires { ArePacked bytes.now tokens.starts.items tokens.sorts.items }
+    ensures same { IfOk result (λ v. SamePieces bytes.now v.items) }
+    ensures bundle { IfOk result (λ v. (b : PlainBundle) → Spells bytes.now b → Spells v.items b) }
+    ensures short { IfOk result (λ v. vec_len v ≤ most_bytes) }
+    ensures bad { (at : ℕ) → result ≡ Err (LayoutFault.BadByte at) → ⊥ }
+{
+    if bytes.len() > MOST_PLACES {
+        return Err(LayoutFault::TooLong);
+    }
+    let parts = parts_of(alloc, bytes, tokens)?;
     let units = units(alloc, bytes, &parts)?;
     let mut pen = Pen::new(alloc, &units)?;
     let text = written(alloc, bytes, &parts, &mut pen)?;

@@ -13,5 +13,5 @@ mod parts;
 mod shapes;
 mod written;
 
-pub use layout::{LayoutFault, lay_out};
+pub use layout::{LayoutFault, lay_out, lay_out_tokens};
 pub use parts::PartKind;

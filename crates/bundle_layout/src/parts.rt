@@ -24,8 +24,6 @@ pub(crate) struct Part {
     pub kind: PartKind,
     /// What the grammar sees of a token, and `End` of a comment.
     pub sort: Sort,
-    /// How many line feeds stand between the part before it and this one, where 2 are two or more.
-    pub breaks: u8,
     pub start: u32,
     pub end: u32,
 }
@@ -122,14 +120,6 @@ fn begins_at(starts: &[u32], next: usize, at: usize) -> bool
     }
 }
 
-fn count_break(breaks: u8, byte: u8) -> u8 {
-    if byte == b'\n' && breaks < 2 {
-        breaks + 1
-    } else {
-        breaks
-    }
-}
-
 /// The parts of a text whose tokens begin at these places and have these sorts, in order.
 pub(crate) fn cut(
     alloc: Global,
@@ -145,7 +135,6 @@ pub(crate) fn cut(
     let mut parts = Vec::with_capacity(alloc, starts.len())?;
     let mut at = 0;
     let mut next = 0;
-    let mut breaks = 0;
     while at < bytes.len() {
         let rest = &bytes[at..];
         if begins_at(starts, next, at) {
@@ -154,13 +143,11 @@ pub(crate) fn cut(
             parts.push(Part {
                 kind: PartKind::Token(kind),
                 sort: sorts.get(next).copied().unwrap_or(Sort::End),
-                breaks,
                 start: at as u32,
                 end: token_end as u32,
             })?;
             at = token_end;
             next += 1;
-            breaks = 0;
             continue;
         }
         if begins_comment(rest) {
@@ -168,15 +155,12 @@ pub(crate) fn cut(
             parts.push(Part {
                 kind: PartKind::Comment,
                 sort: Sort::End,
-                breaks,
                 start: at as u32,
                 end: end as u32,
             })?;
             at = end;
-            breaks = 0;
             continue;
         }
-        breaks = count_break(breaks, bytes[at]);
         at += 1;
     }
     Ok(parts)

@@ -38,8 +38,8 @@ pub(crate) struct Unit {
 
 impl Unit {
     /// How many columns it takes behind another in a line.
-    pub(crate) fn columns(&self) -> usize {
-        (self.width as usize).saturating_add(usize::from(self.apart))
+    pub(crate) fn columns(&self) -> u32 {
+        self.width.saturating_add(u32::from(self.apart))
     }
 }
 
@@ -65,6 +65,30 @@ impl<'a> View<'a> {
             Some(part) => part.sort,
             None => Sort::End,
         }
+    }
+
+    /// The sort of the part so many places before this one, `End` of a comment and where there is
+    /// no part.
+    fn before(&self, place: usize, count: usize) -> Sort {
+        let part = match place.checked_sub(count) {
+            Some(place) => self.parts.get(place),
+            None => None,
+        };
+        match part {
+            Some(part) => part.sort,
+            None => Sort::End,
+        }
+    }
+
+    /// How many line feeds stand between these places, where 2 are two or more.
+    fn breaks(&self, from: u32, to: u32) -> u8 {
+        let mut breaks = 0;
+        for byte in self.bytes.get(from as usize..to as usize).unwrap_or(b"") {
+            if *byte == b'\n' && breaks < 2 {
+                breaks += 1;
+            }
+        }
+        breaks
     }
 
     /// Whether the part so many places before this one is this name.
@@ -105,22 +129,13 @@ fn ends_operand(sort: Sort) -> bool {
     }
 }
 
-/// The sorts of the parts directly before a place, the last one first: `End` of a comment, and
-/// where there is no part.
-#[derive(Clone, Copy)]
-struct Before {
-    first: Sort,
-    second: Sort,
-    third: Sort,
-    fourth: Sort,
-}
-
 /// What the parts before a place say of it.
 #[derive(Drop)]
 struct Reader<'a> {
     view: View<'a>,
     open: Vec<Bracket>,
-    before: Before,
+    /// Where the last part ends.
+    end: u32,
     /// The place behind the last part that is no comment.
     solid: usize,
     /// The sort of that part, `End` where there is none.
@@ -133,14 +148,14 @@ struct Reader<'a> {
 impl<'a> Reader<'a> {
     /// Whether the `-` directly before a place is the sign of the part there.
     fn is_sign(&self, place: usize) -> bool {
-        let is_priority = self.before.fourth == Sort::Reserved(Word::Rule)
+        let is_priority = self.view.before(place, 4) == Sort::Reserved(Word::Rule)
             && self.view.is_named(place, 2, b"priority");
-        is_priority || !ends_operand(self.before.second)
+        is_priority || !ends_operand(self.view.before(place, 2))
     }
 
     /// Whether the `(` at a place belongs to what stands before it: to a role, or to `input`.
     fn is_called(&self, place: usize) -> bool {
-        match self.before.first {
+        match self.view.before(place, 1) {
             Sort::Name | Sort::Reserved(Word::Input) => true,
             Sort::Long => self.view.begins_with_letter(place.saturating_sub(1)),
             _ => false,
@@ -149,7 +164,7 @@ impl<'a> Reader<'a> {
 
     /// Whether nothing stands behind the part directly before a place.
     fn is_close_behind(&self, place: usize) -> bool {
-        match self.before.first {
+        match self.view.before(place, 1) {
             Sort::Symbol(
                 Punctuator::LeftParen
                 | Punctuator::Dot
@@ -176,8 +191,8 @@ impl<'a> Reader<'a> {
                 Sort::Symbol(Punctuator::Equal | Punctuator::Hash)
             ),
             Punctuator::Hash => {
-                self.before.third == Sort::Symbol(Punctuator::Arrow)
-                    || self.before.second == Sort::Symbol(Punctuator::Bang)
+                self.view.before(place, 3) == Sort::Symbol(Punctuator::Arrow)
+                    || self.view.before(place, 2) == Sort::Symbol(Punctuator::Bang)
             }
             _ => false,
         }
@@ -205,7 +220,7 @@ impl<'a> Reader<'a> {
                 b"pick" => second == Sort::Symbol(Punctuator::Hash),
                 b"env" => second == Sort::Symbol(Punctuator::Equal),
                 b"add" | b"drop" => {
-                    self.before.first != Sort::Reserved(Word::Rule)
+                    self.view.before(place, 1) != Sort::Reserved(Word::Rule)
                         && self.view.begins_with_letter(place.saturating_add(1))
                 }
                 b"ended" | b"stopped" => self.view.behind(place, 1) == Sort::Number,
@@ -234,11 +249,11 @@ impl<'a> Reader<'a> {
         }
     }
 
-    fn open_brace(&mut self) -> Result<Shape, AllocError> {
+    fn open_brace(&mut self, place: usize) -> Result<Shape, AllocError> {
         if self.open.is_empty() {
             self.is_in_trace = self.view.is_named(self.solid, 1, b"trace");
         }
-        self.is_in_condition = self.before.first == Sort::Reserved(Word::On);
+        self.is_in_condition = self.view.before(place, 1) == Sort::Reserved(Word::On);
         self.open_bracket(Bracket::Block)
     }
 
@@ -287,7 +302,7 @@ impl<'a> Reader<'a> {
     /// The shape of the token of this sort at a place, where all parts before it were read.
     fn shape(&mut self, place: usize, sort: Sort) -> Result<Shape, AllocError> {
         match sort {
-            Sort::Symbol(Punctuator::LeftBrace) => self.open_brace(),
+            Sort::Symbol(Punctuator::LeftBrace) => self.open_brace(place),
             Sort::Symbol(Punctuator::LeftParen) if self.opens_block() => {
                 self.open_bracket(Bracket::Block)
             }
@@ -310,16 +325,12 @@ impl<'a> Reader<'a> {
                 shape
             }
         };
-        self.before = Before {
-            first: part.sort,
-            second: self.before.first,
-            third: self.before.second,
-            fourth: self.before.third,
-        };
+        let breaks = self.view.breaks(self.end, part.start);
+        self.end = part.end;
         Ok(Unit {
             shape,
             apart,
-            breaks: part.breaks,
+            breaks,
             width: part.end.saturating_sub(part.start),
         })
     }
@@ -330,12 +341,7 @@ pub(crate) fn units(alloc: Global, bytes: &[u8], parts: &[Part]) -> Result<Vec<U
     let mut reader = Reader {
         view: View { bytes, parts },
         open: Vec::new(alloc),
-        before: Before {
-            first: Sort::End,
-            second: Sort::End,
-            third: Sort::End,
-            fourth: Sort::End,
-        },
+        end: 0,
         solid: 0,
         previous: Sort::End,
         is_in_condition: false,

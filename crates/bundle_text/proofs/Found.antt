@@ -22,9 +22,8 @@ use Rattle.dioc_syntax.specs.declared.found.FoundChoreo.{FoundChoreo}
 use Rattle.dioc_syntax.proofs.Compare.{constant_same}
 use Rattle.dioc_syntax.proofs.Fronts as choreography
 use Rattle.dioc_syntax.proofs.HeadSorts.{further, follows, symbol_here, reserved_here, within_here}
-use Rattle.rule_syntax.specs.Grammar.{IsRule, IsBinding, IsChange, plain_change}
+use Rattle.rule_syntax.specs.Grammar.{IsRule, IsBinding, IsChange, PlainChange}
 use Rattle.rule_syntax.specs.Readers.{StandsAt}
-use Rattle.rule_syntax.specs.declared.changes.ReadChange.{ReadChange}
 use Rattle.rule_syntax.proofs.Unique.{only_longest, bindings_same}
 use Rattle.trace_syntax.specs.Grammar.{IsTrace, IsClosedTrace, IsBadLine}
 use Rattle.trace_syntax.proofs.TraceLaws.{trace_or_bad_line}
@@ -173,11 +172,11 @@ module _ (text : List Lexeme) (at : ℕ) where
       pub unchanged : NoFront (IsChange version inside_limit (drop (at + 2) text)) → NoFront (IsTimed version (drop at text))
       unchanged none timed to is = none timed.change to (subst (λ l. IsChange version inside_limit l timed.change to) (rest_of is.begins).1 is.change)
 
-      pub timed_found : (after : ℕ) (change : ReadChange) (next : ℕ) → Some after ≡ number greatest (drop (at + 1) text) → StandsAt (IsChange version inside_limit) text (at + 2) (plain_change change) next
-          → StandsAt (IsTimed version) text at (record { after = after; change = plain_change change }) next
+      pub timed_found : (after : ℕ) (change : PlainChange) (next : ℕ) → Some after ≡ number greatest (drop (at + 1) text) → StandsAt (IsChange version inside_limit) text (at + 2) change next
+          → StandsAt (IsTimed version) text at (record { after = after; change = change }) next
       timed_found after change next found changes =
           let read = read_number greatest after (drop (at + 1) text) found in
-          let reads : IsTimed version (drop at text) (record { after = after; change = plain_change change }) (drop next text) = record {
+          let reads : IsTimed version (drop at text) (record { after = after; change = change }) (drop next text) = record {
             digits = read.digits;
             given = drop (at + 2) text;
             begins = named ∙ ap (λ l. Name (codes "after") ∷ l) (read.first ∙ ap (λ l. Number read.digits ∷ l) (further text (at + 1) (at + 2) (omega arith)));

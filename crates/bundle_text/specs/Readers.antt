@@ -9,11 +9,13 @@ use Rattle.aioc_tokens.specs.declared.words.Punctuator.TheVariants as punctuator
 use Rattle.aioc_tokens.specs.Lexemes.{Lexeme, Symbol}
 use Rattle.aioc_tokens.specs.Fronts.{NoFront}
 use Rattle.dioc_syntax.specs.Choreographies.{IsChoreography}
-use Rattle.rule_syntax.specs.Grammar.{plain_change}
+use Rattle.rule_syntax.specs.Grammar.{PlainChange, Add, Drop, Env}
 use Rattle.rule_syntax.specs.Readers.{StandsAt}
 use Rattle.trace_syntax.specs.Grammar.{IsTrace}
 use Rattle.bundle_text.specs.Many.{Many}
 use Rattle.bundle_text.specs.Grammar.{AreValues, PlainTimed, IsTimed, Section, Aioc, Rules, Environment, Inputs, Script, Traced, inside_limit, closed_before, IsSection, Joined, joined_sections, HasVersion}
+use Rattle.bundle_text.specs.declared.parts.KeptChange.{KeptChange}
+use Rattle.bundle_text.specs.declared.parts.KeptChange.TheVariants as kept
 use Rattle.bundle_text.specs.declared.parts.ReadTimed.{ReadTimed}
 use Rattle.bundle_text.specs.declared.parts.Parts.{Parts}
 
@@ -34,8 +36,13 @@ ItemAt Reads text at None = NoFront (Reads (drop at text))
 ItemAt Reads text at (Some read) = StandsAt Reads text at read.0 read.1
 
 -- the change that a program's value stands for
+abbrev pub plain_kept : KeptChange → PlainChange
+plain_kept (kept.Add rule) = Add (plain_rule rule.value)
+plain_kept (kept.Drop name) = Drop name
+plain_kept (kept.Env key value) = Env key value
+
 abbrev pub plain_timed : ReadTimed → PlainTimed
-plain_timed timed = record { after = timed.after; change = plain_change timed.change }
+plain_timed timed = record { after = timed.after; change = plain_kept timed.change }
 
 abbrev pub TimedAt : ℕ → List Lexeme → ℕ → Option (ReadTimed × ℕ) → Type 0
 TimedAt version text at None = NoFront (IsTimed version (drop at text))

@@ -4,17 +4,15 @@ ghost use Rattle.std.specs.Prelude.{◌≡◌, ◌≢◌, ◌≤◌, ◌+◌, �
 ghost use Rattle.limits.specs.Limits.{greatest_place};
 ghost use Rattle.dioc_terms.specs.Plain.{plain, plain_rule};
 ghost use Rattle.dioc_terms.specs.Terms.{term, cast_of};
-ghost use Rattle.rule_syntax.specs.Grammar.{plain_change};
 ghost use Rattle.bundle_text.specs.Grammar.{IsOnly, IsMadeOf, with_added, added_rules, numbered_change, numbered};
-ghost use Rattle.bundle_text.specs.Readers.{listed_trace, found_in, plain_timed};
+ghost use Rattle.bundle_text.specs.Readers.{listed_trace, found_in, plain_kept, plain_timed};
 ghost use Rattle.bundle_text.specs.Stops.{place_in};
 
-use crate::parts::{Parts, ReadTimed};
+use crate::parts::{KeptChange, Parts, ReadTimed};
 use crate::stops::{Stop, lost};
 use dioc_terms::{
     Bundle, Change, Choreo, Items, Memory, Roles, Rule, Timed, Trace, give_up, roles,
 };
-use rule_syntax::ReadChange;
 use std::alloc::Global;
 
 /// The rules of the book's start with those that a script adds behind them, and the script with
@@ -26,17 +24,17 @@ struct ScriptWithRules {
 }
 
 /// A change as a bundle keeps it. A rule that it adds goes behind the others.
-fn change_of(change: ReadChange, rules: &mut Vec<Rule>) -> Result<Change, Memory>
+fn change_of(change: KeptChange, rules: &mut Vec<Rule>) -> Result<Change, Memory>
     requires { vec_len rules.old ≤ greatest_place }
     ensures change { IfOk result (λ made.
-        made ≡ numbered_change (vec_len rules.old) (plain_change change)) }
+        made ≡ numbered_change (vec_len rules.old) (plain_kept change)) }
     ensures rules { OnOk result (map plain_rule rules.new.items
-        ≡ map plain_rule rules.old.items ++ with_added (plain_change change) []) }
+        ≡ map plain_rule rules.old.items ++ with_added (plain_kept change) []) }
 {
     match change {
-        ReadChange::Add(rule) => Ok(Change::Add(add_rule(rule, rules)?)),
-        ReadChange::Drop(name) => Ok(Change::Drop(name)),
-        ReadChange::Env(key, value) => Ok(Change::Env(key, value)),
+        KeptChange::Add(rule) => Ok(Change::Add(add_rule(Box::into_inner(rule), rules)?)),
+        KeptChange::Drop(name) => Ok(Change::Drop(name)),
+        KeptChange::Env(key, value) => Ok(Change::Env(key, value)),
     }
 }
 

@@ -9,7 +9,7 @@ ghost use Rattle.bundle_text.specs.Grammar.{inside_limit, IsBound, IsInput, IsTi
 ghost use Rattle.bundle_text.specs.Readers.{plain_timed, TakesItems, ItemAt, TimedAt, ValuesAt};
 ghost use Rattle.bundle_text.specs.Stops.{place_in, EndsAmong};
 
-use crate::parts::ReadTimed;
+use crate::parts::{KeptChange, ReadTimed};
 use crate::stops::Stop;
 use aioc_tokens::{Lexed, Punctuator, Sort};
 use dioc_terms::{Items, Memory, Name, Role, Rule, Value, Values};
@@ -212,7 +212,10 @@ fn timed_at(
         None => return Ok(None),
     };
     match change_at(alloc, text, version, INSIDE_LIMIT, at + 2)? {
-        Some((change, next)) => Ok(Some((ReadTimed { after, change }, next))),
+        Some((read, next)) => {
+            let change = KeptChange::new(alloc, read)?;
+            Ok(Some((ReadTimed { after, change }, next)))
+        }
         None => Ok(None),
     }
 }

@@ -16,6 +16,6 @@ pub use laws::{
     one_list_of_sessions, read_is_written, sessions_go_through, spelled_is_formed, written_is_read,
     written_is_spelled,
 };
-pub use reader::read_bundle;
+pub use reader::{read_bundle, read_bundle_with_tokens};
 pub use sessions::read_sessions;
 pub use writer::write_bundle;

@@ -2,6 +2,7 @@
 
 ghost use Rattle.std.specs.Prelude.{◌≡◌, ◌≢◌, ◌≤◌, ℕ, [], length, drop, Err, IfOk, IfErr};
 ghost use Rattle.dioc_terms.specs.Bundles.{IsFormed};
+ghost use Rattle.aioc_tokens.specs.Packed.{ArePacked};
 ghost use Rattle.limits.specs.Limits.{greatest_place};
 ghost use Rattle.dioc_terms.specs.Plain.{plain};
 ghost use Rattle.bundle_text.specs.Grammar.{IsBundle, Spells, SpellsNone};
@@ -11,7 +12,7 @@ ghost use Rattle.bundle_text.specs.Stops.{place_in, EndsAt, EndsAtByte};
 use crate::bundles::bundle_of;
 use crate::sections::sections_at;
 use crate::stops::{Stop, refusal};
-use aioc_tokens::{Lexed, TokenFault, packed_tokens};
+use aioc_tokens::{Lexed, Packed, TokenFault, packed_tokens};
 use dioc_terms::{Bundle, SyntaxFault};
 use expr_syntax::number_at;
 use limits::MOST_BYTES;
@@ -33,6 +34,22 @@ pub fn read_bundle(alloc: Global, bytes: &[u8]) -> Result<Bundle, SyntaxFault>
         EndsAtByte bytes.now byte }
     ensures formed { IfOk result (λ b. IsFormed (plain b)) }
 {
+    match read_bundle_with_tokens(alloc, bytes) {
+        Ok((bundle, _)) => Ok(bundle),
+        Err(fault) => Err(fault),
+    }
+}
+
+/// The bundle that the bytes spell, and their tokens. An error is that of `read_bundle`.
+pub fn read_bundle_with_tokens(alloc: Global, bytes: &[u8]) -> Result<(Bundle, Packed), SyntaxFault>
+    ensures found { IfOk result (λ read. Spells bytes.now (plain read.0)) }
+    ensures syntax { IfErr result (λ fault. fault ≢ SyntaxFault.Memory → SpellsNone bytes.now) }
+    ensures byte { (byte : ℕ) → result ≡ Err (SyntaxFault.Syntax byte) →
+        EndsAtByte bytes.now byte }
+    ensures formed { IfOk result (λ read. IsFormed (plain read.0)) }
+    ensures tokens { IfOk result (λ read.
+        ArePacked bytes.now read.1.starts.items read.1.sorts.items) }
+{
     if bytes.len() > MOST_BYTES {
         return Err(SyntaxFault::Syntax(MOST_BYTES));
     }
@@ -42,7 +59,7 @@ pub fn read_bundle(alloc: Global, bytes: &[u8]) -> Result<Bundle, SyntaxFault>
         Err(TokenFault::Memory) => return Err(SyntaxFault::Memory),
     };
     match bundle_at(alloc, &Lexed::packed(bytes, &packed)) {
-        Ok(bundle) => Ok(bundle),
+        Ok(bundle) => Ok((bundle, packed)),
         Err(Stop::At(at)) => Err(refusal(alloc, bytes, Goal::Bundle, at)),
         Err(Stop::Memory) => Err(SyntaxFault::Memory),
     }

@@ -42,6 +42,14 @@ impl Case {
         Ok(())
     }
 
+    /// The first option and the others; where there is none, the problem says this.
+    pub fn first_option(&self, missing: &'static str) -> Result<(&[u8], &[Vec<u8>]), Problem> {
+        match self.options.as_slice() {
+            [first, others @ ..] => Ok((first.as_slice(), others)),
+            [] => Err(Problem::Bad(missing)),
+        }
+    }
+
     /// The only option, or nothing where there is none.
     pub fn option(&self) -> Result<&[u8], Problem> {
         match self.options.as_slice() {

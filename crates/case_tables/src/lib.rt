@@ -16,6 +16,6 @@ pub use expansions::read_number;
 pub use problems::Problem;
 pub use tables::{answer_lines, answer_source, write_lines};
 pub use wholes::{
-    Front, MOST_TOKENS, front_choreo, front_expr, whole_choreo, whole_expr, write_count,
+    Front, MOST_TOKENS, front_choreo, front_expr, text_tokens, whole_choreo, whole_expr,
     write_place,
 };

@@ -1,11 +1,12 @@
 //! What the readers of the grammar find at the front of a text.
 
-ghost use Rattle.std.specs.Prelude.{◌≡◌, ◌++◌, codes, decimal, OnErr, OnOk};
+ghost use Rattle.std.specs.Prelude.{◌≡◌, ◌≤◌, ◌++◌, codes, decimal, length, IfOk, OnErr, OnOk};
+ghost use Rattle.aioc_tokens.specs.Lexing.{Lexes};
 ghost use Rattle.text_pieces.specs.Pieces.{KeepsFront};
 
 use crate::cases::Case;
 use crate::problems::Problem;
-use aioc_tokens::{TokenFault, tokens};
+use aioc_tokens::{Token, TokenFault, tokens};
 use dioc_syntax::read_choreo;
 use dioc_terms::{Choreo, Expr, Memory, SyntaxFault};
 use expr_syntax::{ExprKind, read_expr};
@@ -33,42 +34,71 @@ pub enum Front<T> {
     BadByte(usize),
 }
 
+/// The tokens of a text, as many as the readers take; or the byte that is in no token.
+pub fn text_tokens(alloc: Global, text: &[u8]) -> Result<Result<Vec<Token>, usize>, Problem>
+    ensures lexes { IfOk result (λ found. IfOk found (λ found. Lexes 0 text.now found.items)) }
+    ensures few { IfOk result (λ found. IfOk found (λ found. length found.items ≤ MOST_TOKENS)) }
+{
+    match tokens(alloc, text) {
+        Ok(found) => Ok(Ok(few_tokens(found)?)),
+        Err(TokenFault::BadByte(byte)) => Ok(Err(byte)),
+        Err(TokenFault::Memory) => Err(Problem::Memory),
+    }
+}
+
+// These tokens, unless there are too many.
+fn few_tokens(found: Vec<Token>) -> Result<Vec<Token>, Problem>
+    ensures same { IfOk result (λ tokens. tokens.items ≡ found.items) }
+    ensures few { IfOk result (λ tokens. length tokens.items ≤ MOST_TOKENS) }
+{
+    if found.len() > MOST_TOKENS {
+        return Err(Problem::Bad("the text has too many tokens"));
+    }
+    Ok(found)
+}
+
+impl<T: Drop> Front<T> {
+    /// The front of a text with so many tokens, of which a reader says this.
+    pub fn of_read(read: Result<(T, usize), SyntaxFault>, tokens: usize) -> Result<Self, Problem> {
+        match read {
+            Ok((value, count)) => Ok(Front::Found {
+                value,
+                count,
+                is_whole: count == tokens,
+            }),
+            Err(SyntaxFault::Syntax(byte)) => Ok(Front::Nothing(byte)),
+            Err(SyntaxFault::Memory) => Err(Problem::Memory),
+        }
+    }
+
+    /// Appends `reads N: ` and gives the value that was read, which is to stand behind it; or
+    /// appends `none at byte N` or `bad byte N`.
+    pub fn write_head(&self, out: &mut Vec<u8>) -> Result<Option<&T>, Memory> {
+        match self {
+            Front::Found { value, count, .. } => {
+                write_count(*count, out)?;
+                return Ok(Some(value));
+            }
+            Front::Nothing(byte) => write_place("none at byte", *byte, out)?,
+            Front::BadByte(byte) => write_place("bad byte", *byte, out)?,
+        }
+        Ok(None)
+    }
+}
+
 /// The expression of this kind at the front of a text.
 pub fn front_expr(alloc: Global, text: &[u8], kind: ExprKind) -> Result<Front<Expr>, Problem> {
-    let found = match tokens(alloc, text) {
-        Ok(found) => found,
-        Err(TokenFault::BadByte(byte)) => return Ok(Front::BadByte(byte)),
-        Err(TokenFault::Memory) => return Err(Problem::Memory),
-    };
-    match read_expr(alloc, text, &found, 0, kind) {
-        Ok((value, count)) => Ok(Front::Found {
-            value,
-            count,
-            is_whole: count == found.len(),
-        }),
-        Err(SyntaxFault::Syntax(byte)) => Ok(Front::Nothing(byte)),
-        Err(SyntaxFault::Memory) => Err(Problem::Memory),
+    match text_tokens(alloc, text)? {
+        Ok(found) => Front::of_read(read_expr(alloc, text, &found, 0, kind), found.len()),
+        Err(byte) => Ok(Front::BadByte(byte)),
     }
 }
 
 /// The choreography at the front of a text, by a version of the grammar.
 pub fn front_choreo(alloc: Global, text: &[u8], version: u32) -> Result<Front<Choreo>, Problem> {
-    let found = match tokens(alloc, text) {
-        Ok(found) => found,
-        Err(TokenFault::BadByte(byte)) => return Ok(Front::BadByte(byte)),
-        Err(TokenFault::Memory) => return Err(Problem::Memory),
-    };
-    if found.len() > MOST_TOKENS {
-        return Err(Problem::Bad("the text has too many tokens"));
-    }
-    match read_choreo(alloc, text, &found, 0, version) {
-        Ok((value, count)) => Ok(Front::Found {
-            value,
-            count,
-            is_whole: count == found.len(),
-        }),
-        Err(SyntaxFault::Syntax(byte)) => Ok(Front::Nothing(byte)),
-        Err(SyntaxFault::Memory) => Err(Problem::Memory),
+    match text_tokens(alloc, text)? {
+        Ok(found) => Front::of_read(read_choreo(alloc, text, &found, 0, version), found.len()),
+        Err(byte) => Ok(Front::BadByte(byte)),
     }
 }
 
@@ -97,10 +127,10 @@ fn whole_of<T: Drop>(front: Front<T>, otherwise: &'static str) -> Result<T, Prob
     }
 }
 
-/// Appends `reads N: ` for a front of so many tokens. After `Memory` a part of it may stand behind
-/// the old bytes.
+// Appends `reads N: ` for a front of so many tokens. After `Memory` a part of it may stand behind
+// the old bytes.
 #[tactic(auto, using(text_pieces::proofs::KeptFronts::front_of_front))]
-pub fn write_count(count: usize, out: &mut Vec<u8>) -> Result<(), Memory>
+fn write_count(count: usize, out: &mut Vec<u8>) -> Result<(), Memory>
     ensures ok { OnOk result (out.new.items
         ≡ out.old.items ++ (codes "reads " ++ (decimal count ++ codes ": "))) }
     ensures memory { OnErr result (KeepsFront out.old.items out.new.items) }

@@ -15,60 +15,39 @@ pub struct KnownOption {
     pub takes_value: bool,
 }
 
-static RUN: [KnownOption; 3] = [
-    KnownOption {
-        name: "steps",
-        takes_value: true,
-    },
-    KnownOption {
-        name: "aux",
-        takes_value: false,
-    },
-    KnownOption {
-        name: "json",
-        takes_value: false,
-    },
-];
+const SEED: KnownOption = KnownOption {
+    name: "seed",
+    takes_value: true,
+};
 
-/// Of `step` and `resume`.
-static SEEDED: [KnownOption; 4] = [
-    KnownOption {
-        name: "seed",
-        takes_value: true,
-    },
-    KnownOption {
-        name: "steps",
-        takes_value: true,
-    },
-    KnownOption {
-        name: "aux",
-        takes_value: false,
-    },
-    KnownOption {
-        name: "json",
-        takes_value: false,
-    },
-];
-
-static DRIVE: [KnownOption; 1] = [KnownOption {
+const STEPS: KnownOption = KnownOption {
     name: "steps",
     takes_value: true,
-}];
+};
 
-static SESSIONS: [KnownOption; 3] = [
-    KnownOption {
-        name: "workers",
-        takes_value: true,
-    },
-    KnownOption {
-        name: "seed",
-        takes_value: true,
-    },
-    KnownOption {
-        name: "steps",
-        takes_value: true,
-    },
-];
+const WORKERS: KnownOption = KnownOption {
+    name: "workers",
+    takes_value: true,
+};
+
+const AUX: KnownOption = KnownOption {
+    name: "aux",
+    takes_value: false,
+};
+
+const JSON: KnownOption = KnownOption {
+    name: "json",
+    takes_value: false,
+};
+
+static RUN: [KnownOption; 3] = [STEPS, AUX, JSON];
+
+/// Of `step` and `resume`.
+static SEEDED: [KnownOption; 4] = [SEED, STEPS, AUX, JSON];
+
+static DRIVE: [KnownOption; 1] = [STEPS];
+
+static SESSIONS: [KnownOption; 3] = [WORKERS, SEED, STEPS];
 
 static NO_OPTIONS: [KnownOption; 0] = [];
 

@@ -8,9 +8,9 @@ use crate::crowds::crowded;
 use crate::diagnostic::{Code, Diagnostic, Span};
 use crate::mending::write_mended;
 use crate::places::{construct_at, name_at, part_at, span_at};
-use crate::wording::{Piece, line_of, write_pieces, write_roles};
+use crate::wording::{Piece, line_of, made, stated, write_pieces, write_roles};
 use aioc_tokens::{Lexed, Token, sorts};
-use dioc_terms::{Bundle, Index, Memory, Role, give_up};
+use dioc_terms::{Bundle, Index, Memory, Role};
 use index_marks::{depth, nodes};
 use limits::{MOST_BODY_DEPTH, MOST_BODY_NODES, MOST_CHANGES, MOST_NODES, MOST_ROLES, MOST_RULES};
 use rule_checks::{Refusal, Where, Which};
@@ -121,25 +121,6 @@ fn write_part(spelled: &Spelled<'_>, part: Where, out: &mut Vec<u8>) -> Result<(
     }
 }
 
-/// A diagnostic whose help is a line of pieces.
-fn made(
-    alloc: Global,
-    code: Code,
-    span: Span,
-    message: Vec<u8>,
-    help: &[Piece<'_>],
-) -> Result<Diagnostic, Memory> {
-    match line_of(alloc, help) {
-        Ok(help) => Ok(Diagnostic {
-            code,
-            span,
-            message,
-            help,
-        }),
-        Err(fault) => give_up(message, fault),
-    }
-}
-
 /// A diagnostic that says how many there are and how many may be.
 fn counted(
     alloc: Global,
@@ -148,8 +129,11 @@ fn counted(
     what: &[u8],
     most: usize,
 ) -> Result<Diagnostic, Memory> {
-    let message = line_of(
+    let help: &[u8] = b"docs/LANGUAGE.md has all limits of a bundle";
+    stated(
         alloc,
+        Code::TooMany,
+        span,
         &[
             Piece::Bytes(b"there are "),
             Piece::Number(count as u64),
@@ -159,9 +143,8 @@ fn counted(
             Piece::Number(most as u64),
             Piece::Bytes(b" may be"),
         ],
-    )?;
-    let help: &[u8] = b"docs/LANGUAGE.md has all limits of a bundle";
-    made(alloc, Code::TooMany, span, message, &[Piece::Bytes(help)])
+        &[Piece::Bytes(help)],
+    )
 }
 
 /// More roles than may be: the place is that of the first role that is one too many.
@@ -344,8 +327,12 @@ fn body_too_big(alloc: Global, spelled: &Spelled<'_>, number: u32) -> Result<Dia
         Some(rule) => (nodes(&rule.body), depth(&rule.body)),
         None => (0, 0),
     };
-    let message = line_of(
+    let span = spelled.span(spelled.part(Where::Rule(number)));
+    let help: &[u8] = b"each step, 'skip', ';' and '|' is a node: move steps out of the rule";
+    stated(
         alloc,
+        Code::BodyTooBig,
+        span,
         &[
             Piece::Bytes(b"the body of rule '"),
             Piece::Bytes(spelled.rule_name(number)),
@@ -359,14 +346,6 @@ fn body_too_big(alloc: Global, spelled: &Spelled<'_>, number: u32) -> Result<Dia
             Piece::Number(MOST_BODY_DEPTH as u64),
             Piece::Bytes(b" may be"),
         ],
-    )?;
-    let span = spelled.span(spelled.part(Where::Rule(number)));
-    let help: &[u8] = b"each step, 'skip', ';' and '|' is a node: move steps out of the rule";
-    made(
-        alloc,
-        Code::BodyTooBig,
-        span,
-        message,
         &[Piece::Bytes(help)],
     )
 }

@@ -260,13 +260,8 @@ impl<'a> Standing<'a> {
                 to,
                 var,
             } => {
-                let key = Key {
-                    from: from.copy(alloc)?,
-                    to: to.copy(alloc)?,
-                    index: at(epoch, index),
-                    tag: Tag::Op(op.copy(alloc)?),
-                };
-                self.add_message(alloc, key, expr, var, out)
+                let key = key_of(alloc, at(epoch, index), op, from, to)?;
+                self.add_message(alloc, key, expr, var, out)?;
             }
             Choreo::Set {
                 index,
@@ -282,7 +277,6 @@ impl<'a> Standing<'a> {
                         value: eval(alloc, expr, store)?,
                     })?;
                 }
-                Ok(())
             }
             Choreo::Input { index, var, role } => {
                 if let Some(store) = self.store(role) {
@@ -293,10 +287,10 @@ impl<'a> Standing<'a> {
                         value: store.copy_of_next_input(alloc)?,
                     })?;
                 }
-                Ok(())
             }
-            _ => Ok(()),
+            _ => {}
         }
+        Ok(())
     }
 
     /// Adds that a message is sent, and that it is taken.
@@ -392,6 +386,16 @@ impl<'a> Standing<'a> {
         out.push(entry)?;
         Ok(())
     }
+}
+
+/// The key of a message of this operation.
+fn key_of(alloc: Global, index: Index, op: &Name, from: &Role, to: &Role) -> Result<Key, Memory> {
+    Ok(Key {
+        from: from.copy(alloc)?,
+        to: to.copy(alloc)?,
+        index,
+        tag: Tag::Op(op.copy(alloc)?),
+    })
 }
 
 /// The index of a construct in the choreography, or in a body that replaced a scope.

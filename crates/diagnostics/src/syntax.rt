@@ -5,9 +5,9 @@ ghost use Rattle.aioc_tokens.specs.Lexing.{Lexes};
 
 use crate::diagnostic::{Code, Diagnostic, Span};
 use crate::places::span_at;
-use crate::wording::{Piece, line_of, token_bytes, write_found, write_items};
+use crate::wording::{Piece, line_of, made, stated, token_bytes, write_found, write_items};
 use aioc_tokens::{Lexed, Punctuator, Sort, Token, TokenFault, sorts, tokens};
-use dioc_terms::{Memory, give_up};
+use dioc_terms::Memory;
 use limits::{
     MOST_BRACKETS, MOST_BYTES, MOST_DEPTH, MOST_EXPRESSION_DEPTH, MOST_NAME_BYTES, MOST_TEXT_BYTES,
 };
@@ -34,42 +34,25 @@ pub fn of_syntax(alloc: Global, bytes: &[u8], byte: usize) -> Result<Diagnostic,
     }
 }
 
-/// A diagnostic of two lines.
-fn made(
-    alloc: Global,
-    code: Code,
-    span: Span,
-    message: Vec<u8>,
-    help: &[Piece<'_>],
-) -> Result<Diagnostic, Memory> {
-    match line_of(alloc, help) {
-        Ok(help) => Ok(Diagnostic {
-            code,
-            span,
-            message,
-            help,
-        }),
-        Err(fault) => give_up(message, fault),
-    }
-}
-
 fn too_long(alloc: Global, bytes: &[u8]) -> Result<Diagnostic, Memory> {
-    let message = line_of(
-        alloc,
-        &[
-            Piece::Bytes(b"the text has "),
-            Piece::Number(bytes.len() as u64),
-            Piece::Bytes(b" bytes, and a bundle at most "),
-            Piece::Number(MOST_BYTES as u64),
-        ],
-    )?;
     let span = Span {
         start: MOST_BYTES,
         end: MOST_BYTES,
     };
     let help: &[u8] =
         b"drop comments and spaces, or the trace, which may stand in a text of its own";
-    made(alloc, Code::TooLong, span, message, &[Piece::Bytes(help)])
+    stated(
+        alloc,
+        Code::TooLong,
+        span,
+        &[
+            Piece::Bytes(b"the text has "),
+            Piece::Number(bytes.len() as u64),
+            Piece::Bytes(b" bytes, and a bundle at most "),
+            Piece::Number(MOST_BYTES as u64),
+        ],
+        &[Piece::Bytes(help)],
+    )
 }
 
 /// A byte that is in no token.
@@ -83,50 +66,54 @@ fn bad_byte(alloc: Global, bytes: &[u8], at: usize) -> Result<Diagnostic, Memory
         None => 0,
     };
     if byte == b'"' {
-        let message = line_of(
-            alloc,
-            &[Piece::Bytes(b"a text in quotes begins here and doesn't end")],
-        )?;
-        let line: &[u8] = b"a text ends on its line; it has printable ASCII, ";
-        let pairs: &[u8] = b"and '\"' and '\\' behind a '\\'";
-        return made(
-            alloc,
-            Code::BadByte,
-            span,
-            message,
-            &[Piece::Bytes(line), Piece::Bytes(pairs)],
-        );
+        return open_text(alloc, span);
     }
     if byte > 0x20 && byte < 0x7f {
-        let shown = [byte];
-        let message = line_of(
-            alloc,
-            &[
-                Piece::Bytes(b"found '"),
-                Piece::Bytes(&shown),
-                Piece::Bytes(b"', which is in no token"),
-            ],
-        )?;
-        let name: &[u8] = b"a name has letters, digits and '_', and begins with a letter; ";
-        let comment: &[u8] = b"comments begin with '//'";
-        return made(
-            alloc,
-            Code::BadByte,
-            span,
-            message,
-            &[Piece::Bytes(name), Piece::Bytes(comment)],
-        );
+        return stray_sign(alloc, span, byte);
     }
-    let message = line_of(
+    let help: &[u8] = b"outside of comments a bundle has printable ASCII, tabs and line ends alone";
+    stated(
         alloc,
+        Code::BadByte,
+        span,
         &[
             Piece::Bytes(b"found the byte "),
             Piece::Number(byte as u64),
             Piece::Bytes(b", which is in no token"),
         ],
-    )?;
-    let help: &[u8] = b"outside of comments a bundle has printable ASCII, tabs and line ends alone";
-    made(alloc, Code::BadByte, span, message, &[Piece::Bytes(help)])
+        &[Piece::Bytes(help)],
+    )
+}
+
+/// A text in quotes that doesn't end.
+fn open_text(alloc: Global, span: Span) -> Result<Diagnostic, Memory> {
+    let line: &[u8] = b"a text ends on its line; it has printable ASCII, ";
+    let pairs: &[u8] = b"and '\"' and '\\' behind a '\\'";
+    stated(
+        alloc,
+        Code::BadByte,
+        span,
+        &[Piece::Bytes(b"a text in quotes begins here and doesn't end")],
+        &[Piece::Bytes(line), Piece::Bytes(pairs)],
+    )
+}
+
+/// A printable byte that is in no token.
+fn stray_sign(alloc: Global, span: Span, byte: u8) -> Result<Diagnostic, Memory> {
+    let shown = [byte];
+    let name: &[u8] = b"a name has letters, digits and '_', and begins with a letter; ";
+    let comment: &[u8] = b"comments begin with '//'";
+    stated(
+        alloc,
+        Code::BadByte,
+        span,
+        &[
+            Piece::Bytes(b"found '"),
+            Piece::Bytes(&shown),
+            Piece::Bytes(b"', which is in no token"),
+        ],
+        &[Piece::Bytes(name), Piece::Bytes(comment)],
+    )
 }
 
 /// A token that may not stand where it does, or the end of the text where more is wanted.
@@ -175,47 +162,47 @@ fn help_of(sort: Sort, items: &[Item]) -> &'static [u8] {
 /// A name or a text that is too long.
 fn long(alloc: Global, span: Span, token: &[u8]) -> Result<Diagnostic, Memory> {
     if token.starts_with(b"\"") {
-        let message = line_of(
+        let help: &[u8] = b"split the text, and join its parts by '++' where they are used";
+        return stated(
             alloc,
+            Code::Long,
+            span,
             &[
                 Piece::Bytes(b"this text is too long: a text has at most "),
                 Piece::Number(MOST_TEXT_BYTES as u64),
                 Piece::Bytes(b" bytes"),
             ],
-        )?;
-        let help: &[u8] = b"split the text, and join its parts by '++' where they are used";
-        return made(alloc, Code::Long, span, message, &[Piece::Bytes(help)]);
+            &[Piece::Bytes(help)],
+        );
     }
-    let message = line_of(
+    let help: &[u8] = b"choose a shorter name";
+    stated(
         alloc,
+        Code::Long,
+        span,
         &[
             Piece::Bytes(b"this name has "),
             Piece::Number(token.len() as u64),
             Piece::Bytes(b" bytes, and a name at most "),
             Piece::Number(MOST_NAME_BYTES as u64),
         ],
-    )?;
-    let help: &[u8] = b"choose a shorter name";
-    made(alloc, Code::Long, span, message, &[Piece::Bytes(help)])
+        &[Piece::Bytes(help)],
+    )
 }
 
 /// A number where one may stand, but a smaller one.
 fn great_number(alloc: Global, span: Span, token: &[u8]) -> Result<Diagnostic, Memory> {
-    let message = line_of(
+    let value: &[u8] = b"a value is at most 9223372036854775807, ";
+    let others: &[u8] = b"a place or an epoch 4294967295, a priority 1000000";
+    stated(
         alloc,
+        Code::Number,
+        span,
         &[
             Piece::Bytes(b"the number "),
             Piece::Bytes(&token[..token.len().min(40)]),
             Piece::Bytes(b" is too great here"),
         ],
-    )?;
-    let value: &[u8] = b"a value is at most 9223372036854775807, ";
-    let others: &[u8] = b"a place or an epoch 4294967295, a priority 1000000";
-    made(
-        alloc,
-        Code::Number,
-        span,
-        message,
         &[Piece::Bytes(value), Piece::Bytes(others)],
     )
 }
@@ -250,20 +237,16 @@ fn past_limit(
 ) -> Result<Diagnostic, Memory> {
     match bracket_past_limit(text) {
         Some(at) => {
-            let message = line_of(
+            let help: &[u8] = b"drop brackets around single steps and operands";
+            stated(
                 alloc,
+                Code::Brackets,
+                span_at(bytes, found, at),
                 &[
                     Piece::Bytes(b"too many brackets are open here: at most "),
                     Piece::Number(MOST_BRACKETS as u64),
                     Piece::Bytes(b" may be open at once"),
                 ],
-            )?;
-            let help: &[u8] = b"drop brackets around single steps and operands";
-            made(
-                alloc,
-                Code::Brackets,
-                span_at(bytes, found, at),
-                message,
                 &[Piece::Bytes(help)],
             )
         }
@@ -272,15 +255,6 @@ fn past_limit(
 }
 
 fn too_deep(alloc: Global, byte: usize) -> Result<Diagnostic, Memory> {
-    let message = line_of(
-        alloc,
-        &[
-            Piece::Bytes(b"what stands here is too deep: the tree of a choreography is at most "),
-            Piece::Number(MOST_DEPTH as u64),
-            Piece::Bytes(b" deep, that of an expression at most "),
-            Piece::Number(MOST_EXPRESSION_DEPTH as u64),
-        ],
-    )?;
     let span = Span {
         start: byte,
         end: byte,
@@ -288,11 +262,16 @@ fn too_deep(alloc: Global, byte: usize) -> Result<Diagnostic, Memory> {
     let why: &[u8] =
         b"a step behind ';' and a part behind '|' lie one deeper than the one before it";
     let help: &[u8] = b": put some into brackets";
-    made(
+    stated(
         alloc,
         Code::Depth,
         span,
-        message,
+        &[
+            Piece::Bytes(b"what stands here is too deep: the tree of a choreography is at most "),
+            Piece::Number(MOST_DEPTH as u64),
+            Piece::Bytes(b" deep, that of an expression at most "),
+            Piece::Number(MOST_EXPRESSION_DEPTH as u64),
+        ],
         &[Piece::Bytes(why), Piece::Bytes(help)],
     )
 }

@@ -4,11 +4,12 @@ ghost use Rattle.std.specs.Prelude.{◌≡◌, ◌++◌, OnOk, IfOk};
 ghost use Rattle.std.specs.List.{flat_map};
 ghost use Rattle.diagnostics.specs.Wording.{piece_text};
 
+use crate::diagnostic::{Code, Diagnostic, Span};
 use aioc_tokens::{Lexed, Punctuator, Sort, Token, Word};
-use dioc_terms::{Memory, Role};
+use dioc_terms::{Memory, Role, give_up};
 use std::alloc::Global;
 use text_pieces::{write_bytes, write_number};
-use wanted_items::Item;
+use wanted_items::Item::{self, Name, Number, Text};
 
 /// A piece of a line.
 #[derive(Clone, Copy)]
@@ -46,6 +47,37 @@ pub fn line_of(alloc: Global, pieces: &[Piece<'_>]) -> Result<Vec<u8>, Memory>
     Ok(line)
 }
 
+/// A diagnostic with this message, whose help is a line of pieces.
+pub fn made(
+    alloc: Global,
+    code: Code,
+    span: Span,
+    message: Vec<u8>,
+    help: &[Piece<'_>],
+) -> Result<Diagnostic, Memory> {
+    match line_of(alloc, help) {
+        Ok(help) => Ok(Diagnostic {
+            code,
+            span,
+            message,
+            help,
+        }),
+        Err(fault) => give_up(message, fault),
+    }
+}
+
+/// A diagnostic whose message and help are lines of pieces.
+pub fn stated(
+    alloc: Global,
+    code: Code,
+    span: Span,
+    message: &[Piece<'_>],
+    help: &[Piece<'_>],
+) -> Result<Diagnostic, Memory> {
+    let message = line_of(alloc, message)?;
+    made(alloc, code, span, message, help)
+}
+
 /// What several items together are called.
 #[derive(Clone, Copy)]
 struct Group {
@@ -53,38 +85,32 @@ struct Group {
     items: &'static [Item],
 }
 
-const EXPRESSION: [Item; 8] = [
-    Item::Name,
-    Item::Number,
-    Item::Text,
-    Item::Reserved(Word::True),
-    Item::Reserved(Word::False),
-    Item::Reserved(Word::Nil),
-    Item::Symbol(Punctuator::Minus),
-    Item::Symbol(Punctuator::LeftParen),
-];
+const TRUE: Item = Item::Reserved(Word::True);
 
-const VALUE: [Item; 6] = [
-    Item::Number,
-    Item::Text,
-    Item::Reserved(Word::True),
-    Item::Reserved(Word::False),
-    Item::Reserved(Word::Nil),
-    Item::Symbol(Punctuator::Minus),
-];
+const FALSE: Item = Item::Reserved(Word::False);
+
+const NIL: Item = Item::Reserved(Word::Nil);
+
+const MINUS: Item = Item::Symbol(Punctuator::Minus);
+
+const OPEN_PAREN: Item = Item::Symbol(Punctuator::LeftParen);
+
+const EXPRESSION: [Item; 8] = [Name, Number, Text, TRUE, FALSE, NIL, MINUS, OPEN_PAREN];
+
+const VALUE: [Item; 6] = [Number, Text, TRUE, FALSE, NIL, MINUS];
 
 const STEP: [Item; 6] = [
-    Item::Name,
+    Name,
     Item::Reserved(Word::Skip),
     Item::Reserved(Word::If),
     Item::Reserved(Word::While),
     Item::Reserved(Word::Scope),
-    Item::Symbol(Punctuator::LeftParen),
+    OPEN_PAREN,
 ];
 
 const ARITHMETIC: [Item; 5] = [
     Item::Symbol(Punctuator::Plus),
-    Item::Symbol(Punctuator::Minus),
+    MINUS,
     Item::Symbol(Punctuator::Star),
     Item::Symbol(Punctuator::Slash),
     Item::Symbol(Punctuator::Percent),
@@ -99,29 +125,18 @@ const COMPARISON: [Item; 6] = [
     Item::Symbol(Punctuator::GreaterEqual),
 ];
 
+fn items_called(name: &'static [u8], items: &'static [Item]) -> Option<Group> {
+    Some(Group { name, items })
+}
+
 /// The groups, each before those that are a part of it.
 fn group_at(number: usize) -> Option<Group> {
     match number {
-        0 => Some(Group {
-            name: b"an expression",
-            items: EXPRESSION.as_slice(),
-        }),
-        1 => Some(Group {
-            name: b"a value",
-            items: VALUE.as_slice(),
-        }),
-        2 => Some(Group {
-            name: b"a step",
-            items: STEP.as_slice(),
-        }),
-        3 => Some(Group {
-            name: b"an arithmetic operator",
-            items: ARITHMETIC.as_slice(),
-        }),
-        4 => Some(Group {
-            name: b"a comparison",
-            items: COMPARISON.as_slice(),
-        }),
+        0 => items_called(b"an expression", EXPRESSION.as_slice()),
+        1 => items_called(b"a value", VALUE.as_slice()),
+        2 => items_called(b"a step", STEP.as_slice()),
+        3 => items_called(b"an arithmetic operator", ARITHMETIC.as_slice()),
+        4 => items_called(b"a comparison", COMPARISON.as_slice()),
         _ => None,
     }
 }

@@ -3,6 +3,7 @@ pub mod AdvanceLemmas
 pub mod ClimbLemmas
 pub mod CountLemmas
 pub mod Crossing
+pub mod Edited
 pub mod EnterLemmas
 pub mod FlatLemmas
 pub mod FoundLemmas
@@ -18,6 +19,8 @@ pub mod OpMoveLemmas
 pub mod PastLemmas
 pub mod PlayLemmas
 pub mod ProgressLemmas
+pub mod RelistLemmas
 pub mod ReplacingLemmas
+pub mod SingleActs
 pub mod SpotLeaves
 pub mod StateLemmas

@@ -1,5 +1,5 @@
 -- How far a role over code has come.
-use Rattle.std.specs.Prelude.{◌≡◌, ◌≤◌, ◌++◌, ◌∷◌, ℕ, List, Bool, true, false, length, vec_capacity}
+use Rattle.std.specs.Prelude.{◌≡◌, ◌≤◌, ◌++◌, ◌∷◌, ℕ, List, Bool, true, false, length, map, vec_capacity}
 use Rattle.std.specs.List.{list_any}
 use Rattle.dioc_terms.specs.declared.names.Role.{Role}
 use Rattle.dioc_terms.specs.declared.entries.Act.{Act}
@@ -7,12 +7,13 @@ use Rattle.dioc_terms.specs.Processes.{Process}
 use Rattle.flat_code.specs.Codes.{process_of}
 use Rattle.flat_code.specs.declared.plan.Plan.{Plan}
 use Rattle.flat_role.specs.declared.progress.Progress.{Progress}
-use Rattle.flat_role.specs.PlanMarks.{plan_len, plan_marks, static_at}
+use Rattle.flat_role.specs.PlanMarks.{plan_layout, plan_len, plan_marks, static_at}
 use Rattle.process_steps.specs.Steps.{is_offered}
 use Rattle.role_statuses.specs.Flat.{Marks}
 use Rattle.role_statuses.specs.Kept.{IsKept, running}
-use Rattle.role_statuses.specs.ListLaws.{active}
+use Rattle.role_statuses.specs.ListLaws.{active, spot_at}
 use Rattle.role_statuses.specs.PlaceLaws.{status_at}
+use Rattle.role_statuses.specs.Spots.{acts_of}
 use Rattle.role_statuses.specs.Statuses.{leaves}
 
 -- the marks, as laws on marks see them
@@ -33,10 +34,18 @@ pub record IsProgress (me : Role) (plan : Plan) (progress : Progress) : Type 0 w
   pub room : plan_len plan ≤ vec_capacity progress.active
   pub spare : plan_len plan ≤ vec_capacity progress.fresh
 
+-- the acts that a place offers, by its own mark and static process
+abbrev pub acts_there : Role → Plan → Marks → ℕ → List Act
+acts_there me plan marks place = leaves me (status_at marks place) (static_at plan place)
+
+-- those that these places offer
+abbrev pub acts_at : Role → Plan → Progress → List ℕ → List Act
+acts_at me plan progress ps =
+    acts_of (map (spot_at me (plan_layout plan) (marks_by me plan progress)) ps)
+
 -- whether a place offers the act
 abbrev pub offers_there : Role → Plan → Marks → Act → ℕ → Bool
-offers_there me plan marks a place =
-    is_offered a (leaves me (status_at marks place) (static_at plan place))
+offers_there me plan marks a place = is_offered a (acts_there me plan marks place)
 
 -- the first place that offers the act, and where it stands in the list of those that can act
 pub record IsFound (me : Role) (plan : Plan) (progress : Progress) (a : Act)

@@ -1,5 +1,5 @@
 -- What was made ready of an act of a role over code.
-use Rattle.std.specs.Prelude.{◌≡◌, ℕ, List, true, false, Some, get_or}
+use Rattle.std.specs.Prelude.{◌≡◌, ℕ, List, Option, true, false, Some, get_or}
 use Rattle.dioc_terms.specs.declared.names.Role.{Role}
 use Rattle.dioc_terms.specs.declared.entries.Act.{Act}
 use Rattle.dioc_terms.specs.Processes.{Process}
@@ -77,3 +77,19 @@ pub record IsReadyBy (me : Role) (plan : Plan) (progress : Progress) (s : Store)
   pub made : IsStepFor me s a (get_or progress.marks.items place kept.Untouched)
       (static_at plan place)
       ready.step
+
+-- what was made ready of the act that stands there is kept, and its step meets this
+pub record IsKeptFor (IsFor : Step → Type 0) (a : Act) (at : ℕ) (held : Option Ready)
+    : Type 0 where
+  pub ready : Ready
+  pub is : held ≡ Some ready
+  pub act : ready.act.value ≡ a
+  pub at_place : ready.at ≡ at
+  pub made : IsFor ready.step
+
+-- all that was made ready is kept
+pub record IsKeptBy (me : Role) (plan : Plan) (progress : Progress) (s : Store) (a : Act)
+    (held : Option Ready) : Type 0 where
+  pub ready : Ready
+  pub is : held ≡ Some ready
+  pub made : IsReadyBy me plan progress s a ready

@@ -324,7 +324,7 @@ pub(crate) fn offers_at(me: &Role, plan: &Plan, marks: &[Mark], place: usize, ac
 }
 
 /// Whether the act is one of what is next.
-fn offers_next(me: &Role, act: &Act, next: Next<'_>) -> bool
+pub(crate) fn offers_next(me: &Role, act: &Act, next: Next<'_>) -> bool
     requires { is_single_next next ≡ true }
     ensures { (R : Process) → IsNext me.now next.entry R →
         result ≡ is_offered act.now (offers me.now R) }

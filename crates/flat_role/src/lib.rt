@@ -23,6 +23,7 @@ mod prepared;
 mod progress;
 mod ready;
 mod readying;
+mod relisting;
 mod replacing;
 mod starting;
 mod states;

@@ -4,8 +4,9 @@ ghost use Rattle.std.specs.Prelude.{◌≡◌, IfOk, replicate};
 ghost use Rattle.flat_role.specs.declared.marks.Mark.TheVariants as kept;
 
 use crate::entering::enter;
-use crate::leaves::{add_acts_at, offers_at};
+use crate::leaves::offers_at;
 use crate::marks::Mark;
+use crate::relisting::add_acts;
 use dioc_terms::{Act, Memory, Role, give_up};
 use flat_code::Plan;
 use std::alloc::Global;
@@ -53,9 +54,7 @@ impl Progress {
             ≡ offers me.now (runs_by me.now plan.now self.now)) }
     {
         let mut acts = Vec::new(alloc);
-        for place in self.active.as_slice() {
-            add_acts_at(alloc, me, plan, self.marks.as_slice(), *place, &mut acts)?;
-        }
+        add_acts(self, alloc, me, plan, 0, self.active.len(), &mut acts)?;
         Ok(acts)
     }
 

@@ -15,7 +15,7 @@ ghost use Rattle.flat_role.specs.KeptMarks.{update_process};
 ghost use Rattle.flat_role.specs.Leaves.{IsNext, is_became, is_leaf, is_update};
 ghost use Rattle.flat_role.specs.PlanMarks.{plan_len, plan_marks, static_at};
 ghost use Rattle.flat_role.specs.Progress.{IsFound, IsProgress, runs_by};
-ghost use Rattle.flat_role.specs.ReadySteps.{IsOwn, IsReadyBy, IsShownBy, IsStepFor, IsUpdateStep, front_at};
+ghost use Rattle.flat_role.specs.ReadySteps.{IsKeptBy, IsKeptFor, IsOwn, IsShownBy, IsStepFor, IsUpdateStep, front_at};
 ghost use Rattle.process_steps.specs.Steps.{is_offered, offers};
 
 use crate::leaves::{Next, next_at, prepared_for, value_for, write_for};
@@ -33,100 +33,122 @@ use flat_code::Plan;
 use std::alloc::Global;
 use std::snapshot::Snapshot;
 
-/// All that the act needs of the place that stands there, and what is shown of it. There is room
-/// for one more variable then.
+/// Keeps all that the act needs of the place that stands there, and gives what is shown of it.
+/// There is room for one more variable then.
 pub(crate) fn make_ready(
     alloc: Global,
     me: &Role,
     plan: &Plan,
     progress: &mut Progress,
     store: &mut Store,
-    act: &Act,
-    at: usize,
-) -> Result<(Ready, Prepared), Memory>
+    found: (&Act, usize),
+    ready: &mut Option<Ready>,
+) -> Result<Prepared, Memory>
     requires progress { IsProgress me.now plan.now progress.old }
-    requires found { IsFound me.now plan.now progress.old act.now at
-        (get_or progress.old.active.items at 0) }
+    requires found { IsFound me.now plan.now progress.old found.0.now found.1
+        (get_or progress.old.active.items found.1 0) }
     ensures progress { IsProgress me.now plan.now progress.new }
     ensures same { runs_by me.now plan.now progress.new ≡ runs_by me.now plan.now progress.old }
     ensures same_store { store_of store.new ≡ store_of store.old }
     ensures has_room { OnOk result (0 < room store.new) }
-    ensures ready { IfOk result (λ made. IsReadyBy me.now plan.now progress.new
-        (store_of store.old) act.now made.0) }
-    ensures shown { IfOk result (λ made. IsPrepared (local me.now
-        (runs_by me.now plan.now progress.old) (store_of store.old)) act.now made.1) }
+    ensures ready { OnOk result (IsKeptBy me.now plan.now progress.new
+        (store_of store.old) found.entry.0.now ready.new) }
+    ensures shown { IfOk result (IsPrepared (local me.now
+        (runs_by me.now plan.now progress.old) (store_of store.old)) found.entry.0.now) }
 {
     store.reserve(1)?;
+    let (act, at) = found;
     let place = progress.active[at];
-    let (step, prepared) = step_at(alloc, me, plan, &mut progress.marks, place, store, act)?;
-    let act = Snapshot::of(act);
-    Ok((Ready { act, at, step }, prepared))
+    step_at(
+        alloc,
+        me,
+        plan,
+        &mut progress.marks,
+        store,
+        (act, at, place),
+        ready,
+    )
 }
 
-/// What is made ready of an act at the place, and what is shown of it. An update there may be put
-/// in another form.
+/// Keeps what is made ready of an act at the place, and gives what is shown of it. An update there
+/// may be put in another form.
 fn step_at(
     alloc: Global,
     me: &Role,
     plan: &Plan,
     marks: &mut Vec<Mark>,
-    place: usize,
     store: &mut Store,
-    act: &Act,
-) -> Result<(Step, Prepared), Memory>
-    requires inside { place < plan_len plan.now }
+    found: (&Act, usize, usize),
+    ready: &mut Option<Ready>,
+) -> Result<Prepared, Memory>
+    requires inside { found.2 < plan_len plan.now }
     requires as_long { length marks.old.items ≡ plan_len plan.now }
     requires has_room { 0 < room store.old }
-    requires leaf { is_leaf (plan_marks me.now plan.now marks.old.items place)
-        (static_at plan.now place) ≡ true }
-    requires offered { is_offered act.now
-        (offers me.now (front_at me.now plan.now marks.old.items place)) ≡ true }
+    requires leaf { is_leaf (plan_marks me.now plan.now marks.old.items found.2)
+        (static_at plan.now found.2) ≡ true }
+    requires offered { is_offered found.0.now
+        (offers me.now (front_at me.now plan.now marks.old.items found.2)) ≡ true }
     ensures as_long { length marks.new.items ≡ plan_len plan.now }
     ensures same { plan_marks me.now plan.now marks.new.items
         ≡ plan_marks me.now plan.now marks.old.items }
     ensures same_store { store_of store.new ≡ store_of store.old }
     ensures has_room { OnOk result (0 < room store.new) }
-    ensures step { IfOk result (λ made. IsStepFor me.now (store_of store.old) act.now
-        (get_or marks.new.items place kept.Untouched) (static_at plan.now place) made.0) }
-    ensures shown { IfOk result (λ made. IsShownBy me.now (store_of store.old) act.now
-        (front_at me.now plan.now marks.old.items place) made.1) }
+    ensures step { OnOk result (IsKeptFor (IsStepFor me.now (store_of store.old) found.entry.0.now
+        (get_or marks.new.items found.entry.2 kept.Untouched) (static_at plan.now found.entry.2))
+        found.entry.0.now found.entry.1 ready.new) }
+    ensures shown { IfOk result (IsShownBy me.now (store_of store.old) found.entry.0.now
+        (front_at me.now plan.now marks.old.items found.entry.2)) }
 {
+    let (act, at, place) = found;
     match &mut marks[place] {
-        Mark::Became(update) => update_step(alloc, me, update, store, act),
-        _ => code_step(alloc, me, plan, marks.as_slice(), place, store, act),
+        Mark::Became(update) => update_ready(alloc, me, update, store, (act, at), ready),
+        _ => code_ready(
+            alloc,
+            me,
+            plan,
+            marks.as_slice(),
+            store,
+            (act, at, place),
+            ready,
+        ),
     }
 }
 
-/// What is made ready of an act of the code, and what is shown of it.
-fn code_step(
+/// Keeps what is made ready of an act of the code, and gives what is shown of it.
+fn code_ready(
     alloc: Global,
     me: &Role,
     plan: &Plan,
     marks: &[Mark],
-    place: usize,
     store: &Store,
-    act: &Act,
-) -> Result<(Step, Prepared), Memory>
-    requires inside { place < plan_len plan.now }
+    found: (&Act, usize, usize),
+    ready: &mut Option<Ready>,
+) -> Result<Prepared, Memory>
+    requires inside { found.2 < plan_len plan.now }
     requires as_long { length marks.now ≡ plan_len plan.now }
-    requires leaf { is_leaf (plan_marks me.now plan.now marks.now place) (static_at plan.now place)
-        ≡ true }
-    requires own { is_became (plan_marks me.now plan.now marks.now place) ≡ false }
-    requires offered { is_offered act.now
-        (offers me.now (front_at me.now plan.now marks.now place)) ≡ true }
-    ensures step { IfOk result (λ made. IsStepFor me.now (store_of store.now) act.now
-        (get_or marks.now place kept.Untouched) (static_at plan.now place) made.0) }
-    ensures shown { IfOk result (λ made. IsShownBy me.now (store_of store.now) act.now
-        (front_at me.now plan.now marks.now place) made.1) }
+    requires leaf { is_leaf (plan_marks me.now plan.now marks.now found.2)
+        (static_at plan.now found.2) ≡ true }
+    requires own { is_became (plan_marks me.now plan.now marks.now found.2) ≡ false }
+    requires offered { is_offered found.0.now
+        (offers me.now (front_at me.now plan.now marks.now found.2)) ≡ true }
+    ensures step { OnOk result (IsKeptFor (IsStepFor me.now (store_of store.now) found.entry.0.now
+        (get_or marks.now found.entry.2 kept.Untouched) (static_at plan.now found.entry.2))
+        found.entry.0.now found.entry.1 ready.new) }
+    ensures shown { IfOk result (IsShownBy me.now (store_of store.now) found.entry.0.now
+        (front_at me.now plan.now marks.now found.entry.2)) }
 {
+    let (act, at, place) = found;
     let next = next_at(me, plan, marks, place);
     let value = value_for(alloc, store, next)?;
     let space = room_at(alloc, me, plan, marks, place)?;
     let own = own_of(alloc, &value, next, space)?;
-    match prepared_for(alloc, me, act, &value, next) {
-        Ok(prepared) => Ok((Step::Own(own), prepared)),
-        Err(fault) => give_up(own, fault),
-    }
+    let snapshot = Snapshot::of(act);
+    *ready = Some(Ready {
+        act: snapshot,
+        at,
+        step: Step::Own(own),
+    });
+    prepared_for(alloc, me, act, &value, next)
 }
 
 /// What is made ready of what is next, with the value that it needs and this room.
@@ -146,27 +168,37 @@ fn own_of(alloc: Global, value: &Value, next: Next<'_>, space: Option<Room>) -> 
     }
 }
 
-/// What is made ready of an act of an update, and what is shown of it.
+/// Keeps what is made ready of an act of an update, and gives what is shown of it.
 #[inline(never)]
-fn update_step(
+fn update_ready(
     alloc: Global,
     me: &Role,
     update: &mut Update,
     store: &mut Store,
-    act: &Act,
-) -> Result<(Step, Prepared), Memory>
-    requires { is_some (acting me.now act.now (update_process update.old)) ≡ true }
+    found: (&Act, usize),
+    ready: &mut Option<Ready>,
+) -> Result<Prepared, Memory>
+    requires { is_some (acting me.now found.0.now (update_process update.old)) ≡ true }
     ensures same { update_process update.new ≡ update_process update.old }
     ensures same_store { store_of store.new ≡ store_of store.old }
     ensures has_room { OnOk result (0 < room store.new) }
-    ensures ready { IfOk result (λ made. IsUpdateStep me.now (store_of store.old) act.now
-        update.new made.0) }
-    ensures shown { IfOk result (λ made. IsShownBy me.now (store_of store.old) act.now
-        (update_process update.old) made.1) }
+    ensures ready { OnOk result (IsKeptFor (IsUpdateStep me.now (store_of store.old)
+        found.entry.0.now update.new) found.entry.0.now found.entry.1 ready.new) }
+    ensures shown { IfOk result (IsShownBy me.now (store_of store.old) found.entry.0.now
+        (update_process update.old)) }
 {
+    let (act, at) = found;
     settle(alloc, &mut update.code, &mut update.frame)?;
     match make_update_ready(alloc, me, &update.code, &update.frame, store, act) {
-        Ok((ready, prepared)) => Ok((Step::Updated(ready), prepared)),
+        Ok((made, prepared)) => {
+            let snapshot = Snapshot::of(act);
+            *ready = Some(Ready {
+                act: snapshot,
+                at,
+                step: Step::Updated(made),
+            });
+            Ok(prepared)
+        }
         Err(PrepareFault::Memory) => Err(Memory),
         Err(PrepareFault::NoAct) => unreachable!(),
     }

@@ -11,7 +11,8 @@ ghost use Rattle.role_statuses.specs.ListLaws.{active};
 use crate::advancing::advance;
 use crate::progress::Progress;
 use crate::readying::make_ready;
-use crate::steps::Ready;
+use crate::relisting::refresh_acts;
+use crate::steps::{Ready, clear};
 use dioc_terms::{Act, Memory, Role, Store, give_up};
 use dpoc_process::{Got, PrepareFault, Prepared, Runs};
 use flat_code::{Code, Plan};
@@ -99,28 +100,28 @@ impl Runs for FlatRole {
     }
 
     fn refresh_acts(&self, alloc: Global, acts: &mut Vec<Act>) -> Result<(), Memory> {
-        let listed = self.acts(alloc)?;
-        drop(mem::replace(acts, listed));
-        Ok(())
+        refresh_acts(&self.progress, alloc, &self.role, &self.plan, acts)
     }
 
     fn prepare(&mut self, alloc: Global, act: &Act) -> Result<Prepared, PrepareFault> {
         clear(&mut self.ready);
         match self.progress.find(&self.role, &self.plan, act) {
             None => Err(PrepareFault::NoAct),
-            Some(at) => {
-                let (ready, prepared) = make_ready(
-                    alloc,
-                    &self.role,
-                    &self.plan,
-                    &mut self.progress,
-                    &mut self.store,
-                    act,
-                    at,
-                )?;
-                keep_ready(&mut self.ready, ready);
-                Ok(prepared)
-            }
+            Some(at) => match make_ready(
+                alloc,
+                &self.role,
+                &self.plan,
+                &mut self.progress,
+                &mut self.store,
+                (act, at),
+                &mut self.ready,
+            ) {
+                Ok(prepared) => Ok(prepared),
+                Err(_) => {
+                    clear(&mut self.ready);
+                    Err(PrepareFault::Memory)
+                }
+            },
         }
     }
 
@@ -144,18 +145,4 @@ impl Runs for FlatRole {
     fn store(&self) -> &Store {
         &self.store
     }
-}
-
-/// Lets go of what was made ready.
-fn clear(place: &mut Option<Ready>)
-    ensures { place.new ≡ None }
-{
-    drop(place.take());
-}
-
-/// Keeps what was made ready.
-fn keep_ready(place: &mut Option<Ready>, ready: Ready)
-    ensures { place.new ≡ Some ready }
-{
-    drop(mem::replace(place, Some(ready)));
 }

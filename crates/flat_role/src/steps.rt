@@ -1,5 +1,7 @@
 //! What was made ready of an act.
 
+ghost use Rattle.std.specs.Prelude.{◌≡◌, None};
+
 use crate::ready::Ready as UpdateReady;
 use crate::replacing::Room;
 use dioc_terms::Act;
@@ -31,4 +33,15 @@ pub(crate) struct Own {
     pub write: Write,
     pub pick: bool,
     pub room: Option<Room>,
+}
+
+/// Lets go of what was made ready.
+// (Mostly nothing was, and to write that nothing is takes as long as to write all that might be.)
+pub(crate) fn clear(ready: &mut Option<Ready>)
+    ensures { ready.new ≡ None }
+{
+    match ready {
+        Some(_) => *ready = None,
+        None => {}
+    }
 }

@@ -1,7 +1,6 @@
 -- What a program's values say of how an entry is played.
-use Rattle.std.specs.Prelude.{List, [], Bool, true, false, Option, Some, None}
+use Rattle.std.specs.Prelude.{Bool, true, false, Option, Some, None}
 use Rattle.dioc_terms.specs.Attempts.{Attempt, Stuck, Does}
-use Rattle.dioc_terms.specs.Plain.{PlainRule}
 use Rattle.dioc_terms.specs.Terms as terms
 use Rattle.dioc_terms.specs.Terms.{Term, If, While, Scope}
 use Rattle.global_follower.specs.declared.effects.Effect.{Effect as KeptEffect}
@@ -11,7 +10,7 @@ use Rattle.global_follower.specs.declared.plays.Stand.{Stand}
 use Rattle.global_follower.specs.declared.plays.Stand.TheVariants as stands
 use Rattle.global_follower.specs.declared.running.Running.{Running as KeptRunning}
 use Rattle.global_follower.specs.declared.running.Running as kept
-use Rattle.global_follower.specs.KeptBooks.{book_of}
+use Rattle.global_follower.specs.KeptBooks.{book_of, rules_of}
 use Rattle.global_follower.specs.KeptRunning.{running}
 use Rattle.global_follower.specs.KeptEffects.{effect_of}
 use Rattle.global_follower.specs.KeptStores.{stores_of}
@@ -19,10 +18,10 @@ use Rattle.global_steps.specs.Follow.{Effect, book_choice, plays}
 use Rattle.global_steps.specs.Running.{Running, Seq, Par, ended}
 
 -- how what is left plays the entry of the scene
-abbrev pub plays_in : List PlainRule → Scene → Running → Attempt Effect Running
-plays_in rules scene G =
-    plays scene.cast.now (stores_of scene.stores.now)
-    (λ head. book_choice rules (book_of scene.book.now) head
+abbrev pub plays_in : Scene → Running → Attempt Effect Running
+plays_in scene G =
+    plays scene.rules.bundle.now.cast (stores_of scene.stores.now)
+    (λ head. book_choice (rules_of scene.rules) (book_of scene.book.now) head
     (stores_of scene.stores.now head.leader))
     scene.updates G scene.entry.now
 
@@ -50,10 +49,6 @@ plays_itself (kept.Par' _ G _ H) = false
 plays_itself (kept.Bar' scope _ G) = false
 plays_itself (kept.Again' turn _ G) = ended (running G)
 plays_itself _ = true
-
--- the same of what asks no book
-abbrev pub plays_alone : Scene → Running → Attempt Effect Running
-plays_alone scene G = plays_in [] scene G
 
 -- a choice, a loop or a scope
 abbrev pub is_branching : Term → Bool

@@ -110,16 +110,15 @@ impl<'a> Follower<'a> {
         ensures same { OnErr result (state_of self.new ≡ state_of self.old) }
     {
         self.stores.make_ready(alloc, role)?;
-        let bundle = self.rules.bundle;
         let scene = Scene {
-            cast: bundle.cast.as_slice(),
+            rules: self.rules,
             stores: &self.stores,
             book: &self.book,
             updates: self.updates,
             entry,
         };
         let mut effect = Effect::Leaves;
-        if !play(alloc, &mut self.running, self.rules, &scene, &mut effect)? {
+        if !play(alloc, &mut self.running, &scene, &mut effect)? {
             return Err(FollowFault::Stray);
         }
         self.stores.affect(role, effect);

@@ -5,9 +5,8 @@ ghost use Rattle.dioc_terms.specs.Attempts.{under};
 ghost use Rattle.dioc_terms.specs.Expressions.{expression};
 ghost use Rattle.dioc_terms.specs.Terms.{term, roles_in, is_in};
 ghost use Rattle.global_follower.specs.declared.effects.Effect.TheVariants as effects;
-ghost use Rattle.global_follower.specs.KeptBooks.{rules_of};
 ghost use Rattle.global_follower.specs.KeptRunning.{flying, marked, part_term, running};
-ghost use Rattle.global_follower.specs.Playing.{attempt_if, attempt_of, beside, is_branching, is_whole, plays_alone, plays_in, plays_itself};
+ghost use Rattle.global_follower.specs.Playing.{attempt_if, attempt_of, beside, is_branching, is_whole, plays_in, plays_itself};
 ghost use Rattle.global_steps.specs.Follow.{is_doer_due};
 ghost use Rattle.global_steps.specs.Running.{light, started};
 ghost use Rattle.global_steps.specs.Running as runs;
@@ -33,8 +32,8 @@ pub(crate) struct Played<'a> {
 
 /// What every part of a choreography reads while an entry is played.
 #[derive(Clone, Copy)]
-pub(crate) struct Scene<'s> {
-    pub cast: &'s [Role],
+pub(crate) struct Scene<'a, 's> {
+    pub rules: RuleList<'a>,
     pub stores: &'s Stores,
     pub book: &'s PlainBook,
     pub updates: u64,
@@ -60,23 +59,22 @@ pub(crate) enum Stand {
 pub(crate) fn play<'a>(
     alloc: Global,
     left: &mut Running<'a>,
-    rules: RuleList<'a>,
-    scene: &Scene<'_>,
+    scene: &Scene<'a, '_>,
     effect: &mut Effect,
 ) -> Result<bool, Memory>
     ensures played { IfOk result (λ is_played. attempt_if is_played effect.new (running left.new)
-        ≡ plays_in (rules_of rules.entry) scene.now (running left.old)) }
+        ≡ plays_in scene.now (running left.old)) }
     ensures stays { IfOk result (λ is_played. is_played ≡ false
         → running left.new ≡ running left.old) }
     ensures same { OnErr result (running left.new ≡ running left.old) }
 {
     match left {
         Running::Skip => Ok(false),
-        Running::Still(_) | Running::Fly(_) => play_here(alloc, left, rules, scene, effect),
+        Running::Still(_) | Running::Fly(_) => play_here(alloc, left, scene, effect),
         Running::Seq(first, _) => {
             let first: &mut Running<'a> = first;
             if !is_skip(first) {
-                if play(alloc, first, rules, scene, effect)? {
+                if play(alloc, first, scene, effect)? {
                     return Ok(true);
                 }
                 if !lets_on(first, scene.entry) {
@@ -84,29 +82,29 @@ pub(crate) fn play<'a>(
                 }
             }
             match left {
-                Running::Seq(_, second) => play(alloc, second, rules, scene, effect),
+                Running::Seq(_, second) => play(alloc, second, scene, effect),
                 _ => unreachable!(),
             }
         }
         Running::Par(one, _) => {
-            if play(alloc, one, rules, scene, effect)? {
+            if play(alloc, one, scene, effect)? {
                 return Ok(true);
             }
             match left {
-                Running::Par(_, other) => play(alloc, other, rules, scene, effect),
+                Running::Par(_, other) => play(alloc, other, scene, effect),
                 _ => unreachable!(),
             }
         }
-        Running::Bar(_, inside) => play(alloc, inside, rules, scene, effect),
+        Running::Bar(_, inside) => play(alloc, inside, scene, effect),
         Running::Again(_, inside) => {
             let inside: &mut Running<'a> = inside;
-            if play(alloc, inside, rules, scene, effect)? {
+            if play(alloc, inside, scene, effect)? {
                 return Ok(true);
             }
             if !is_ended(inside) {
                 return Ok(false);
             }
-            play_here(alloc, left, rules, scene, effect)
+            play_here(alloc, left, scene, effect)
         }
     }
 }
@@ -117,18 +115,17 @@ pub(crate) fn play<'a>(
 fn play_here<'a>(
     alloc: Global,
     left: &mut Running<'a>,
-    rules: RuleList<'a>,
-    scene: &Scene<'_>,
+    scene: &Scene<'a, '_>,
     effect: &mut Effect,
 ) -> Result<bool, Memory>
     requires { plays_itself left.old ≡ true }
     ensures played { IfOk result (λ is_played. attempt_if is_played effect.new (running left.new)
-        ≡ plays_in (rules_of rules.entry) scene.now (running left.old)) }
+        ≡ plays_in scene.now (running left.old)) }
     ensures stays { IfOk result (λ is_played. is_played ≡ false
         → running left.new ≡ running left.old) }
     ensures same { OnErr result (running left.new ≡ running left.old) }
 {
-    match play_whole(alloc, left, rules, scene)? {
+    match play_whole(alloc, left, scene)? {
         None => Ok(false),
         Some(played) => {
             *left = played.left;
@@ -151,16 +148,15 @@ fn lets_on(first: &Running<'_>, entry: &Entry) -> bool
 fn play_whole<'a>(
     alloc: Global,
     whole: &Running<'a>,
-    rules: RuleList<'a>,
-    scene: &Scene<'_>,
+    scene: &Scene<'a, '_>,
 ) -> Result<Option<Played<'a>>, Memory>
     requires { plays_itself whole.now ≡ true }
     ensures { IfOk result (λ played. attempt_of played
-        ≡ plays_in (rules_of rules.entry) scene.now (running whole.now)) }
+        ≡ plays_in scene.now (running whole.now)) }
 {
     match whole {
         Running::Skip => Ok(None),
-        Running::Still(part) => play_part(alloc, part.choreo, part.marks, rules, scene),
+        Running::Still(part) => play_part(alloc, part.choreo, part.marks, scene),
         Running::Fly(flight) => play_landing(alloc, flight, scene),
         Running::Again(turn, _) => play_loop(alloc, *turn, scene),
         _ => unreachable!(),
@@ -173,47 +169,45 @@ fn play_part<'a>(
     alloc: Global,
     choreo: &'a Choreo,
     marks: Marks,
-    rules: RuleList<'a>,
-    scene: &Scene<'_>,
+    scene: &Scene<'a, '_>,
 ) -> Result<Option<Played<'a>>, Memory>
     ensures { IfOk result (λ played. attempt_of played
-        ≡ plays_in (rules_of rules.entry) scene.now (started (marked choreo.now marks))) }
+        ≡ plays_in scene.now (started (marked choreo.now marks))) }
 {
     match choreo {
         Choreo::Seq(first, second) => {
-            if let Some(played) = play_part(alloc, first, marks, rules, scene)? {
+            if let Some(played) = play_part(alloc, first, marks, scene)? {
                 return beside(alloc, Some(played), Stand::First, marks.inside(second));
             }
             if !is_empty(first) {
                 return Ok(None);
             }
-            let played = play_part(alloc, second, marks, rules, scene)?;
+            let played = play_part(alloc, second, marks, scene)?;
             beside(alloc, played, Stand::Second, marks.inside(first))
         }
         Choreo::Par(left, right) => {
-            if let Some(played) = play_part(alloc, left, marks, rules, scene)? {
+            if let Some(played) = play_part(alloc, left, marks, scene)? {
                 return beside(alloc, Some(played), Stand::Left, marks.inside(right));
             }
-            let played = play_part(alloc, right, marks, rules, scene)?;
+            let played = play_part(alloc, right, marks, scene)?;
             beside(alloc, played, Stand::Right, marks.inside(left))
         }
-        construct => play_construct(alloc, construct, marks, rules, scene),
+        choreo => play_construct(alloc, Part { choreo, marks }, scene),
     }
 }
 
 /// How an interaction, an assignment, an input, a choice, a loop or a scope plays the entry.
 fn play_construct<'a>(
     alloc: Global,
-    construct: &'a Choreo,
-    marks: Marks,
-    rules: RuleList<'a>,
-    scene: &Scene<'_>,
+    part: Part<'a>,
+    scene: &Scene<'a, '_>,
 ) -> Result<Option<Played<'a>>, Memory>
-    requires { is_whole (term construct.now) ≡ true }
+    requires { is_whole (term part.choreo.now) ≡ true }
     ensures { IfOk result (λ played. attempt_of played
-        ≡ plays_in (rules_of rules.entry) scene.now (started (marked construct.now marks))) }
+        ≡ plays_in scene.now (started (part_term part.entry))) }
 {
-    match construct {
+    let marks = part.marks;
+    match part.choreo {
         Choreo::Skip => Ok(None),
         Choreo::Com {
             index,
@@ -240,23 +234,22 @@ fn play_construct<'a>(
         Choreo::Input { index, var, role } => {
             play_input(alloc, marks.of(*index), var, role, scene)
         }
-        branching => play_branching(alloc, branching, marks, rules, scene),
+        _ => play_branching(alloc, part, scene),
     }
 }
 
 /// How a choice, a loop or a scope plays the entry.
 fn play_branching<'a>(
     alloc: Global,
-    construct: &'a Choreo,
-    marks: Marks,
-    rules: RuleList<'a>,
-    scene: &Scene<'_>,
+    part: Part<'a>,
+    scene: &Scene<'a, '_>,
 ) -> Result<Option<Played<'a>>, Memory>
-    requires { is_branching (term construct.now) ≡ true }
+    requires { is_branching (term part.choreo.now) ≡ true }
     ensures { IfOk result (λ played. attempt_of played
-        ≡ plays_in (rules_of rules.entry) scene.now (started (marked construct.now marks))) }
+        ≡ plays_in scene.now (started (part_term part.entry))) }
 {
-    match construct {
+    let marks = part.marks;
+    match part.choreo {
         Choreo::If {
             index,
             leader,
@@ -289,7 +282,7 @@ fn play_branching<'a>(
             };
             play_loop(alloc, turn, scene)
         }
-        Choreo::Scope { .. } => play_scope(alloc, construct, marks, rules, scene),
+        Choreo::Scope { .. } => play_scope(alloc, part, scene),
         _ => unreachable!(),
     }
 }
@@ -300,10 +293,10 @@ fn play_sending<'a>(
     message: Message<'a>,
     expr: &Expr,
     var: &'a Name,
-    scene: &Scene<'_>,
+    scene: &Scene<'a, '_>,
 ) -> Result<Option<Played<'a>>, Memory>
     ensures { IfOk result (λ played. attempt_of played
-        ≡ plays_alone scene.now (runs.Com message.entry.index message.entry.op.now
+        ≡ plays_in scene.now (runs.Com message.entry.index message.entry.op.now
         message.entry.from.now (expression expr.now) message.entry.to.now var.now)) }
 {
     let store = scene.stores.of(message.from);
@@ -324,10 +317,10 @@ fn play_sending<'a>(
 fn play_landing<'a>(
     alloc: Global,
     flight: &Flight<'a>,
-    scene: &Scene<'_>,
+    scene: &Scene<'a, '_>,
 ) -> Result<Option<Played<'a>>, Memory>
     ensures { IfOk result (λ played. attempt_of played
-        ≡ plays_alone scene.now (flying flight.now)) }
+        ≡ plays_in scene.now (flying flight.now)) }
 {
     if !is_take(scene.entry, flight.message, flight.var) {
         return Ok(None);
@@ -346,10 +339,10 @@ fn play_setting<'a>(
     var: &Name,
     role: &Role,
     expr: &Expr,
-    scene: &Scene<'_>,
+    scene: &Scene<'a, '_>,
 ) -> Result<Option<Played<'a>>, Memory>
     ensures { IfOk result (λ played. attempt_of played
-        ≡ plays_alone scene.now (runs.Set index var.now role.now (expression expr.now))) }
+        ≡ plays_in scene.now (runs.Set index var.now role.now (expression expr.now))) }
 {
     let store = scene.stores.of(role);
     match set_value(alloc, scene.entry, index, var, role, expr, store)? {
@@ -366,10 +359,10 @@ fn play_input<'a>(
     index: Index,
     var: &Name,
     role: &Role,
-    scene: &Scene<'_>,
+    scene: &Scene<'a, '_>,
 ) -> Result<Option<Played<'a>>, Memory>
     ensures { IfOk result (λ played. attempt_of played
-        ≡ plays_alone scene.now (runs.Input index var.now role.now)) }
+        ≡ plays_in scene.now (runs.Input index var.now role.now)) }
 {
     let store = scene.stores.of(role);
     match input_value(alloc, scene.entry, index, var, role, store)? {
@@ -389,10 +382,10 @@ fn play_choice<'a>(
     guard: &Expr,
     yes: Part<'a>,
     no: Part<'a>,
-    scene: &Scene<'_>,
+    scene: &Scene<'a, '_>,
 ) -> Result<Option<Played<'a>>, Memory>
     ensures { IfOk result (λ played. attempt_of played
-        ≡ plays_alone scene.now (runs.If index leader.now (expression guard.now)
+        ≡ plays_in scene.now (runs.If index leader.now (expression guard.now)
         (part_term yes.entry) (part_term no.entry))) }
 {
     let store = scene.stores.of(leader);
@@ -406,10 +399,10 @@ fn play_choice<'a>(
 fn play_loop<'a>(
     alloc: Global,
     turn: Loop<'a>,
-    scene: &Scene<'_>,
+    scene: &Scene<'a, '_>,
 ) -> Result<Option<Played<'a>>, Memory>
     ensures { IfOk result (λ played. attempt_of played
-        ≡ plays_alone scene.now (runs.While turn.entry.index turn.entry.leader.now
+        ≡ plays_in scene.now (runs.While turn.entry.index turn.entry.leader.now
         (expression turn.entry.guard.now) (part_term turn.entry.body))) }
 {
     let store = scene.stores.of(turn.leader);

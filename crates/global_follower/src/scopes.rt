@@ -6,7 +6,7 @@ ghost use Rattle.dioc_terms.specs.Equality.{chosen_eq};
 ghost use Rattle.dioc_terms.specs.Plain.{plain_rule};
 ghost use Rattle.dioc_terms.specs.Terms.{at_epoch, is_in, roles_in, stamped, term};
 ghost use Rattle.global_follower.specs.KeptBooks.{rules_of};
-ghost use Rattle.global_follower.specs.KeptRunning.{marked, part_term};
+ghost use Rattle.global_follower.specs.KeptRunning.{part_term};
 ghost use Rattle.global_follower.specs.Playing.{attempt_of, plays_in};
 ghost use Rattle.global_follower.specs.Scopes.{choice_by, choice_of, chosen_body, played_scope, is_scope_term};
 ghost use Rattle.limits.specs.Limits.{top_level};
@@ -26,16 +26,15 @@ use std::alloc::Global;
 /// that of a rule as the next update, one level higher.
 pub(crate) fn play_scope<'a>(
     alloc: Global,
-    scope: &'a Choreo,
-    marks: Marks,
-    rules: RuleList<'a>,
-    scene: &Scene<'_>,
+    scope: Part<'a>,
+    scene: &Scene<'a, '_>,
 ) -> Result<Option<Played<'a>>, Memory>
-    requires { is_scope_term (term scope.now) ≡ true }
+    requires { is_scope_term (term scope.choreo.now) ≡ true }
     ensures { IfOk result (λ played. attempt_of played
-        ≡ plays_in (rules_of rules.entry) scene.now (started (marked scope.now marks))) }
+        ≡ plays_in scene.now (started (part_term scope.entry))) }
 {
-    match scope {
+    let marks = scope.marks;
+    match scope.choreo {
         Choreo::Scope {
             index,
             leader,
@@ -45,10 +44,13 @@ pub(crate) fn play_scope<'a>(
         } => match choice(scene.entry, marks.of(*index), leader) {
             None => Ok(None),
             Some(shown) => {
-                let head = head(alloc, scope, marks, *index, leader, props, scene.cast)?;
-                let rule = scene.book.choose(rules, &head, scene.stores.of(leader));
-                let body = chosen_body(rules, rule, shown, marks.inside(body), scene.updates);
-                enter(alloc, marks.part(scope), body)
+                let cast = scene.rules.bundle.cast.as_slice();
+                let head = head(alloc, scope, *index, leader, props, cast)?;
+                let store = scene.stores.of(leader);
+                let rule = scene.book.choose(scene.rules, &head, store);
+                let body = marks.inside(body);
+                let body = chosen_body(scene.rules, rule, shown, body, scene.updates);
+                enter(alloc, scope, body)
             }
         },
         _ => unreachable!(),
@@ -149,8 +151,7 @@ fn is_next(epoch: u32, updates: u64) -> bool
 /// What the leader shows the book: the scope without its body, its roles in the order of the cast.
 fn head(
     alloc: Global,
-    scope: &Choreo,
-    marks: Marks,
+    scope: Part<'_>,
     index: Index,
     leader: &Role,
     props: &Bindings,
@@ -158,18 +159,19 @@ fn head(
 ) -> Result<ScopeHead, Memory>
     ensures { IfOk result (λ head. head ≡
         record {
-          index = at_epoch marks.epoch index;
+          index = at_epoch scope.entry.marks.epoch index;
           leader = leader.now;
-          roles = roles_in cast.now (marked scope.now marks);
+          roles = roles_in cast.now (part_term scope.entry);
           props = props.now;
-          level = marks.level;
+          level = scope.entry.marks.level;
         }) }
 {
     stamped_bodies();
+    let marks = scope.marks;
     Ok(ScopeHead {
         index: marks.of(index),
         leader: leader.copy(alloc)?,
-        roles: roles_in(alloc, cast, scope)?,
+        roles: roles_in(alloc, cast, scope.choreo)?,
         props: props.copy(alloc)?,
         level: marks.level,
     })

@@ -25,17 +25,13 @@ fn teller(alloc: Global, part: &Choreo) -> Result<Option<Role>, Memory>
     }
 }
 
-/// The role that begins a construct.
+/// The role that begins a construct: of a message its sender, else the one that tells of it.
 fn beginner(alloc: Global, part: &Choreo) -> Result<Option<Role>, Memory>
     ensures { IfOk result (λ found. found ≡ beginner (term part.now)) }
 {
     match part {
-        Choreo::Skip | Choreo::Seq(_, _) | Choreo::Par(_, _) => Ok(None),
         Choreo::Com { from, .. } => Ok(Some(from.copy(alloc)?)),
-        Choreo::Set { role, .. } | Choreo::Input { role, .. } => Ok(Some(role.copy(alloc)?)),
-        Choreo::If { leader, .. } | Choreo::While { leader, .. } | Choreo::Scope { leader, .. } => {
-            Ok(Some(leader.copy(alloc)?))
-        }
+        whole => teller(alloc, whole),
     }
 }
 

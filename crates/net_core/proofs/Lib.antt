@@ -1,5 +1,6 @@
 pub mod ActLemmas
 pub mod ChangeLemmas
+pub mod Choosing
 pub mod DeedLemmas
 pub mod ListLemmas
 pub mod MailLemmas

@@ -1,5 +1,6 @@
 -- The moves that the roles of a net have, by their locals and the mail.
-use Rattle.std.specs.Prelude.{◌≡◌, ℕ, List, [], ◌∷◌, ◌++◌, map, filter, Bool, false, nat_le}
+use Rattle.std.specs.Prelude.{◌≡◌, ℕ, List, [], ◌∷◌, ◌++◌, map, filter, length, slice_get, Bool, false, nat_le, nat_lt}
+use Rattle.std.specs.List.{filter_map, list_all}
 use Rattle.dioc_terms.specs.declared.names.Role.{Role}
 use Rattle.dioc_terms.specs.declared.entries.Act.{Act}
 use Rattle.dpoc_process.specs.LocalStates.{LocalState, offered}
@@ -29,6 +30,14 @@ is_first_due (due ∷ rest) visible_entries = nat_le due.after visible_entries
 -- the acts that a role can do now: those that it offers, without takes whose message isn't pending
 abbrev pub ready_of : Network → Role → List Act
 ready_of N q = filter (is_ready N) (offers q (N.processes q))
+
+-- the acts at these places
+abbrev pub chosen : List ℕ → List Act → List Act
+chosen places acts = filter_map (slice_get acts) places
+
+-- whether an act stands at each of these places
+abbrev pub are_places : List ℕ → List Act → Bool
+are_places places acts = list_all (λ place. nat_lt place (length acts)) places
 
 -- the role is at a place, and these are the acts that it can do now
 pub record ReadyAt (cast : List Role) (locals : List LocalState) (mail : Mail) (q : Role)

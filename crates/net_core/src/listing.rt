@@ -6,7 +6,7 @@ ghost use Rattle.dpoc_process.specs.LocalStates.{offered};
 ghost use Rattle.network_steps.specs.declared.moves.Move.TheVariants as move;
 ghost use Rattle.net_core.specs.Deeds.{is_there};
 ghost use Rattle.net_core.specs.KeptParts.{due_seen};
-ghost use Rattle.net_core.specs.MovesIn.{ReadyAt, local_moves, moves_in, is_first_due};
+ghost use Rattle.net_core.specs.MovesIn.{ReadyAt, are_places, chosen, is_first_due, local_moves, moves_in};
 
 use crate::bodies::Coming;
 use crate::parts::{is_there, place_of};
@@ -131,6 +131,47 @@ pub(crate) fn ready_at<R: Runs>(
         Ok(acts) => Ok(acts),
         Err(fault) => Err(fault),
     }
+}
+
+/// Lists, in lists from before, the acts that a role of the cast offers, and the places among them
+/// of those that it can do now.
+pub(crate) fn refresh_at<R: Runs>(
+    alloc: Global,
+    cast: &[Role],
+    roles: &[R],
+    mail: &Mail,
+    role: &Role,
+    acts: &mut Vec<Act>,
+    ready: &mut Vec<usize>,
+) -> Result<(), Memory>
+    requires lengths { length roles.now ≡ length cast.now }
+    requires member { member role.now cast.now ≡ true }
+    ensures ready { OnOk result (ReadyAt cast.now (map R.local roles.now) mail.now role.now
+        (chosen ready.new.items acts.new.items)) }
+    ensures inside { are_places ready.new.items acts.new.items ≡ true }
+{
+    let Some(at) = place_of(cast, role) else {
+        unreachable!()
+    };
+    let state = &roles[at];
+    ready.clear();
+    state.refresh_acts(alloc, acts)?;
+    add_ready(mail, acts.as_slice(), ready)
+}
+
+/// Lists the places of the acts that can be done now, in an empty list.
+fn add_ready(mail: &Mail, acts: &[Act], ready: &mut Vec<usize>) -> Result<(), Memory>
+    requires { ready.old.items ≡ [] }
+    ensures ready { OnOk result
+        (chosen ready.new.items acts.now ≡ filter (λ a. is_there a mail.now) acts.now) }
+    ensures inside { are_places ready.new.items acts.now ≡ true }
+{
+    for at in 0..acts.len() {
+        if is_there(mail, &acts[at]) {
+            ready.push(at)?;
+        }
+    }
+    Ok(())
 }
 
 /// The acts that a role offers, without takes whose message isn't there.

@@ -7,7 +7,7 @@ ghost use Rattle.network_steps.specs.Network.{network_ended};
 ghost use Rattle.network_steps.specs.Schedule.{change_due, moves};
 ghost use Rattle.process_steps.specs.Steps.{ended};
 ghost use Rattle.net_core.specs.Changes.{IsChangeOf, change_fault};
-ghost use Rattle.net_core.specs.MovesIn.{ready_of};
+ghost use Rattle.net_core.specs.MovesIn.{are_places, chosen, ready_of};
 ghost use Rattle.net_core.specs.Nets.{IsSoundRun, network_of};
 ghost use Rattle.net_core.specs.Steps.{IsStepOf, fault_of};
 
@@ -15,8 +15,9 @@ use crate::bodies::{Coming, RuleBody};
 use crate::changing::make_change;
 use crate::faults::ChangeFault;
 use crate::laws::steps_run;
-use crate::listing::{is_first_due, list_moves, ready_at};
+use crate::listing::{is_first_due, list_moves, ready_at, refresh_at};
 use crate::parts::{all_done, is_done_at, step_role};
+use crate::scopes::Fixed;
 use crate::starting::{keep_bodies, keep_script, role_states};
 use dioc_terms::{Act, Bundle, Items, Memory, Role, Roles};
 use dpoc_process::{Begins, Runs};
@@ -156,6 +157,28 @@ impl<R: Runs> Net<R> {
         }
     }
 
+    /// Lists, in lists from before, the acts that the process of a role of the cast offers, and the
+    /// places among them of those that it can do now: of all but the takes whose message isn't
+    /// pending. An act that stands in the list already may stay as it is.
+    pub fn refresh_ready(
+        &self,
+        role: &Role,
+        acts: &mut Vec<Act>,
+        ready: &mut Vec<usize>,
+    ) -> Result<(), Memory>
+        requires { member role.now self.now.bundle.cast ≡ true }
+        ensures ready { OnOk result (chosen ready.new.items acts.new.items
+            ≡ ready_of (network_of self.now) role.now) }
+        ensures inside { are_places ready.new.items acts.new.items ≡ true }
+    {
+        let cast = self.cast.as_slice();
+        let roles = self.roles.as_slice();
+        match refresh_at(self.alloc, cast, roles, &self.mail, role, acts, ready) {
+            Ok(()) => Ok(()),
+            Err(fault) => Err(fault),
+        }
+    }
+
     /// How many updates were made.
     pub fn updates(&self) -> u32
         ensures { result ≡ (network_of self.now).updates }
@@ -274,13 +297,16 @@ impl<R: Runs> Net<R> {
         dioc_terms::casts_are_roles();
         process_steps::steps_show_their_acts();
         scope_leader::leaders_tell();
+        let fixed = Fixed {
+            alloc: self.alloc,
+            cast: &self.cast,
+            book: &self.book,
+            bodies: &self.bodies,
+        };
         match step_role(
-            self.alloc,
-            &self.cast,
+            &fixed,
             &mut self.roles,
             &mut self.mail,
-            &self.book,
-            &self.bodies,
             &mut self.updates,
             &mut self.history,
             role,

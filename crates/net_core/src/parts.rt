@@ -25,14 +25,11 @@ ghost use Rattle.net_core.specs.Scopes.{KnownRules, Tells};
 ghost use Rattle.net_core.specs.Standing.{body_of};
 ghost use Rattle.rule_book.specs.KeptBooks.{book_of, IsBookOf};
 
-use crate::bodies::RuleBody;
-use crate::scopes::begin_scope;
-use dioc_terms::{Act, Items, Memory, Payload, Role, Roles};
+use crate::scopes::{Fixed, begin_scope};
+use dioc_terms::{Act, Memory, Payload, Role};
 use dpoc_process::{Got, PrepareFault, Prepared, Runs};
 use network_steps::StepFault;
 use role_mailbox::Mail;
-use rule_book::Book;
-use std::alloc::Global;
 use trace_book::History;
 
 /// The place of a role in the cast, `None` where it isn't of the cast.
@@ -157,26 +154,25 @@ fn is_scope(act: &Act) -> bool
 /// The step of one role by an act, with all its memory taken first. After a refusal nothing is
 /// changed.
 fn do_act<R: Runs>(
-    alloc: Global,
-    cast: &Roles,
+    fixed: &Fixed<'_>,
     state: &mut R,
     mail: &mut Mail,
-    book: &Book,
-    bodies: &Items<RuleBody>,
     updates: &mut u32,
     history: &mut History,
     act: &Act,
 ) -> Result<(), StepFault>
     requires can { CanStep (R.local state.old) act.now mail.old }
     requires updates { updates.old < 4294967295 }
-    requires known { KnownRules cast.now book.now (map body_seen bodies.now) }
-    requires tells { Tells cast.now (R.local state.old) act.now }
+    requires known { KnownRules fixed.now.cast.now fixed.now.book.now
+        (map body_seen fixed.now.bodies.now) }
+    requires tells { Tells fixed.now.cast.now (R.local state.old) act.now }
     requires mail_room { 0 < room mail.old }
     requires history_room { 0 < history.old.room }
-    ensures did { (rules : List PlainRule) → IsBookOf rules book.now
-        → map body_seen bodies.now ≡ map body_of rules
+    ensures did { (rules : List PlainRule) → IsBookOf rules fixed.now.book.now
+        → map body_seen fixed.now.bodies.now ≡ map body_of rules
         → OnOk result (ActDone act.now
-        (λ s. given_to cast.now rules mail.old (book_of book.now) updates.old s act.now)
+        (λ s. given_to fixed.now.cast.now rules mail.old (book_of fixed.now.book.now) updates.old s
+        act.now)
         (R.local state.old) mail.old updates.old history.old.entries
         (R.local state.new) mail.new updates.new history.new.entries) }
     ensures refused { IfErr result (ReadyFault (R.local state.old) mail.old act.now) }
@@ -185,15 +181,13 @@ fn do_act<R: Runs>(
     ensures same_updates { OnErr result (updates.new ≡ updates.old) }
     ensures same_history { OnErr result (history.new ≡ history.old) }
 {
-    match state.prepare(alloc, act) {
+    match state.prepare(fixed.alloc, act) {
         Ok(prepared) => {
             if !is_there(mail, act) {
                 return Err(StepFault::NotYet);
             }
             if is_scope(act) {
-                return match begin_scope(
-                    alloc, cast, state, book, bodies, updates, history, act, prepared,
-                ) {
+                return match begin_scope(fixed, state, updates, history, act, prepared) {
                     Ok(()) => Ok(()),
                     Err(_) => Err(StepFault::Memory),
                 };
@@ -209,46 +203,44 @@ fn do_act<R: Runs>(
 /// The step of a role of the cast by an act. After a refusal the roles, the messages, the number of
 /// updates and the history are as they were.
 pub(crate) fn step_role<R: Runs>(
-    alloc: Global,
-    cast: &Roles,
+    fixed: &Fixed<'_>,
     roles: &mut Vec<R>,
     mail: &mut Mail,
-    book: &Book,
-    bodies: &Items<RuleBody>,
     updates: &mut u32,
     history: &mut History,
     role: &Role,
     act: &Act,
 ) -> Result<(), StepFault>
-    requires lengths { length roles.old.items ≡ length cast.now }
-    requires can { (local : LocalState) → IsAt cast.now (map R.local roles.old.items) role.now local
+    requires lengths { length roles.old.items ≡ length fixed.now.cast.now }
+    requires can { (local : LocalState)
+        → IsAt fixed.now.cast.now (map R.local roles.old.items) role.now local
         → CanStep local act.now mail.old }
     requires updates { updates.old < 4294967295 }
-    requires known { KnownRules cast.now book.now (map body_seen bodies.now) }
+    requires known { KnownRules fixed.now.cast.now fixed.now.book.now
+        (map body_seen fixed.now.bodies.now) }
     requires tells { (local : LocalState)
-        → IsAt cast.now (map R.local roles.old.items) role.now local
-        → Tells cast.now local act.now }
-    ensures did { (rules : List PlainRule) → IsBookOf rules book.now
-        → map body_seen bodies.now ≡ map body_of rules
-        → OnOk result (RoleDid cast.now role.now act.now
-        (λ s. given_to cast.now rules mail.old (book_of book.now) updates.old s act.now)
+        → IsAt fixed.now.cast.now (map R.local roles.old.items) role.now local
+        → Tells fixed.now.cast.now local act.now }
+    ensures did { (rules : List PlainRule) → IsBookOf rules fixed.now.book.now
+        → map body_seen fixed.now.bodies.now ≡ map body_of rules
+        → OnOk result (RoleDid fixed.now.cast.now role.now act.now
+        (λ s. given_to fixed.now.cast.now rules mail.old (book_of fixed.now.book.now) updates.old s
+        act.now)
         (map R.local roles.old.items) mail.old updates.old history.old.entries
         (map R.local roles.new.items) mail.new updates.new history.new.entries) }
     ensures refused { IfErr result
-        (RefusedFor cast.now (map R.local roles.old.items) mail.old role.now act.now) }
+        (RefusedFor fixed.now.cast.now (map R.local roles.old.items) mail.old role.now act.now) }
     ensures same_roles { OnErr result (map R.local roles.new.items ≡ map R.local roles.old.items) }
     ensures same_mail { OnErr result (messages mail.new ≡ messages mail.old) }
     ensures same_updates { OnErr result (updates.new ≡ updates.old) }
     ensures same_history { OnErr result (history.new.entries ≡ history.old.entries) }
 {
-    let Some(at) = place_of(cast.as_slice(), role) else {
+    let Some(at) = place_of(fixed.cast.as_slice(), role) else {
         return Err(StepFault::NoAct);
     };
     make_room(mail, history)?;
     let state = &mut roles[at];
-    match do_act(
-        alloc, cast, state, mail, book, bodies, updates, history, act,
-    ) {
+    match do_act(fixed, state, mail, updates, history, act) {
         Ok(()) => Ok(()),
         Err(fault) => Err(fault),
     }

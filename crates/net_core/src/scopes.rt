@@ -35,13 +35,19 @@ use scope_leader::plan_update;
 use std::alloc::Global;
 use trace_book::History;
 
+/// What a step reads of a net and does not change.
+#[derive(Clone, Copy)]
+pub(crate) struct Fixed<'a> {
+    pub alloc: Global,
+    pub cast: &'a Roles,
+    pub book: &'a Book,
+    pub bodies: &'a Items<RuleBody>,
+}
+
 /// The step of a role that is ready to begin a scope. After a refusal nothing is changed.
 pub(crate) fn begin_scope<R: Runs>(
-    alloc: Global,
-    cast: &Roles,
+    fixed: &Fixed<'_>,
     state: &mut R,
-    book: &Book,
-    bodies: &Items<RuleBody>,
     updates: &mut u32,
     history: &mut History,
     act: &Act,
@@ -52,13 +58,14 @@ pub(crate) fn begin_scope<R: Runs>(
     requires scope { asks_scope act.now ≡ true }
     requires history_room { 0 < history.old.room }
     requires updates { updates.old < 4294967295 }
-    requires known { KnownRules cast.now book.now (map body_seen bodies.now) }
-    requires tells { Tells cast.now (R.local state.old) act.now }
-    ensures did { (rules : List PlainRule) (mail : OneMail) → IsBookOf rules book.now
-        → map body_seen bodies.now ≡ map body_of rules
+    requires known { KnownRules fixed.now.cast.now fixed.now.book.now
+        (map body_seen fixed.now.bodies.now) }
+    requires tells { Tells fixed.now.cast.now (R.local state.old) act.now }
+    ensures did { (rules : List PlainRule) (mail : OneMail) → IsBookOf rules fixed.now.book.now
+        → map body_seen fixed.now.bodies.now ≡ map body_of rules
         → OnOk result (IsDone act.now
-        (given_to cast.now rules mail (book_of book.now) updates.old (R.local state.old).store
-        act.now)
+        (given_to fixed.now.cast.now rules mail (book_of fixed.now.book.now) updates.old
+        (R.local state.old).store act.now)
         (R.local state.old) mail updates.old history.old.entries
         (R.local state.new) mail updates.new history.new.entries) }
     ensures same_local { OnErr result (R.local state.new ≡ R.local state.old) }
@@ -69,12 +76,12 @@ pub(crate) fn begin_scope<R: Runs>(
     dioc_terms::choices_go_on();
     dioc_terms::mentions_are_roles();
     let head = prepared.into_head();
-    match choice(book, bodies, &head, state.store()) {
+    match choice(fixed, &head, state.store()) {
         None => {
             keep_scope(state, history, act, head);
             Ok(())
         }
-        Some(rule) => match replace_scope(alloc, cast, state, updates, history, act, head, rule) {
+        Some(rule) => match replace_scope(fixed, state, updates, history, act, head, rule) {
             Ok(()) => Ok(()),
             Err(fault) => Err(fault),
         },
@@ -82,20 +89,15 @@ pub(crate) fn begin_scope<R: Runs>(
 }
 
 /// The rule's body that the book chooses for the scope.
-fn choice<'a>(
-    book: &Book,
-    bodies: &'a Items<RuleBody>,
-    head: &ScopeHead,
-    store: &Store,
-) -> Option<&'a RuleBody>
-    ensures { (rules : List PlainRule) → IsBookOf rules book.now
-        → map body_seen bodies.now ≡ map body_of rules
+fn choice<'a>(fixed: &Fixed<'a>, head: &ScopeHead, store: &Store) -> Option<&'a RuleBody>
+    ensures { (rules : List PlainRule) → IsBookOf rules fixed.now.book.now
+        → map body_seen fixed.now.bodies.now ≡ map body_of rules
         → choice_of_body (option_map body_seen (option_copied result))
-        ≡ book_choice rules (book_of book.now) head.now (store_of store.now) }
+        ≡ book_choice rules (book_of fixed.now.book.now) head.now (store_of store.now) }
 {
-    match book.choose(head, store) {
+    match fixed.book.choose(head, store) {
         None => None,
-        Some(number) => body_at(bodies, number),
+        Some(number) => body_at(fixed.bodies, number),
     }
 }
 
@@ -130,8 +132,7 @@ fn keep_scope<R: Runs>(state: &mut R, history: &mut History, act: &Act, head: Sc
 
 /// The rule's body replaces the scope, as the next update. After a refusal nothing is changed.
 fn replace_scope<R: Runs>(
-    alloc: Global,
-    cast: &Roles,
+    fixed: &Fixed<'_>,
     state: &mut R,
     updates: &mut u32,
     history: &mut History,
@@ -143,15 +144,15 @@ fn replace_scope<R: Runs>(
     requires can { IsEnabled (R.local state.old) act.now Kept }
     requires led { (lead : Lead) × (acting_lead (R.local state.old) act.now ≡ Some lead)
         × (lead.head ≡ head) }
-    requires tells { Tells cast.now (R.local state.old) act.now }
+    requires tells { Tells fixed.now.cast.now (R.local state.old) act.now }
     requires level { head.level < top_level }
     requires body { (q : OneRole) → is_in q (term rule.now.body) ≡ true
-        → member q cast.now ≡ true }
+        → member q fixed.now.cast.now ≡ true }
     requires updates { updates.old < 4294967295 }
     requires room { 0 < history.old.room }
     ensures steps { OnOk result ((decide : OneHead → Decision) → decide head
         ≡ Replaces rule.now.name (suc updates.old)
-        (part_of cast.now head (suc updates.old) (term rule.now.body))
+        (part_of fixed.now.cast.now head (suc updates.old) (term rule.now.body))
         → IsStep (R.local state.old) act.now (FromBook decide) (R.local state.new)) }
     ensures pushed { OnOk result (history.new.entries ≡ history.old.entries
         ++ entry.Scope head.index head.leader (chosen.Rule rule.now.name (suc updates.old)) ∷ []) }
@@ -161,7 +162,7 @@ fn replace_scope<R: Runs>(
     ensures same_history { OnErr result (history.new ≡ history.old) }
 {
     let epoch = *updates + 1;
-    match planned(alloc, cast.as_slice(), &head, rule, epoch) {
+    match planned(fixed.alloc, fixed.cast.as_slice(), &head, rule, epoch) {
         Ok((name, parts)) => {
             let index = head.index;
             let leader = head.into_leader();

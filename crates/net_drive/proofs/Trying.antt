@@ -3,7 +3,7 @@ use Rattle.std.proofs.Common.{◌≡◌, ◌<◌, ◌+◌, ℕ, List, [], ◌∷
 use Rattle.std.specs.Prelude.{flat_map, if◌then◌else◌, map, option_and_then, option_map}
 use Rattle.std.specs.List.{find}
 use Rattle.std.specs.Option.{option_map_or, option_or}
-use Rattle.std.proofs.lemmas.Bool.{and_from, and_parts, both_ways, cond-true}
+use Rattle.std.proofs.lemmas.Bool.{and_from, and_parts, both_ways, cond-false, cond-true}
 use Rattle.std.proofs.lemmas.List.{drop_more}
 use Rattle.std.proofs.lemmas.List.Folds.{find-append}
 use Rattle.dioc_terms.specs.declared.entries.Act.{Act}
@@ -13,6 +13,8 @@ use Rattle.dioc_terms.specs.Equality.{entry_eq}
 use Rattle.dioc_terms.specs.Messages.{act_of, doer}
 use Rattle.dioc_terms.specs.Plain.{setting}
 use Rattle.drive_laws.specs.Laws.{is_aux_act}
+use Rattle.net_core.proofs.Choosing.{chosen_first, place_inside}
+use Rattle.net_core.specs.MovesIn.{are_places, chosen}
 use Rattle.network_steps.specs.Network.{Network, NextNetwork, act_step, network_after, network_step}
 use Rattle.marked_laws.proofs.Premise.{Known}
 use Rattle.marked_laws.proofs.Shapes.{none_some}
@@ -30,7 +32,7 @@ use Rattle.process_steps.specs.Laws.{OffersAreSteps}
 use Rattle.process_steps.specs.Steps.{is_offered, offers}
 use Rattle.net_core.specs.Nets.{IsSoundRun, NetState, network_of}
 use Rattle.net_core.specs.Steps.{GoesOn}
-use Rattle.schedule.specs.declared.agenda.ReadyRole.{ReadyRole}
+use Rattle.schedule.specs.declared.roles.ReadyRole.{ReadyRole}
 use Rattle.schedule.proofs.AgendaLemmas.{is_due, moves_are}
 use Rattle.schedule.specs.Agendas.{agenda_of, moves_of, ready_seen}
 use Rattle.schedule.specs.Turns.{IsMoveOf}
@@ -170,18 +172,32 @@ module _ (agenda : List ReadyRole) (i : ℕ) (ready : ReadyRole) (lt : i < lengt
   left_from : map ready_seen (drop i agenda) ≡ ready_seen ready ∷ map ready_seen (drop (i + 1) agenda)
   left_from = ap (map ready_seen) (drop_more agenda i ready lt ∙ ap (λ r. r ∷ drop (i + 1) agenda) (sym is))
 
-  found_at : (o : Option Act) → find is_aux_act ready.acts.items ≡ o
+  found_at : (o : Option Act) → find is_aux_act (ready_seen ready).1 ≡ o
       → find is_aux_move (flat_map moves_of (map ready_seen (drop i agenda)))
       ≡ option_or (option_map (move.Act ready.role) o) (find is_aux_move (flat_map moves_of (map ready_seen (drop (i + 1) agenda))))
   found_at o h = ap (λ l. find is_aux_move (flat_map moves_of l)) left_from ∙ found_first (ready_seen ready) (map ready_seen (drop (i + 1) agenda)) o h
 
-  pub found_here : (a : Act) → find is_aux_act ready.acts.items ≡ Some a
+  pub found_here : (a : Act) → find is_aux_act (ready_seen ready).1 ≡ Some a
       → find is_aux_move (flat_map moves_of (map ready_seen (drop i agenda))) ≡ Some (move.Act ready.role a)
   found_here a h = found_at (Some a) h
 
-  pub found_later : find is_aux_act ready.acts.items ≡ None
+  pub found_later : find is_aux_act (ready_seen ready).1 ≡ None
       → find is_aux_move (flat_map moves_of (map ready_seen (drop i agenda))) ≡ find is_aux_move (flat_map moves_of (map ready_seen (drop (i + 1) agenda)))
   found_later h = found_at None h
+
+-- the act at the next of the places
+module _ (acts : List Act) (places : List ℕ) (i : ℕ) (a : Act) (inside : are_places places acts ≡ true) (lt : i < length places) (is : a ≡ get_or acts (get_or places i 0) a) where
+  chosen_next : chosen (drop i places) acts ≡ a ∷ chosen (drop (i + 1) places) acts
+  chosen_next =
+      ap (λ ps. chosen ps acts) (drop_more places i 0 lt)
+      ∙ chosen_first acts (get_or places i 0) (drop (i + 1) places) a (place_inside acts places i inside lt)
+      ∙ ap (λ x. x ∷ chosen (drop (i + 1) places) acts) (sym is)
+
+  pub aux_here : is_aux_act a ≡ true → find is_aux_act (chosen (drop i places) acts) ≡ Some a
+  aux_here h = ap (find is_aux_act) chosen_next ∙ cond-true (is_aux_act a) (Some a) (find is_aux_act (chosen (drop (i + 1) places) acts)) h
+
+  pub aux_later : is_aux_act a ≡ false → find is_aux_act (chosen (drop i places) acts) ≡ find is_aux_act (chosen (drop (i + 1) places) acts)
+  aux_later h = ap (find is_aux_act) chosen_next ∙ cond-false (is_aux_act a) (Some a) (find is_aux_act (chosen (drop (i + 1) places) acts)) h
 
 -- of an agenda of a net it is the first of its moves
 pub first_of_agenda : (net : NetState) (agenda : List (Role × List Act)) → agenda ≡ agenda_of net

@@ -161,7 +161,7 @@ fn find_auxiliary(alloc: Global, agenda: &[ReadyRole]) -> Result<Option<Move>, M
         (λ found. found ≡ find is_aux_move (flat_map moves_of (map ready_seen agenda.now))) }
 {
     for ready in agenda {
-        if let Some(act) = first_auxiliary(&ready.acts) {
+        if let Some(act) = first_auxiliary(ready) {
             let next = move_by(alloc, &ready.role, act.copy(alloc)?)?;
             return Ok(Some(next));
         }
@@ -169,11 +169,12 @@ fn find_auxiliary(alloc: Global, agenda: &[ReadyRole]) -> Result<Option<Move>, M
     Ok(None)
 }
 
-// The first of the acts that is auxiliary.
-fn first_auxiliary(acts: &[Act]) -> Option<&Act>
-    ensures { option_copied result ≡ find is_aux_act acts.now }
+// The first of the acts that a role can do now that is auxiliary.
+fn first_auxiliary(ready: &ReadyRole) -> Option<&Act>
+    ensures { option_copied result ≡ find is_aux_act (ready_seen ready.now).1 }
 {
-    for act in acts {
+    for place in ready.ready.as_slice() {
+        let act = &ready.acts[*place];
         if is_aux_act(act) {
             return Some(act);
         }

@@ -126,37 +126,18 @@ fn drive_through<R: Runs>(net: &mut Net<R>, trace: &[Entry]) -> Result<Option<u6
     ensures bundle { IfOk result (λ stray. stray ≡ None → net.new.bundle ≡ net.old.bundle) }
     ensures limit { IfOk result (λ stray. stray ≡ None → net.new.limit ≡ net.old.limit) }
 {
-    let mut agenda = list_ready(net)?;
-    drive_entries(net, &mut agenda, trace)
-}
-
-// The same, with the agenda of the net.
-fn drive_entries<R: Runs>(
-    net: &mut Net<R>,
-    agenda: &mut Vec<ReadyRole>,
-    trace: &[Entry],
-) -> Result<Option<u64>, Memory>
-    requires fresh { net.old.history ≡ [] }
-    requires room { HasRoom net.old }
-    requires agenda { map ready_seen agenda.old.items ≡ agenda_of net.old }
-    requires shown { list_all (λ e. not (is_aux e)) trace.now ≡ true }
-    requires few { length trace.now ≤ 1000000 }
-    ensures driven { IfOk result (IsDriven net.old trace.now net.new) }
-    ensures run { IfOk result (λ stray. stray ≡ None → IsSoundRun net.new) }
-    ensures bundle { IfOk result (λ stray. stray ≡ None → net.new.bundle ≡ net.old.bundle) }
-    ensures limit { IfOk result (λ stray. stray ≡ None → net.new.limit ≡ net.old.limit) }
-{
     marked_laws::term_laws();
     known();
+    let mut agenda = list_ready(net)?;
     let mut number = 0;
     for entry in trace {
         has_run(net);
         number += 1;
-        if !reach(net, agenda, entry)? {
+        if !reach(net, &mut agenda, entry)? {
             return Ok(Some(number));
         }
     }
-    settle(net, agenda)?;
+    settle(net, &mut agenda)?;
     has_run(net);
     Ok(None)
 }

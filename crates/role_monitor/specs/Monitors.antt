@@ -1,5 +1,5 @@
 -- A monitor of a program, and the entries that it has read.
-use Rattle.std.specs.Prelude.{◌≡◌, suc, List, [], ◌∷◌, ◌++◌, length, Some, None}
+use Rattle.std.specs.Prelude.{◌≡◌, ◌<◌, suc, List, [], ◌∷◌, ◌++◌, length, Some, None, Result, IfErr, OnErr, OnOk}
 use Rattle.dioc_terms.specs.declared.entries.Entry.{Entry}
 use Rattle.dioc_terms.specs.declared.names.Role.{Role}
 use Rattle.dioc_terms.specs.Plain.{PlainBundle, plain}
@@ -40,3 +40,27 @@ abbrev pub Deviated : PlainBundle → Role → List Entry → Entry → FeedFaul
 Deviated b r entries e (fault.Deviates n) =
     (n ≡ suc (length entries)) × (mon_run b r (entries ++ e ∷ []) ≡ None)
 Deviated b r entries e fault.Memory = Unit {0}
+
+-- the monitor has read some entries, and there may be one more
+abbrev pub MayRead : Monitor → Type 0
+MayRead monitor =
+    (b : PlainBundle) × (r : Role) × (entries : List Entry) × HasRead b r monitor entries
+    × (length entries < 18446744073709551615)
+
+-- where all is well the monitor has read one entry more
+abbrev pub ReadsOn : {T E : Type 0} → Result T E → Monitor → Entry → Monitor → Type 0
+ReadsOn result old e new =
+    (b : PlainBundle) (r : Role) (entries : List Entry) → HasRead b r old entries
+    → OnOk result (HasRead b r new (entries ++ e ∷ []))
+
+-- where it isn't the monitor has read what it had read before
+abbrev pub StaysRead : {T E : Type 0} → Result T E → Monitor → Monitor → Type 0
+StaysRead result old new =
+    (b : PlainBundle) (r : Role) (entries : List Entry) → HasRead b r old entries
+    → OnErr result (HasRead b r new entries)
+
+-- why one entry more isn't read
+abbrev pub Refuses : {T : Type 0} → Result T FeedFault → Monitor → Entry → Type 0
+Refuses result old e =
+    (b : PlainBundle) (r : Role) (entries : List Entry) → HasRead b r old entries
+    → IfErr result (Deviated b r entries e)

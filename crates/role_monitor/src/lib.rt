@@ -9,6 +9,7 @@ mod messages;
 mod monitor;
 mod others;
 mod own;
+mod scenes;
 mod scopes;
 mod script;
 mod updates;

@@ -11,11 +11,12 @@ ghost use Rattle.dpoc_process.specs.KeptStates.{local_of};
 ghost use Rattle.role_monitor.specs.Judging.{HoldsScript};
 ghost use Rattle.role_monitor.specs.Monitoring.{mon_start, own_entries};
 ghost use Rattle.rule_book.specs.KeptBooks.{book_of};
-ghost use Rattle.role_monitor.specs.Monitors.{Deviated, HasRead};
+ghost use Rattle.role_monitor.specs.Monitors.{Deviated, HasRead, MayRead, ReadsOn, Refuses, StaysRead};
 
 use crate::entries::act_of;
 use crate::judging::judge;
 use crate::others::believe;
+use crate::scenes::Scene;
 use crate::script::see_change;
 use crate::updates::Update;
 use dioc_terms::{Act, Bundle, Entry, Memory, Role, give_up};
@@ -153,8 +154,7 @@ impl<'a> Monitor<'a> {
 
     /// Reads a change.
     fn see(&mut self, entry: &Entry)
-        requires read { (b : PlainBundle) × (r : OneRole) × (entries : List OneEntry)
-            × HasRead b r self.old entries × (length entries < 18446744073709551615) }
+        requires read { MayRead self.old }
         requires change { doer entry.now ≡ None }
         ensures { (b : PlainBundle) (r : OneRole) (entries : List OneEntry)
             → HasRead b r self.old entries → HasRead b r self.new (entries ++ entry.now ∷ []) }
@@ -165,15 +165,11 @@ impl<'a> Monitor<'a> {
 
     /// Reads an entry of another role.
     fn believe(&mut self, entry: &Entry) -> Result<(), Memory>
-        requires read { (b : PlainBundle) × (r : OneRole) × (entries : List OneEntry)
-            × HasRead b r self.old entries × (length entries < 18446744073709551615) }
+        requires read { MayRead self.old }
         requires other { (q : OneRole) × (doer entry.now ≡ Some q)
             × (role_eq q self.old.role.now ≡ false) }
-        ensures read { (b : PlainBundle) (r : OneRole) (entries : List OneEntry)
-            → HasRead b r self.old entries
-            → OnOk result (HasRead b r self.new (entries ++ entry.now ∷ [])) }
-        ensures same { (b : PlainBundle) (r : OneRole) (entries : List OneEntry)
-            → HasRead b r self.old entries → OnErr result (HasRead b r self.new entries) }
+        ensures read { ReadsOn result self.old entry.now self.new }
+        ensures same { StaysRead result self.old self.new }
     {
         dioc_terms::mentions_are_roles();
         scope_leader::leaders_tell();
@@ -197,17 +193,12 @@ impl<'a> Monitor<'a> {
 
     /// Reads an entry of the role.
     fn judge(&mut self, entry: &Entry) -> Result<(), FeedFault>
-        requires read { (b : PlainBundle) × (r : OneRole) × (entries : List OneEntry)
-            × HasRead b r self.old entries × (length entries < 18446744073709551615) }
+        requires read { MayRead self.old }
         requires own { (q : OneRole) × (doer entry.now ≡ Some q)
             × (role_eq q self.old.role.now ≡ true) }
-        ensures read { (b : PlainBundle) (r : OneRole) (entries : List OneEntry)
-            → HasRead b r self.old entries
-            → OnOk result (HasRead b r self.new (entries ++ entry.now ∷ [])) }
-        ensures deviates { (b : PlainBundle) (r : OneRole) (entries : List OneEntry)
-            → HasRead b r self.old entries → IfErr result (Deviated b r entries entry.now) }
-        ensures same { (b : PlainBundle) (r : OneRole) (entries : List OneEntry)
-            → HasRead b r self.old entries → OnErr result (HasRead b r self.new entries) }
+        ensures read { ReadsOn result self.old entry.now self.new }
+        ensures deviates { Refuses result self.old entry.now }
+        ensures same { StaysRead result self.old self.new }
     {
         match act_of(self.alloc, entry) {
             Ok(act) => self.judge_act(entry, act),
@@ -217,30 +208,28 @@ impl<'a> Monitor<'a> {
 
     /// Reads an entry of the role, which shows this act.
     fn judge_act(&mut self, entry: &Entry, act: Act) -> Result<(), FeedFault>
-        requires read { (b : PlainBundle) × (r : OneRole) × (entries : List OneEntry)
-            × HasRead b r self.old entries × (length entries < 18446744073709551615) }
+        requires read { MayRead self.old }
         requires own { (q : OneRole) × (doer entry.now ≡ Some q)
             × (role_eq q self.old.role.now ≡ true) }
         requires act { act_of entry.now ≡ Some act }
-        ensures read { (b : PlainBundle) (r : OneRole) (entries : List OneEntry)
-            → HasRead b r self.old entries
-            → OnOk result (HasRead b r self.new (entries ++ entry.now ∷ [])) }
-        ensures deviates { (b : PlainBundle) (r : OneRole) (entries : List OneEntry)
-            → HasRead b r self.old entries → IfErr result (Deviated b r entries entry.now) }
-        ensures same { (b : PlainBundle) (r : OneRole) (entries : List OneEntry)
-            → HasRead b r self.old entries → OnErr result (HasRead b r self.new entries) }
+        ensures read { ReadsOn result self.old entry.now self.new }
+        ensures deviates { Refuses result self.old entry.now }
+        ensures same { StaysRead result self.old self.new }
     {
         scope_leader::leaders_tell();
         marked_laws::mail_is_a_map();
+        let scene = Scene {
+            alloc: self.alloc,
+            bundle: self.bundle,
+            me: self.role,
+            book: &self.book,
+            entry,
+        };
         match judge(
-            self.alloc,
-            self.bundle,
-            self.role,
-            &self.book,
+            &scene,
             &mut self.updates,
             &mut self.mail,
             &mut self.state,
-            entry,
             act,
         ) {
             Ok(true) => {

@@ -21,38 +21,34 @@ ghost use Rattle.net_core.specs.Scopes.{Tells};
 ghost use Rattle.rule_book.specs.KeptBooks.{book_of, IsBookOf};
 ghost use Rattle.scope_leader.specs.Plans.{part_of};
 
+use crate::scenes::Scene;
 use crate::updates::Update;
 use dioc_terms::{Act, Bundle, Chosen, Entry, Memory, Name, Rule, ScopeHead, give_up};
 use dpoc_process::{Got, Prepared, Runs};
-use rule_book::Book;
 use scope_leader::plan_update;
-use std::alloc::Global;
 
 /// Judges an entry of the role that shows the begin of a scope, for which the role is made ready.
 /// The answer is whether the entry is kept: then the role has made its step, and an update is
 /// listed. Else, and after want of memory, all is as it was.
 pub(crate) fn judge_scope<R: Runs>(
-    alloc: Global,
-    bundle: &Bundle,
-    book: &Book,
+    scene: &Scene<'_>,
     updates: &mut Vec<Update>,
     state: &mut R,
-    entry: &Entry,
     act: &Act,
     prepared: Prepared,
 ) -> Result<bool, Memory>
     requires ready { R.is_ready state.old act.now }
     requires shown { IsPrepared (R.local state.old) act.now prepared }
     requires scope { asks_scope act.now ≡ true }
-    requires sound { IsSound (plain bundle.now) }
-    requires book { IsBookOf (plain bundle.now).rules book.now }
-    requires tells { Tells bundle.now.cast (R.local state.old) act.now }
-    ensures kept { IfOk result (λ kept. OnTrue kept (KeepsScope (setting (plain bundle.now))
-        (R.local state.old) (book_of book.now) updates.old.items entry.now act.now
-        (R.local state.new) updates.new.items)) }
+    requires sound { IsSound (plain scene.now.bundle.now) }
+    requires book { IsBookOf (plain scene.now.bundle.now).rules scene.now.book.now }
+    requires tells { Tells scene.now.bundle.now.cast (R.local state.old) act.now }
+    ensures kept { IfOk result (λ kept. OnTrue kept (KeepsScope
+        (setting (plain scene.now.bundle.now)) (R.local state.old) (book_of scene.now.book.now)
+        updates.old.items scene.now.entry.now act.now (R.local state.new) updates.new.items)) }
     ensures refused { IfOk result (λ kept. OnFalse kept (FailsEntry (R.local state.old) act.now
-        (FromBook (decides (setting (plain bundle.now)) (R.local state.old) (book_of book.now)
-        updates.old.items)) entry.now)) }
+        (FromBook (decides (setting (plain scene.now.bundle.now)) (R.local state.old)
+        (book_of scene.now.book.now) updates.old.items)) scene.now.entry.now)) }
     ensures same_local { IfOk result
         (λ kept. OnFalse kept (R.local state.new ≡ R.local state.old)) }
     ensures same_updates { IfOk result
@@ -65,17 +61,15 @@ pub(crate) fn judge_scope<R: Runs>(
     dioc_terms::choices_go_on();
     dioc_terms::mentions_are_roles();
     let head = prepared.into_head();
-    match book.choose(&head, state.store()) {
+    match scene.book.choose(&head, state.store()) {
         None => {
-            let kept = keep(state, entry, act, &head);
+            let kept = keep(state, scene.entry, act, &head);
             drop(head);
             Ok(kept)
         }
         Some(number) => {
-            let rule = rule_at(bundle, number);
-            match replace(
-                alloc, bundle, updates, state, entry, act, &head, rule, number,
-            ) {
+            let rule = rule_at(scene.bundle, number);
+            match replace(scene, updates, state, act, &head, rule, number) {
                 Ok(kept) => {
                     drop(head);
                     Ok(kept)
@@ -131,11 +125,9 @@ fn is_keep(entry: &Entry, head: &ScopeHead) -> bool
 /// The rule's body replaces the scope as the next update, where the entry shows so. Else, and after
 /// want of memory, all is as it was.
 fn replace<R: Runs>(
-    alloc: Global,
-    bundle: &Bundle,
+    scene: &Scene<'_>,
     updates: &mut Vec<Update>,
     state: &mut R,
-    entry: &Entry,
     act: &Act,
     head: &ScopeHead,
     rule: &Rule,
@@ -145,16 +137,17 @@ fn replace<R: Runs>(
     requires can { IsEnabled (R.local state.old) act.now Kept }
     requires led { (lead : Lead) × (acting_lead (R.local state.old) act.now ≡ Some lead)
         × (lead.head ≡ head.now) }
-    requires tells { Tells bundle.now.cast (R.local state.old) act.now }
+    requires tells { Tells scene.now.bundle.now.cast (R.local state.old) act.now }
     requires level { head.now.level < top_level }
     requires body { (q : OneRole) → is_in q (term rule.now.body) ≡ true
-        → member q bundle.now.cast ≡ true }
-    ensures shows { IfOk result (λ kept. kept ≡ entry_eq entry.now
+        → member q scene.now.bundle.now.cast ≡ true }
+    ensures shows { IfOk result (λ kept. kept ≡ entry_eq scene.now.entry.now
         (entries.Scope head.now.index head.now.leader
         (chosen.Rule rule.now.name (suc (length updates.old.items))))) }
     ensures steps { IfOk result (λ kept. OnTrue kept ((decide : OneHead → Decision)
         → decide head.now ≡ Replaces rule.now.name (suc (length updates.old.items))
-        (part_of bundle.now.cast head.now (suc (length updates.old.items)) (term rule.now.body))
+        (part_of scene.now.bundle.now.cast head.now (suc (length updates.old.items))
+        (term rule.now.body))
         → IsStep (R.local state.old) act.now (FromBook decide) (R.local state.new))) }
     ensures listed { IfOk result (λ kept. OnTrue kept
         (updates.new.items ≡ updates.old.items ++ record {
@@ -169,11 +162,12 @@ fn replace<R: Runs>(
     ensures local_stays { OnErr result (R.local state.new ≡ R.local state.old) }
     ensures updates_stay { OnErr result (updates.new.items ≡ updates.old.items) }
 {
-    let Some(epoch) = shown_epoch(entry, head, &rule.name, updates.len()) else {
+    let Some(epoch) = shown_epoch(scene.entry, head, &rule.name, updates.len()) else {
         return Ok(false);
     };
     updates.reserve(1)?;
-    let parts = plan_update(alloc, head, bundle.cast.as_slice(), epoch, &rule.body)?;
+    let cast = scene.bundle.cast.as_slice();
+    let parts = plan_update(scene.alloc, head, cast, epoch, &rule.body)?;
     let level = head.level + 1;
     state.advance(act, Got::Parts(parts));
     updates.push_reserved(Update {

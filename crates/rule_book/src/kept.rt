@@ -1,17 +1,18 @@
 //! What a book keeps of rules and of changes: copies, so that a change takes no memory and no body
 //! is walked again.
 
-ghost use Rattle.std.specs.Prelude.{◌≡◌, ◌&&◌, true, nat_lt, int_lt};
+ghost use Rattle.std.specs.Prelude.{◌≡◌, ◌&&◌, true, false, ℕ, List, nat_lt, int_lt};
 ghost use Rattle.std.specs.List.{list_all};
 ghost use Rattle.std.specs.Option.{option_map_or};
 ghost use Rattle.dioc_terms.specs.Conditions.{has_no_join};
-ghost use Rattle.dioc_terms.specs.Equality.{member};
-ghost use Rattle.dioc_terms.specs.Expressions.{expression};
+ghost use Rattle.dioc_terms.specs.Equality.{member, value_eq};
+ghost use Rattle.dioc_terms.specs.Expressions.{expression, Bin};
 ghost use Rattle.dioc_terms.specs.KeptStores.{store_of};
+ghost use Rattle.dioc_terms.specs.Stores.{Store as Stored};
 ghost use Rattle.limits.specs.Limits.{top_level};
 ghost use Rattle.dioc_terms.specs.Values.{bound, holds};
 
-use dioc_terms::{Expr, Name, Role, Roles, ScopeHead, Store, Value, is_among, test};
+use dioc_terms::{Expr, Name, Oper, Role, Roles, ScopeHead, Store, Value, is_among, test};
 use limits::TOP_LEVEL;
 
 /// What a book keeps of a rule.
@@ -58,7 +59,8 @@ impl KeptRule {
             && list_all (λ q. member q head.now.roles) self.now.roles
             && nat_lt head.now.level top_level) }
     {
-        test(&self.cond, store, head.props.as_slice(), env)
+        !is_excluded(&self.cond, head.props.as_slice())
+            && test(&self.cond, store, head.props.as_slice(), env)
             && are_among(self.roles.as_slice(), head.roles.as_slice())
             && head.level < TOP_LEVEL
     }
@@ -73,6 +75,50 @@ impl KeptRule {
             None => true,
         }
     }
+}
+
+/// Whether a conjunct of the condition asks for another value of a property than the scope's, so
+/// that the condition doesn't hold, whatever the store and the environment. It costs far less than
+/// the test of the whole condition. Of a property that is given twice it may leave the answer to
+/// that test, as of one that is to be Nil.
+fn is_excluded(cond: &Expr, props: &[(Name, Value)]) -> bool
+    ensures { result ≡ true → (s : Stored) (env : List ℕ → Value)
+        → holds (expression cond.now) s (bound props.now) env ≡ false }
+{
+    match cond {
+        Expr::Bin(Oper::And, left, right) => is_excluded(left, props) || is_excluded(right, props),
+        Expr::Bin(Oper::Eq, left, right) => are_apart(left, right, props),
+        _ => false,
+    }
+}
+
+/// Whether one of the two is a property and the other a constant that the property can't be, so
+/// that they aren't equal.
+fn are_apart(left: &Expr, right: &Expr, props: &[(Name, Value)]) -> bool
+    ensures { result ≡ true → (s : Stored) (env : List ℕ → Value) → holds (Bin Oper.Eq
+        (expression left.now) (expression right.now)) s (bound props.now) env ≡ false }
+{
+    match (left, right) {
+        (Expr::Prop(name), Expr::Const(value)) => is_nowhere(props, name, value),
+        (Expr::Const(value), Expr::Prop(name)) => is_nowhere(props, name, value),
+        _ => false,
+    }
+}
+
+/// Whether the value isn't Nil, and no property of that name has it. Values are compared before
+/// names, since they are most often numbers.
+fn is_nowhere(props: &[(Name, Value)], name: &Name, value: &Value) -> bool
+    ensures { result ≡ true → value_eq (bound props.now name.now) value.now ≡ false }
+{
+    if matches!(value, Value::Nil) {
+        return false;
+    }
+    for (key, held) in props {
+        if held == value && key == name {
+            return false;
+        }
+    }
+    true
 }
 
 /// Whether each of the roles is one of the others.

@@ -3,7 +3,7 @@ use Rattle.std.proofs.Common.{◌≡◌, ◌<◌, ◌≤◌, ◌+◌, ◌-◌, �
 use Rattle.std.specs.Prelude.{flat_map, if◌then◌else◌, slice_set, vec_len}
 use Rattle.std.specs.List.{between, list_all}
 use Rattle.std.proofs.lemmas.Bool.{and_from, both_ways, cond-false, cond-true, or_left, or_right}
-use Rattle.std.proofs.lemmas.List.{drop_more, get_or-map, get_or_at, length-map, length-take, map-set}
+use Rattle.std.proofs.lemmas.List.{append-nil, drop_more, get_or-map, get_or_at, length-append, length-map, length-take, map-set, take_more}
 use Rattle.std.proofs.lemmas.List.Edits.{map_over_more}
 use Rattle.std.proofs.lemmas.List.Folds.{flat_map-map, list_all_at}
 use Rattle.std.proofs.lemmas.Option.{slice_get_read}
@@ -21,7 +21,9 @@ use Rattle.network_steps.specs.declared.moves.Move.TheVariants as move
 use Rattle.network_steps.specs.Schedule.{change_due, move_place, moves}
 use Rattle.net_core.specs.MovesIn.{ready_of}
 use Rattle.net_core.specs.Nets.{IsSoundRun, NetState, network_of}
-use Rattle.schedule.specs.declared.agenda.ReadyRole.{ReadyRole}
+use Rattle.schedule.specs.declared.roles.ReadyRole.{ReadyRole}
+use Rattle.net_core.proofs.Choosing.{chosen_long}
+use Rattle.net_core.specs.MovesIn.{chosen}
 use Rattle.schedule.proofs.TouchLemmas.{untouched, untouched_by_change}
 use Rattle.schedule.specs.Agendas.{IsStale, SparesRest, agenda_of, moves_of, ready_in, refreshed, ready_seen, touches}
 use Rattle.schedule.specs.Turns.{IsMoveOf, IsScheduled, has_ended}
@@ -91,22 +93,67 @@ got_back [] ys place m past got = ap (slice_get ys) (omega arith) ∙ got
 got_back (x ∷ xs) ys zero m past got = absurd (omega (arith, past))
 got_back (x ∷ xs) ys (suc place) m past got = got_back xs ys place m (omega (arith, past)) (ap (slice_get ys) (omega arith) ∙ got)
 
+-- a role has as many moves as places
+ready_long : (ready : ReadyRole) → vec_len ready.ready ≡ length (moves_of (ready_seen ready))
+ready_long ready =
+    let long : length (moves_of (ready_seen ready)) ≡ length ready.ready.items =
+    length-map (chosen ready.ready.items ready.acts.items) (move.Act ready.role) ∙ chosen_long ready.acts.items ready.ready.items ready.inside in
+    omega (arith, long, ready.ready.ok.0)
+
+count_append : (agenda : List ReadyRole) (ready : ReadyRole)
+    → length (flat_map moves_of (map ready_seen (agenda ++ ready ∷ []))) ≡ length (flat_map moves_of (map ready_seen agenda)) + vec_len ready.ready
+count_append [] ready =
+    let all : length (moves_of (ready_seen ready) ++ []) ≡ vec_len ready.ready = ap length (append-nil (moves_of (ready_seen ready))) ∙ sym (ready_long ready) in
+    omega (arith, all)
+count_append (first ∷ later) ready =
+    let both : length (moves_of (ready_seen first) ++ flat_map moves_of (map ready_seen (later ++ ready ∷ []))) ≡ length (moves_of (ready_seen first)) + length (flat_map moves_of (map ready_seen (later ++ ready ∷ []))) =
+    length-append (moves_of (ready_seen first)) (flat_map moves_of (map ready_seen (later ++ ready ∷ []))) in
+    let one : length (moves_of (ready_seen first) ++ flat_map moves_of (map ready_seen later)) ≡ length (moves_of (ready_seen first)) + length (flat_map moves_of (map ready_seen later)) =
+    length-append (moves_of (ready_seen first)) (flat_map moves_of (map ready_seen later)) in
+    omega (arith, both, one, count_append later ready)
+
+-- an agenda has those of one role more
+pub count_more : (agenda : List ReadyRole) (i : ℕ) (ready : ReadyRole) → i < length agenda → ready ≡ get_or agenda i ready
+    → length (flat_map moves_of (map ready_seen (take (i + 1) agenda))) ≡ length (flat_map moves_of (map ready_seen (take i agenda))) + vec_len ready.ready
+count_more agenda i ready inside is =
+    ap (λ xs. length (flat_map moves_of (map ready_seen xs))) (take_more agenda i ready inside)
+    ∙ ap (λ (r : ReadyRole). length (flat_map moves_of (map ready_seen (take i agenda ++ r ∷ [])))) (sym is)
+    ∙ count_append (take i agenda) ready
+
 -- an act of the first role of an agenda, and of the others
 pub got_first : (agenda : List ReadyRole) (ready : ReadyRole) (place : ℕ) (m : Move) → 0 < length agenda
     → slice_get (moves_of (ready_seen (get_or agenda 0 ready))) place ≡ Some m → slice_get (flat_map moves_of (map ready_seen agenda)) place ≡ Some m
 got_first [] ready place m some got = absurd (omega (arith, some))
 got_first (first ∷ later) ready place m some got = got_front (moves_of (ready_seen first)) (flat_map moves_of (map ready_seen later)) place m got
 
-pub got_behind : (agenda : List ReadyRole) (ready : ReadyRole) (count place : ℕ) (m : Move) → 0 < length agenda
-    → count ≡ vec_len (get_or agenda 0 ready).acts → count ≤ place → slice_get (flat_map moves_of (map ready_seen (between 1 (length agenda) agenda))) (place - count) ≡ Some m
+pub got_behind : (agenda : List ReadyRole) (count place : ℕ) (m : Move) → 0 < length agenda
+    → ((ready : ReadyRole) → count ≡ vec_len (get_or agenda 0 ready).ready) → count ≤ place → slice_get (flat_map moves_of (map ready_seen (between 1 (length agenda) agenda))) (place - count) ≡ Some m
     → slice_get (flat_map moves_of (map ready_seen agenda)) place ≡ Some m
-got_behind [] ready count place m some all past got = absurd (omega (arith, some))
-got_behind (first ∷ later) ready count place m some all past got =
-    let acts : count ≡ length (moves_of (ready_seen first)) = omega (arith, all, first.acts.ok.0, length-map first.acts.items (move.Act first.role)) in
+got_behind [] count place m some all past got = absurd (omega (arith, some))
+got_behind (first ∷ later) count place m some all past got =
+    let acts : count ≡ length (moves_of (ready_seen first)) = all first ∙ ready_long first in
     let rest : List Move = flat_map moves_of (map ready_seen later) in
     let behind : slice_get rest (place - count) ≡ Some m =
     ap (λ (l : List ReadyRole). slice_get (flat_map moves_of (map ready_seen l)) (place - count)) (sym (between_to_end (first ∷ later) 1 (length (first ∷ later)) (omega arith))) ∙ got in
     got_back (moves_of (ready_seen first)) rest place m (omega (arith, acts, past)) (ap (λ n. slice_get rest (place - n)) (sym acts) ∙ behind)
+
+-- a move that is none of the first role is one of the others
+pub rest_long : (agenda : List ReadyRole) (count place : ℕ) → ((ready : ReadyRole) → count ≡ vec_len (get_or agenda 0 ready).ready) → count ≤ place
+    → place < length (flat_map moves_of (map ready_seen agenda)) → place - count < length (flat_map moves_of (map ready_seen (between 1 (length agenda) agenda)))
+rest_long [] count place all past within = absurd (omega (arith, within))
+rest_long (first ∷ later) count place all past within =
+    let acts : count ≡ length (moves_of (ready_seen first)) = all first ∙ ready_long first in
+    let rest : List Move = flat_map moves_of (map ready_seen later) in
+    let long : length (moves_of (ready_seen first) ++ rest) ≡ length (moves_of (ready_seen first)) + length rest = length-append (moves_of (ready_seen first)) rest in
+    let left : place - count < length rest = omega (arith, acts, long, past, within) in
+    subst (λ (l : List ReadyRole). place - count < length (flat_map moves_of (map ready_seen l))) (sym (between_to_end (first ∷ later) 1 (length (first ∷ later)) (omega arith))) left
+
+-- the others are one less
+pub fewer_roles : (agenda : List ReadyRole) → 0 < length agenda → length (between 1 (length agenda) agenda) < length agenda
+fewer_roles [] some = absurd (omega (arith, some))
+fewer_roles (first ∷ later) some =
+    let rest : length (between 1 (length (first ∷ later)) (first ∷ later)) ≡ length later = ap length (between_to_end (first ∷ later) 1 (length (first ∷ later)) (omega arith)) in
+    omega (arith, rest)
 
 -- a role that stands in the cast
 member_got : (cast : List Role) (i : ℕ) (q : Role) → slice_get cast i ≡ Some q → member q cast ≡ true

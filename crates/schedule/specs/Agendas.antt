@@ -7,13 +7,13 @@ use Rattle.dioc_terms.specs.Equality.{role_eq}
 use Rattle.network_steps.specs.Network.{Network}
 use Rattle.network_steps.specs.declared.moves.Move.{Move}
 use Rattle.network_steps.specs.declared.moves.Move.TheVariants as move
-use Rattle.net_core.specs.MovesIn.{ready_of}
+use Rattle.net_core.specs.MovesIn.{chosen, ready_of}
 use Rattle.net_core.specs.Nets.{NetState, network_of}
-use Rattle.schedule.specs.declared.agenda.ReadyRole.{ReadyRole}
+use Rattle.schedule.specs.declared.roles.ReadyRole.{ReadyRole}
 
--- a role with acts, as a proof sees it
+-- a role with the acts that it can do, as a proof sees it
 abbrev pub ready_seen : ReadyRole → Role × List Act
-ready_seen ready = (ready.role, ready.acts.items)
+ready_seen ready = (ready.role, chosen ready.ready.items ready.acts.items)
 
 abbrev pub moves_of : Role × List Act → List Move
 moves_of ready = map (move.Act ready.0) ready.1

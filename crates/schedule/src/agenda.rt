@@ -1,26 +1,22 @@
 //! The agenda: what each role of a net can do now, kept from turn to turn. An act changes only what
 //! the role that does it can do, and where it puts a message, what the receiver can do.
+//!
+//! It keeps all acts that a role's process offers, and beside them which of them can be done: so
+//! what is listed anew after an act keeps each act that is still offered.
 
-ghost use Rattle.std.specs.Prelude.{◌≡◌, ◌<◌, ◌^◌, ◌-◌, ◌∷◌, [], true, Some, IfOk, OnOk, flat_map, length, map, slice_get};
+ghost use Rattle.std.specs.Prelude.{◌≡◌, ◌<◌, ◌^◌, ◌-◌, ◌∷◌, [], true, Some, IfOk, OnOk, flat_map, get_or, length, map, slice_get, vec_len};
 ghost use Rattle.std.specs.List.{list_all};
 ghost use Rattle.dioc_terms.specs.Equality.{member};
 ghost use Rattle.net_core.specs.Nets.{network_of};
-ghost use Rattle.schedule.specs.Agendas.{IsStale, SparesRest, again, agenda_of, moves_of, puts_to, refreshed, ready_seen, touches};
+ghost use Rattle.schedule.specs.declared.roles.ReadyRole.{ReadyRole as OneRole};
+ghost use Rattle.schedule.specs.Agendas.{IsStale, SparesRest, again, agenda_of, moves_of, puts_to, ready_in, ready_seen, refreshed, touches};
 
+use crate::roles::ReadyRole;
 use dioc_terms::{Act, Memory, Role, give_up};
 use dpoc_process::Runs;
 use net_core::Net;
 use network_steps::Move;
 use std::alloc::Global;
-
-/// A role with the acts that it can do now.
-#[derive(Drop)]
-pub struct ReadyRole {
-    /// The role.
-    pub role: Role,
-    /// Its acts, from left to right in its process.
-    pub acts: Vec<Act>,
-}
 
 /// The agenda after a move, from the one before it. Before the first move it makes one.
 pub(crate) fn keep_up<R: Runs>(
@@ -83,11 +79,22 @@ pub fn list_ready<R: Runs>(net: &Net<R>) -> Result<Vec<ReadyRole>, Memory>
     let cast = net.cast();
     let mut agenda = Vec::new(alloc);
     for role in cast {
-        let acts = net.ready_acts(role)?;
-        let role = role.copy(alloc)?;
-        agenda.push(ReadyRole { role, acts })?;
+        agenda.push(list_role(net, role)?)?;
     }
     Ok(agenda)
+}
+
+/// A role of the cast with the acts that it can do now.
+fn list_role<R: Runs>(net: &Net<R>, role: &Role) -> Result<ReadyRole, Memory>
+    requires { member role.now net.now.bundle.cast ≡ true }
+    ensures { IfOk result (λ ready. ready_seen ready ≡ ready_in (network_of net.now) role.now) }
+{
+    let alloc = net.allocator();
+    let mut acts = Vec::new(alloc);
+    let mut ready = Vec::new(alloc);
+    net.refresh_ready(role, &mut acts, &mut ready)?;
+    let role = role.copy(alloc)?;
+    Ok(ReadyRole { role, acts, ready })
 }
 
 /// Lists anew what the roles can do that an act of a role touches.
@@ -120,9 +127,17 @@ fn list_again<R: Runs>(
         ≡ again (network_of net.now) role.now act.now (ready_seen ready.old)) }
 {
     if touches(role, act, &ready.role) {
-        ready.acts = net.ready_acts(&ready.role)?;
+        return list_role_again(net, ready);
     }
     Ok(())
+}
+
+/// Lists anew what a role of the cast can do.
+fn list_role_again<R: Runs>(net: &Net<R>, ready: &mut ReadyRole) -> Result<(), Memory>
+    requires { member ready.old.role net.now.bundle.cast ≡ true }
+    ensures { OnOk result (ready_seen ready.new ≡ ready_in (network_of net.now) ready.old.role) }
+{
+    net.refresh_ready(&ready.role, &mut ready.acts, &mut ready.ready)
 }
 
 /// Whether an act of a role may change what another can do.
@@ -142,14 +157,15 @@ fn puts_to(act: &Act, role: &Role) -> bool
     }
 }
 
-/// How many acts stand in an agenda. In 128 bits there is room for so many.
+/// How many acts can be done by an agenda. In 128 bits there is room for so many.
+#[tactic(auto, using(crate::proofs::AgendaLemmas::count_more))]
 pub(crate) fn count_acts(agenda: &[ReadyRole]) -> u128
     ensures count { result ≡ length (flat_map moves_of (map ready_seen agenda.now)) }
     ensures small { result < 2 ^ 128 - 1 }
 {
     let mut count = 0;
     for ready in agenda {
-        count += ready.acts.len() as u128;
+        count += ready.ready.len() as u128;
     }
     count
 }
@@ -163,7 +179,7 @@ pub(crate) fn move_at(alloc: Global, agenda: &mut [ReadyRole], place: u128) -> R
     ensures rest { IfOk result
         (λ next. SparesRest next (map ready_seen agenda.old) (map ready_seen agenda.new)) }
 {
-    let count = agenda[0].acts.len() as u128;
+    let count = first_count(agenda);
     if place < count {
         move_of(alloc, &mut agenda[0], place as usize)
     } else {
@@ -171,15 +187,27 @@ pub(crate) fn move_at(alloc: Global, agenda: &mut [ReadyRole], place: u128) -> R
     }
 }
 
+/// How many acts the first role of an agenda can do.
+fn first_count(agenda: &[ReadyRole]) -> u128
+    requires { 0 < length agenda.now }
+    ensures count { (ready : OneRole) → result ≡ vec_len (get_or agenda.now 0 ready).ready }
+    ensures small { result < 2 ^ 64 }
+{
+    let [first, ..] = agenda else { unreachable!() };
+    first.ready.len() as u128
+}
+
 /// The act of that number of one role, as a move. The role has it no more.
 fn move_of(alloc: Global, ready: &mut ReadyRole, place: usize) -> Result<Move, Memory>
-    requires { place < length ready.old.acts.items }
+    requires { place < length ready.old.ready.items }
     ensures next { IfOk result
         (λ next. slice_get (moves_of (ready_seen ready.old)) place ≡ Some next) }
     ensures rest { IfOk result
         (λ next. SparesRest next (ready_seen ready.old ∷ []) (ready_seen ready.new ∷ [])) }
 {
     let role = ready.role.copy(alloc)?;
-    let act = ready.acts.swap_remove(place);
+    let at = ready.ready[place];
+    ready.ready.clear();
+    let act = ready.acts.remove(at);
     Ok(Move::Act(role, act))
 }

@@ -4,8 +4,10 @@
 
 mod agenda;
 mod numbers;
+mod roles;
 mod runs;
 mod turns;
 
-pub use agenda::{ReadyRole, keep_up_with, list_ready};
+pub use agenda::{keep_up_with, list_ready};
+pub use roles::ReadyRole;
 pub use runs::{Finish, run_seeded};

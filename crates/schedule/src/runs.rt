@@ -7,8 +7,9 @@ ghost use Rattle.schedule.specs.Agendas.{IsStale, ready_seen};
 ghost use Rattle.schedule.specs.Runs.{HasGone, IsOnTheWay, finish_at};
 ghost use Rattle.schedule.specs.Turns.{Advances, has_ended};
 
-use crate::agenda::{ReadyRole, keep_up};
+use crate::agenda::keep_up;
 use crate::numbers::next_seed;
+use crate::roles::ReadyRole;
 use crate::turns::take_next;
 use dioc_terms::Memory;
 use dpoc_process::Runs;

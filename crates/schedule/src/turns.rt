@@ -9,8 +9,9 @@ ghost use Rattle.net_core.specs.Steps.{fault_of};
 ghost use Rattle.schedule.specs.Agendas.{IsStale, SparesRest, agenda_of, moves_of, ready_seen};
 ghost use Rattle.schedule.specs.Turns.{Advances, CanMake, IsMoveOf, IsScheduled, has_ended};
 
-use crate::agenda::{ReadyRole, count_acts, move_at};
+use crate::agenda::{count_acts, move_at};
 use crate::numbers::move_place;
+use crate::roles::ReadyRole;
 use dioc_terms::{Act, Memory, Role};
 use dpoc_process::Runs;
 use net_core::{ChangeFault, Net};

@@ -18,6 +18,17 @@ use dioc_terms::{
 use projection::project;
 use std::alloc::Global;
 
+/// What each part of an update is made of: the scope's head, the roles of the cast, the update's
+/// number, and the rule's body, which is stamped.
+#[derive(Clone, Copy)]
+struct Plan<'a> {
+    alloc: Global,
+    head: &'a ScopeHead,
+    cast: &'a [Role],
+    epoch: u32,
+    body: &'a Choreo,
+}
+
 /// The parts of an update that replaces a scope: the leader's own part of the rule's body, stamped
 /// with the update's number and one level higher than the scope, and the `!begin` messages that
 /// carry the parts of the scope's other roles, in the order of the cast. A role of the scope that
@@ -40,55 +51,50 @@ pub fn plan_update(
 {
     stamped_bodies();
     let body = stamped(alloc, body, epoch, head.level + 1)?;
-    let parts = parts(alloc, head, cast, epoch, &body);
+    let parts = parts(&Plan {
+        alloc,
+        head,
+        cast,
+        epoch,
+        body: &body,
+    });
     drop(body);
     parts
 }
 
 /// The parts of a body that is stamped.
-fn parts(
-    alloc: Global,
-    head: &ScopeHead,
-    cast: &[Role],
-    epoch: u32,
-    body: &Choreo,
-) -> Result<Parts, Memory>
-    requires { (q : OneRole) → is_in q (term body.now) ≡ true → member q cast.now ≡ true }
-    ensures own { IfOk result (λ parts.
-        process parts.own ≡ projected cast.now (term body.now) head.now.leader) }
-    ensures tell { IfOk result (λ parts.
-        letters parts.tell
-        ≡ letters_to head.now.leader (told_roles cast.now head.now) head.now.index
-        Begin (λ q. Part epoch (projected cast.now (term body.now) q))) }
+fn parts(plan: &Plan<'_>) -> Result<Parts, Memory>
+    requires { (q : OneRole) → is_in q (term plan.now.body.now) ≡ true
+        → member q plan.now.cast.now ≡ true }
+    ensures own { IfOk result (λ parts. process parts.own
+        ≡ projected plan.now.cast.now (term plan.now.body.now) plan.now.head.now.leader) }
+    ensures tell { IfOk result (λ parts. letters parts.tell
+        ≡ letters_to plan.now.head.now.leader (told_roles plan.now.cast.now plan.now.head.now)
+        plan.now.head.now.index Begin (λ q. Part plan.now.epoch
+        (projected plan.now.cast.now (term plan.now.body.now) q))) }
 {
-    let own = project(alloc, body, &head.leader, cast)?;
-    match begins(alloc, head, cast, cast, epoch, body) {
+    let own = project(plan.alloc, plan.body, &plan.head.leader, plan.cast)?;
+    match begins(plan, plan.cast) {
         Ok(tell) => Ok(Parts { own, tell }),
         Err(fault) => give_up(own, fault),
     }
 }
 
 /// The messages to those of these roles that are told, with their parts of the stamped body.
-fn begins(
-    alloc: Global,
-    head: &ScopeHead,
-    roles: &[Role],
-    cast: &[Role],
-    epoch: u32,
-    body: &Choreo,
-) -> Result<Messages, Memory>
-    requires { (q : OneRole) → is_in q (term body.now) ≡ true → member q cast.now ≡ true }
-    ensures { IfOk result (λ messages.
-        letters messages ≡ letters_to head.now.leader (filter (is_told head.now) roles.now)
-        head.now.index Begin
-        (λ q. Part epoch (projected cast.now (term body.now) q))) }
+fn begins(plan: &Plan<'_>, roles: &[Role]) -> Result<Messages, Memory>
+    requires { (q : OneRole) → is_in q (term plan.now.body.now) ≡ true
+        → member q plan.now.cast.now ≡ true }
+    ensures { IfOk result (λ messages. letters messages
+        ≡ letters_to plan.now.head.now.leader (filter (is_told plan.now.head.now) roles.now)
+        plan.now.head.now.index Begin (λ q. Part plan.now.epoch
+        (projected plan.now.cast.now (term plan.now.body.now) q))) }
 {
     match roles {
         [] => Ok(Messages::Nothing),
         [role, rest @ ..] => {
-            let rest = begins(alloc, head, rest, cast, epoch, body)?;
-            if is_told(head, role) {
-                return begin(alloc, head, role, cast, epoch, body, rest);
+            let rest = begins(plan, rest)?;
+            if is_told(plan.head, role) {
+                return begin(plan, role, rest);
             }
             Ok(rest)
         }
@@ -103,60 +109,44 @@ fn is_told(head: &ScopeHead, role: &Role) -> bool
 }
 
 /// The message with the role's part, and those after it.
-fn begin(
-    alloc: Global,
-    head: &ScopeHead,
-    role: &Role,
-    cast: &[Role],
-    epoch: u32,
-    body: &Choreo,
-    rest: Messages,
-) -> Result<Messages, Memory>
-    requires { (q : OneRole) → is_in q (term body.now) ≡ true → member q cast.now ≡ true }
-    ensures { IfOk result (λ messages.
-        letters messages ≡ More (key head.now.leader role.now head.now.index Begin)
-        (Part epoch (projected cast.now (term body.now) role.now)) (letters rest)) }
+fn begin(plan: &Plan<'_>, role: &Role, rest: Messages) -> Result<Messages, Memory>
+    requires { (q : OneRole) → is_in q (term plan.now.body.now) ≡ true
+        → member q plan.now.cast.now ≡ true }
+    ensures { IfOk result (λ messages. letters messages
+        ≡ More (key plan.now.head.now.leader role.now plan.now.head.now.index Begin)
+        (Part plan.now.epoch (projected plan.now.cast.now (term plan.now.body.now) role.now))
+        (letters rest)) }
 {
-    match begin_key(alloc, head, role) {
-        Ok(key) => begin_with(alloc, key, role, cast, epoch, body, rest),
+    match begin_key(plan.alloc, plan.head, role) {
+        Ok(key) => begin_with(plan, key, role, rest),
         Err(fault) => give_up(rest, fault),
     }
 }
 
-fn begin_with(
-    alloc: Global,
-    key: Key,
-    role: &Role,
-    cast: &[Role],
-    epoch: u32,
-    body: &Choreo,
-    rest: Messages,
-) -> Result<Messages, Memory>
-    requires { (q : OneRole) → is_in q (term body.now) ≡ true → member q cast.now ≡ true }
-    ensures { IfOk result (λ messages.
-        letters messages ≡ More key (Part epoch (projected cast.now (term body.now) role.now))
+/// The message of that key with the role's part, and those after it.
+fn begin_with(plan: &Plan<'_>, key: Key, role: &Role, rest: Messages) -> Result<Messages, Memory>
+    requires { (q : OneRole) → is_in q (term plan.now.body.now) ≡ true
+        → member q plan.now.cast.now ≡ true }
+    ensures { IfOk result (λ messages. letters messages ≡ More key
+        (Part plan.now.epoch (projected plan.now.cast.now (term plan.now.body.now) role.now))
         (letters rest)) }
 {
-    match boxed_part(alloc, role, cast, epoch, body) {
-        Ok(part) => more(alloc, key, part, rest),
+    match boxed_part(plan, role) {
+        Ok(part) => more(plan.alloc, key, part, rest),
         Err(fault) => give_up((key, rest), fault),
     }
 }
 
 /// The role's part of the body, as a message carries it.
-fn boxed_part(
-    alloc: Global,
-    role: &Role,
-    cast: &[Role],
-    epoch: u32,
-    body: &Choreo,
-) -> Result<Box<Payload>, Memory>
-    requires { (q : OneRole) → is_in q (term body.now) ≡ true → member q cast.now ≡ true }
-    ensures { IfOk result (λ part.
-        load part.value ≡ Part epoch (projected cast.now (term body.now) role.now)) }
+fn boxed_part(plan: &Plan<'_>, role: &Role) -> Result<Box<Payload>, Memory>
+    requires { (q : OneRole) → is_in q (term plan.now.body.now) ≡ true
+        → member q plan.now.cast.now ≡ true }
+    ensures { IfOk result (λ part. load part.value ≡ Part plan.now.epoch
+        (projected plan.now.cast.now (term plan.now.body.now) role.now)) }
 {
-    let proc = project(alloc, body, role, cast)?;
-    new_box(alloc, Payload::Part { epoch, proc })
+    let proc = project(plan.alloc, plan.body, role, plan.cast)?;
+    let epoch = plan.epoch;
+    new_box(plan.alloc, Payload::Part { epoch, proc })
 }
 
 /// The message, and those after it.

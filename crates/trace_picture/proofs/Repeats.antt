@@ -1,5 +1,5 @@
 -- What repeated bytes and the pieces of items are, one further.
-use Rattle.std.proofs.Common.{◌≡◌, ℕ, suc, ◌+◌, ◌<◌, List, [], ◌∷◌, ◌++◌, length, take, sym, ap, ◌∙◌, arith, append_assoc, append-nil, add-zero, add-one, get_or, Result, Ok, Err, OnErr}
+use Rattle.std.proofs.Common.{◌≡◌, ℕ, suc, ◌+◌, ◌<◌, List, [], ◌∷◌, ◌++◌, length, take, sym, ap, ◌∙◌, arith, append_assoc, append-nil, add-zero, add-one, get_or, Result, Ok, Err, OnOk, OnErr}
 use Rattle.std.proofs.lemmas.List.{flat_map_more, length-take-le}
 use Rattle.std.specs.List.{flat_map}
 use Rattle.std.proofs.Math.Seq.{take-suc}
@@ -49,6 +49,11 @@ pieces_below_step piece i old middle new so_far more =
 pub repeated_step : (byte i : ℕ) (old middle new : List ℕ) → middle ≡ old ++ repeated byte i → new ≡ middle ++ byte ∷ [] → new ≡ old ++ repeated byte (i + 1)
 repeated_step byte i old middle new so_far more =
     more ∙ ap (λ m. m ++ byte ∷ []) so_far ∙ append_assoc old (repeated byte i) (byte ∷ []) ∙ ap (λ k. old ++ repeated byte k) (sym (add-one i))
+
+-- what stands there when a text was written and then another one
+pub behind_text : {A E : Type 0} (result : Result A E) (old first second middle new : List ℕ) → middle ≡ old ++ first → OnOk result (new ≡ middle ++ second) → OnOk result (new ≡ old ++ (first ++ second))
+behind_text (Ok value) old first second middle new is more = more ∙ ap (λ m. m ++ second) is ∙ append_assoc old first second
+behind_text (Err fault) old first second middle new is more = tt
 
 -- what a writer leaves that has run out of memory behind others: the old bytes still stand in front
 pub still_front : {A E : Type 0} (result : Result A E) (old more middle bytes : List ℕ) → middle ≡ old ++ more → KeepsFront middle bytes → OnErr result (KeepsFront old bytes)

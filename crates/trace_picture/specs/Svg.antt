@@ -11,7 +11,7 @@ use Rattle.trace_picture.specs.declared.shapes.Sign.TheVariants as sign
 use Rattle.trace_picture.specs.declared.shapes.Shape.{Shape}
 use Rattle.trace_picture.specs.declared.shapes.Shape.TheVariants as shape
 use Rattle.trace_picture.specs.Arrivals.{arrival}
-use Rattle.trace_picture.specs.Fragments.{xml_words}
+use Rattle.trace_picture.specs.Fragments.{attribute, xml_words}
 use Rattle.trace_picture.specs.Labels.{label}
 use Rattle.trace_picture.specs.Lanes.{longest_name}
 use Rattle.trace_picture.specs.Runs.{shortened, pieces_from, end_to_end}
@@ -66,35 +66,42 @@ shape_class shape.Band = codes "change"
 abbrev pub entry_class : Shape → Entry → List ℕ
 entry_class s e = if is_aux e then codes "aux" else shape_class s
 
--- a sign on a lane: a dot, and of a scope the paper of a note
-unfoldable pub dot : ℕ → ℕ → List ℕ
-dot x y =
-    end_to_end (codes "<circle cx=\"" ∷ decimal x ∷ codes "\" cy=\"" ∷ decimal y ∷
-    codes "\" r=\"4\"/>" ∷ [])
+-- a circle around a place, and a rectangle below and beside a place
+unfoldable pub circle : List ℕ → ℕ → ℕ → List ℕ
+circle tag x y =
+    end_to_end (tag ∷ attribute (codes "cx") x ∷ attribute (codes "cy") y ∷
+    codes " r=\"4\"/>" ∷ [])
 
-unfoldable pub paper : ℕ → ℕ → ℕ → List ℕ
-paper x y wide =
-    end_to_end (codes "<rect x=\"" ∷ decimal x ∷ codes "\" y=\"" ∷ decimal (y - 11) ∷
-    codes "\" width=\"" ∷ decimal wide ∷ codes "\" height=\"22\"/>" ∷ [])
+unfoldable pub rectangle : ℕ → ℕ → ℕ → ℕ → List ℕ
+rectangle x y wide high =
+    end_to_end (codes "<rect" ∷ attribute (codes "x") x ∷ attribute (codes "y") y ∷
+    attribute (codes "width") wide ∷ attribute (codes "height") high ∷ codes "/>" ∷ [])
+
+-- a sign on a lane: a dot, and of a scope the paper of a note
+abbrev pub dot : ℕ → ℕ → List ℕ
+dot x y = circle (codes "<circle") x y
+
+abbrev pub paper : ℕ → ℕ → ℕ → List ℕ
+paper x y wide = rectangle x (y - 11) wide 22
 
 unfoldable pub sign_mark : Sign → ℕ → ℕ → ℕ → List ℕ
 sign_mark sign.Keep x y wide = paper x y wide
 sign_mark sign.Replace x y wide = paper x y wide
 sign_mark _ x y wide = dot x y
 
--- a line from one place to another, with a tip or with an open circle at its end
+-- a line from one place to another, whose tag goes on: with a tip, or with an open circle at its end
+unfoldable pub line_between : List ℕ → ℕ → ℕ → ℕ → ℕ → List ℕ
+line_between tag start top end low =
+    end_to_end (tag ∷ attribute (codes "x1") start ∷ attribute (codes "y1") top ∷
+    attribute (codes "x2") end ∷ attribute (codes "y2") low ∷ [])
+
 unfoldable pub arrow_line : ℕ → ℕ → ℕ → ℕ → List ℕ
 arrow_line start top end low =
-    end_to_end (codes "<line x1=\"" ∷ decimal start ∷ codes "\" y1=\"" ∷ decimal top ∷
-    codes "\" x2=\"" ∷ decimal end ∷ codes "\" y2=\"" ∷ decimal low ∷
-    codes "\" marker-end=\"url(#tip)\"/>" ∷ [])
+    line_between (codes "<line") start top end low ++ codes " marker-end=\"url(#tip)\"/>"
 
 unfoldable pub open_line : ℕ → ℕ → ℕ → ℕ → List ℕ
-open_line start top end low =
-    end_to_end (codes "<line x1=\"" ∷ decimal start ∷ codes "\" y1=\"" ∷ decimal top ∷
-    codes "\" x2=\"" ∷ decimal end ∷ codes "\" y2=\"" ∷ decimal low ∷
-    codes "\"/><circle class=\"open\" cx=\"" ∷ decimal end ∷ codes "\" cy=\"" ∷ decimal low ∷
-    codes "\" r=\"4\"/>" ∷ [])
+open_line start top end low = line_between (codes "<line") start top end low
+    ++ (codes "/>" ++ circle (codes "<circle class=\"open\"") end low)
 
 -- a message: from its sender in the row of its put to its receiver in the row where it arrives;
 -- one that is never taken ends before its receiver, a little below the row of its put
@@ -105,18 +112,17 @@ message_line columns from to row None =
     open_line (lane_x columns from) (row_y row) (before_x columns from to) (row_y row + 9)
 
 -- words at a place; and words on one side of a lane, on its left where `back` says so
-unfoldable pub words : ℕ → ℕ → List ℕ → List ℕ
-words x y bytes =
-    end_to_end (codes "<text x=\"" ∷ decimal x ∷ codes "\" y=\"" ∷ decimal y ∷ codes "\">" ∷
+unfoldable pub words_in : List ℕ → ℕ → ℕ → List ℕ → List ℕ
+words_in tag x y bytes =
+    end_to_end (tag ∷ attribute (codes "x") x ∷ attribute (codes "y") y ∷ codes ">" ∷
     xml_words bytes ∷ codes "</text>" ∷ [])
 
-unfoldable pub words_to : ℕ → ℕ → List ℕ → List ℕ
-words_to x y bytes =
-    end_to_end (codes "<text class=\"back\" x=\"" ∷ decimal x ∷ codes "\" y=\"" ∷ decimal y ∷
-    codes "\">" ∷ xml_words bytes ∷ codes "</text>" ∷ [])
+abbrev pub words : ℕ → ℕ → List ℕ → List ℕ
+words x y bytes = words_in (codes "<text") x y bytes
 
 unfoldable pub words_beside : Bool → ℕ → ℕ → List ℕ → List ℕ
-words_beside back x y said = if back then words_to (x - 9) y said else words (x + 9) y said
+words_beside back x y said = if back then words_in (codes "<text class=\"back\"") (x - 9) y said
+    else words (x + 9) y said
 
 -- whether the label of a sign stands on its left: of a take whose message came from the right
 abbrev pub stands_back : Sign → Bool
@@ -153,21 +159,15 @@ svg_entries columns lanes entries =
     pieces_from (λ row e. svg_entry columns lanes row (arrival entries row e) e) 0 entries
 
 -- the box with a role's name
-unfoldable pub box_paper : ℕ → ℕ → ℕ → List ℕ
-box_paper x y wide =
-    end_to_end (codes "<rect x=\"" ∷ decimal x ∷ codes "\" y=\"" ∷ decimal y ∷
-    codes "\" width=\"" ∷ decimal wide ∷ codes "\" height=\"26\"/>" ∷ [])
-
 unfoldable pub name_box : ℕ → ℕ → ℕ → Role → List ℕ
 name_box columns y lane r = group_front (codes "role") r.0
-    ++ box_paper (half_gap columns * (lane + lane + 1) + 8) y (8 * columns + 8)
+    ++ rectangle (half_gap columns * (lane + lane + 1) + 8) y (8 * columns + 8) 26
     ++ words (lane_x columns lane) (y + 17) (shortened columns r.0) ++ codes "</g>\n"
 
 -- the line of a lane, and its box at the top
 unfoldable pub lane_line : ℕ → ℕ → List ℕ
 lane_line x floor =
-    end_to_end (codes "<line class=\"lane\" x1=\"" ∷ decimal x ∷ codes "\" y1=\"38\" x2=\"" ∷
-    decimal x ∷ codes "\" y2=\"" ∷ decimal floor ∷ codes "\"/>\n" ∷ [])
+    line_between (codes "<line class=\"lane\"") x 38 x floor ++ codes "/>\n"
 
 unfoldable pub svg_lane : ℕ → ℕ → ℕ → Role → List ℕ
 svg_lane columns floor lane r =
@@ -219,14 +219,14 @@ height rows = row_y rows + 62
 
 unfoldable pub svg_tag : ℕ → ℕ → List ℕ
 svg_tag wide high =
-    end_to_end (codes "<svg xmlns=\"http://www.w3.org/2000/svg\" width=\"" ∷ decimal wide ∷
-    codes "\" height=\"" ∷ decimal high ∷ codes "\" viewBox=\"0 0 " ∷ decimal wide ∷
-    codes " " ∷ decimal high ∷ codes "\">\n" ∷ [])
+    end_to_end (codes "<svg xmlns=\"http://www.w3.org/2000/svg\"" ∷
+    attribute (codes "width") wide ∷ attribute (codes "height") high ∷
+    codes " viewBox=\"0 0 " ∷ decimal wide ∷ codes " " ∷ decimal high ∷ codes "\">\n" ∷ [])
 
 unfoldable pub ground_text : ℕ → ℕ → List ℕ
 ground_text wide high =
-    end_to_end (codes "<rect class=\"ground\" width=\"" ∷ decimal wide ∷ codes "\" height=\"" ∷
-    decimal high ∷ codes "\"/>\n" ∷ [])
+    end_to_end (codes "<rect class=\"ground\"" ∷ attribute (codes "width") wide ∷
+    attribute (codes "height") high ∷ codes "/>\n" ∷ [])
 
 unfoldable pub svg_open : ℕ → ℕ → List ℕ
 svg_open wide high =

@@ -2,7 +2,7 @@
 
 ghost use Rattle.std.specs.Prelude.{◌≡◌, ◌++◌, flat_map, OnOk, OnErr};
 ghost use Rattle.text_pieces.specs.Pieces.{KeepsFront};
-ghost use Rattle.trace_picture.specs.Fragments.{xml_byte, xml_words, fragment_text};
+ghost use Rattle.trace_picture.specs.Fragments.{xml_byte, xml_words, fragment_text, attribute};
 
 use dioc_terms::Memory;
 use text_pieces::{write_bytes, write_number};
@@ -14,6 +14,8 @@ pub enum Fragment<'a> {
     Plain(&'a [u8]),
     /// The digits of a number.
     Number(u64),
+    /// An attribute of a tag, as ` x="5"`.
+    Attribute(&'a [u8], u64),
     /// Bytes as they stand in a text of an XML document.
     Marked(&'a [u8]),
 }
@@ -44,6 +46,18 @@ fn write_xml_words(bytes: &[u8], out: &mut Vec<u8>) -> Result<(), Memory>
     Ok(())
 }
 
+/// Appends an attribute of a tag that is a number.
+fn write_attribute(name: &[u8], number: u64, out: &mut Vec<u8>) -> Result<(), Memory>
+    ensures ok { OnOk result (out.new.items ≡ out.old.items ++ attribute name.now number) }
+    ensures memory { OnErr result (KeepsFront out.old.items out.new.items) }
+{
+    write_bytes(b" ", out)?;
+    write_bytes(name, out)?;
+    write_bytes(b"=\"", out)?;
+    write_number(number, out)?;
+    write_bytes(b"\"", out)
+}
+
 fn write_fragment(fragment: &Fragment<'_>, out: &mut Vec<u8>) -> Result<(), Memory>
     ensures ok { OnOk result (out.new.items ≡ out.old.items ++ fragment_text fragment.now) }
     ensures memory { OnErr result (KeepsFront out.old.items out.new.items) }
@@ -51,6 +65,7 @@ fn write_fragment(fragment: &Fragment<'_>, out: &mut Vec<u8>) -> Result<(), Memo
     match fragment {
         Fragment::Plain(bytes) => write_bytes(bytes, out),
         Fragment::Number(number) => write_number(*number, out),
+        Fragment::Attribute(name, number) => write_attribute(name, *number, out),
         Fragment::Marked(bytes) => write_xml_words(bytes, out),
     }
 }

@@ -5,18 +5,18 @@ ghost use Rattle.limits.specs.Limits.{most_roles};
 ghost use Rattle.text_pieces.specs.Pieces.{KeepsFront};
 ghost use Rattle.trace_picture.specs.Runs.{pieces_from};
 ghost use Rattle.trace_picture.specs.Shapes.{IsWithin};
-ghost use Rattle.trace_picture.specs.Svg.{most_columns, longest_label, columns_of, half_gap, lane_x, before_x, width, row_y, sign_class, shape_class, entry_class, stands_back, message_line, drawing, group_front, svg_entry, svg_entries, box_paper, name_box, lane_line, svg_lane, svg_head, svg_last, svg_tail, svg_picture};
+ghost use Rattle.trace_picture.specs.Svg.{most_columns, longest_label, columns_of, half_gap, lane_x, before_x, width, row_y, sign_class, shape_class, entry_class, stands_back, message_line, drawing, group_front, svg_entry, svg_entries, name_box, svg_lane, svg_head, svg_last, svg_tail, svg_picture};
 
 use crate::arrivals::arrivals_of;
-use crate::fragments::Fragment::{Marked, Number, Plain};
+use crate::fragments::Fragment::{Marked, Plain};
 use crate::fragments::write_fragments;
 use crate::labels::write_label;
 use crate::lanes::longest_name;
 use crate::runs::write_shortened;
 use crate::shapes::{Shape, Sign, shape_of};
 use crate::svg_parts::{
-    write_arrow, write_open, write_open_line, write_paper, write_sign, write_words,
-    write_words_beside,
+    write_arrow, write_lane_line, write_open, write_open_line, write_paper, write_rectangle,
+    write_sign, write_words, write_words_beside,
 };
 use dioc_terms::{Entry, Last, Memory, Role};
 use std::alloc::Global;
@@ -263,24 +263,6 @@ fn write_entry(
     write_bytes(b"</g>\n", out)
 }
 
-/// Appends the paper of the box with a role's name.
-#[tactic(auto, unfolding(crate::specs::Svg::box_paper))]
-fn write_box_paper(x: u64, y: u64, wide: u64, out: &mut Vec<u8>) -> Result<(), Memory>
-    ensures ok { OnOk result (out.new.items ≡ out.old.items ++ box_paper x y wide) }
-    ensures memory { OnErr result (KeepsFront out.old.items out.new.items) }
-{
-    let fragments = [
-        Plain(b"<rect x=\""),
-        Number(x),
-        Plain(b"\" y=\""),
-        Number(y),
-        Plain(b"\" width=\""),
-        Number(wide),
-        Plain(b"\" height=\"26\"/>"),
-    ];
-    write_fragments(&fragments, out)
-}
-
 /// Appends the box with a role's name.
 #[tactic(auto, unfolding(crate::specs::Svg::name_box))]
 fn write_box(
@@ -302,27 +284,9 @@ fn write_box(
     write_shortened(role.0.bytes(), columns, &mut shown)?;
     write_title(b"role", role.0.bytes(), out)?;
     let x = half_gap(columns) * (lane as u64 + lane as u64 + 1) + 8;
-    write_box_paper(x, y, 8 * columns as u64 + 8, out)?;
+    write_rectangle(x, y, 8 * columns as u64 + 8, 26, out)?;
     write_words(lane_x(columns, lane), y + 17, &shown, out)?;
     write_bytes(b"</g>\n", out)
-}
-
-/// Appends the line of a lane at `x`, down to `floor`.
-#[tactic(auto, unfolding(crate::specs::Svg::lane_line))]
-fn write_lane_line(x: u64, floor: u64, out: &mut Vec<u8>) -> Result<(), Memory>
-    ensures ok { OnOk result (out.new.items ≡ out.old.items ++ lane_line x floor) }
-    ensures memory { OnErr result (KeepsFront out.old.items out.new.items) }
-{
-    let fragments = [
-        Plain(b"<line class=\"lane\" x1=\""),
-        Number(x),
-        Plain(b"\" y1=\"38\" x2=\""),
-        Number(x),
-        Plain(b"\" y2=\""),
-        Number(floor),
-        Plain(b"\"/>\n"),
-    ];
-    write_fragments(&fragments, out)
 }
 
 /// Appends the line of a lane, down to `floor`, and its box at the top.

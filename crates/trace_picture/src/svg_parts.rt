@@ -2,46 +2,59 @@
 
 ghost use Rattle.std.specs.Prelude.{◌≡◌, ◌≤◌, ◌<◌, ◌^◌, ◌++◌, OnOk, OnErr};
 ghost use Rattle.text_pieces.specs.Pieces.{KeepsFront};
-ghost use Rattle.trace_picture.specs.Svg.{dot, paper, sign_mark, arrow_line, open_line, words, words_to, words_beside, style_text, dark_text, tip_text, svg_tag, ground_text, svg_open};
+ghost use Rattle.trace_picture.specs.Svg.{circle, rectangle, paper, sign_mark, line_between, arrow_line, open_line, lane_line, words_in, words, words_beside, style_text, dark_text, tip_text, svg_tag, ground_text, svg_open};
 
-use crate::fragments::Fragment::{Marked, Number, Plain};
+use crate::fragments::Fragment::{Attribute, Marked, Number, Plain};
 use crate::fragments::write_fragments;
 use crate::shapes::Sign;
 use dioc_terms::Memory;
+use text_pieces::write_bytes;
 
-/// Appends a dot on a lane.
-#[tactic(auto, unfolding(crate::specs::Svg::dot))]
-fn write_dot(x: u64, y: u64, out: &mut Vec<u8>) -> Result<(), Memory>
-    ensures ok { OnOk result (out.new.items ≡ out.old.items ++ dot x y) }
+/// Appends a circle around a place, in a tag that begins so.
+#[tactic(auto, unfolding(crate::specs::Svg::circle))]
+fn write_circle<'a>(tag: &'a [u8], x: u64, y: u64, out: &mut Vec<u8>) -> Result<(), Memory>
+    ensures ok { OnOk result (out.new.items ≡ out.old.items ++ circle tag.now x y) }
     ensures memory { OnErr result (KeepsFront out.old.items out.new.items) }
 {
     let fragments = [
-        Plain(b"<circle cx=\""),
-        Number(x),
-        Plain(b"\" cy=\""),
-        Number(y),
-        Plain(b"\" r=\"4\"/>"),
+        Plain(tag),
+        Attribute(b"cx", x),
+        Attribute(b"cy", y),
+        Plain(b" r=\"4\"/>"),
+    ];
+    write_fragments(&fragments, out)
+}
+
+/// Appends a rectangle below and beside a place.
+#[tactic(auto, unfolding(crate::specs::Svg::rectangle))]
+pub fn write_rectangle(
+    x: u64,
+    y: u64,
+    wide: u64,
+    high: u64,
+    out: &mut Vec<u8>,
+) -> Result<(), Memory>
+    ensures ok { OnOk result (out.new.items ≡ out.old.items ++ rectangle x y wide high) }
+    ensures memory { OnErr result (KeepsFront out.old.items out.new.items) }
+{
+    let fragments = [
+        Plain(b"<rect"),
+        Attribute(b"x", x),
+        Attribute(b"y", y),
+        Attribute(b"width", wide),
+        Attribute(b"height", high),
+        Plain(b"/>"),
     ];
     write_fragments(&fragments, out)
 }
 
 /// Appends the paper of a note.
-#[tactic(auto, unfolding(crate::specs::Svg::paper))]
 pub fn write_paper(x: u64, y: u64, wide: u64, out: &mut Vec<u8>) -> Result<(), Memory>
     requires low { 11 ≤ y }
     ensures ok { OnOk result (out.new.items ≡ out.old.items ++ paper x y wide) }
     ensures memory { OnErr result (KeepsFront out.old.items out.new.items) }
 {
-    let fragments = [
-        Plain(b"<rect x=\""),
-        Number(x),
-        Plain(b"\" y=\""),
-        Number(y - 11),
-        Plain(b"\" width=\""),
-        Number(wide),
-        Plain(b"\" height=\"22\"/>"),
-    ];
-    write_fragments(&fragments, out)
+    write_rectangle(x, y - 11, wide, 22, out)
 }
 
 /// Appends a sign: a dot, and of a scope the paper of a note.
@@ -54,12 +67,36 @@ pub fn write_sign(sign: Sign, x: u64, y: u64, wide: u64, out: &mut Vec<u8>) -> R
     match sign {
         Sign::Keep => write_paper(x, y, wide, out),
         Sign::Replace => write_paper(x, y, wide, out),
-        Sign::Take { .. } => write_dot(x, y, out),
-        Sign::Set => write_dot(x, y, out),
-        Sign::Input => write_dot(x, y, out),
-        Sign::Pick => write_dot(x, y, out),
-        Sign::Own => write_dot(x, y, out),
+        Sign::Take { .. } => write_circle(b"<circle", x, y, out),
+        Sign::Set => write_circle(b"<circle", x, y, out),
+        Sign::Input => write_circle(b"<circle", x, y, out),
+        Sign::Pick => write_circle(b"<circle", x, y, out),
+        Sign::Own => write_circle(b"<circle", x, y, out),
     }
+}
+
+/// Appends a line from one place to another, in a tag that begins so and goes on.
+#[tactic(auto, unfolding(crate::specs::Svg::line_between))]
+fn write_line_between<'a>(
+    tag: &'a [u8],
+    start: u64,
+    top: u64,
+    end: u64,
+    low: u64,
+    out: &mut Vec<u8>,
+) -> Result<(), Memory>
+    ensures ok { OnOk result (out.new.items ≡ out.old.items
+        ++ line_between tag.now start top end low) }
+    ensures memory { OnErr result (KeepsFront out.old.items out.new.items) }
+{
+    let fragments = [
+        Plain(tag),
+        Attribute(b"x1", start),
+        Attribute(b"y1", top),
+        Attribute(b"x2", end),
+        Attribute(b"y2", low),
+    ];
+    write_fragments(&fragments, out)
 }
 
 /// Appends a line with a tip at its end.
@@ -74,18 +111,8 @@ pub fn write_arrow(
     ensures ok { OnOk result (out.new.items ≡ out.old.items ++ arrow_line start top end low) }
     ensures memory { OnErr result (KeepsFront out.old.items out.new.items) }
 {
-    let fragments = [
-        Plain(b"<line x1=\""),
-        Number(start),
-        Plain(b"\" y1=\""),
-        Number(top),
-        Plain(b"\" x2=\""),
-        Number(end),
-        Plain(b"\" y2=\""),
-        Number(low),
-        Plain(b"\" marker-end=\"url(#tip)\"/>"),
-    ];
-    write_fragments(&fragments, out)
+    write_line_between(b"<line", start, top, end, low, out)?;
+    write_bytes(b" marker-end=\"url(#tip)\"/>", out)
 }
 
 /// Appends a line with an open circle at its end.
@@ -100,58 +127,50 @@ pub fn write_open_line(
     ensures ok { OnOk result (out.new.items ≡ out.old.items ++ open_line start top end low) }
     ensures memory { OnErr result (KeepsFront out.old.items out.new.items) }
 {
+    write_line_between(b"<line", start, top, end, low, out)?;
+    write_bytes(b"/>", out)?;
+    write_circle(b"<circle class=\"open\"", end, low, out)
+}
+
+/// Appends the line of a lane at `x`, down to `floor`.
+#[tactic(auto, unfolding(crate::specs::Svg::lane_line))]
+pub fn write_lane_line(x: u64, floor: u64, out: &mut Vec<u8>) -> Result<(), Memory>
+    ensures ok { OnOk result (out.new.items ≡ out.old.items ++ lane_line x floor) }
+    ensures memory { OnErr result (KeepsFront out.old.items out.new.items) }
+{
+    write_line_between(b"<line class=\"lane\"", x, 38, x, floor, out)?;
+    write_bytes(b"/>\n", out)
+}
+
+/// Appends words at a place, in a tag that begins so.
+#[tactic(auto, unfolding(crate::specs::Svg::words_in))]
+fn write_words_in<'a>(
+    tag: &'a [u8],
+    x: u64,
+    y: u64,
+    bytes: &'a [u8],
+    out: &mut Vec<u8>,
+) -> Result<(), Memory>
+    ensures ok { OnOk result (out.new.items ≡ out.old.items ++ words_in tag.now x y bytes.now) }
+    ensures memory { OnErr result (KeepsFront out.old.items out.new.items) }
+{
     let fragments = [
-        Plain(b"<line x1=\""),
-        Number(start),
-        Plain(b"\" y1=\""),
-        Number(top),
-        Plain(b"\" x2=\""),
-        Number(end),
-        Plain(b"\" y2=\""),
-        Number(low),
-        Plain(b"\"/><circle class=\"open\" cx=\""),
-        Number(end),
-        Plain(b"\" cy=\""),
-        Number(low),
-        Plain(b"\" r=\"4\"/>"),
+        Plain(tag),
+        Attribute(b"x", x),
+        Attribute(b"y", y),
+        Plain(b">"),
+        Marked(bytes),
+        Plain(b"</text>"),
     ];
     write_fragments(&fragments, out)
 }
 
 /// Appends words at a place.
-#[tactic(auto, unfolding(crate::specs::Svg::words))]
 pub fn write_words(x: u64, y: u64, bytes: &[u8], out: &mut Vec<u8>) -> Result<(), Memory>
     ensures ok { OnOk result (out.new.items ≡ out.old.items ++ words x y bytes.now) }
     ensures memory { OnErr result (KeepsFront out.old.items out.new.items) }
 {
-    let fragments = [
-        Plain(b"<text x=\""),
-        Number(x),
-        Plain(b"\" y=\""),
-        Number(y),
-        Plain(b"\">"),
-        Marked(bytes),
-        Plain(b"</text>"),
-    ];
-    write_fragments(&fragments, out)
-}
-
-/// Appends words that end at a place.
-#[tactic(auto, unfolding(crate::specs::Svg::words_to))]
-fn write_words_to(x: u64, y: u64, bytes: &[u8], out: &mut Vec<u8>) -> Result<(), Memory>
-    ensures ok { OnOk result (out.new.items ≡ out.old.items ++ words_to x y bytes.now) }
-    ensures memory { OnErr result (KeepsFront out.old.items out.new.items) }
-{
-    let fragments = [
-        Plain(b"<text class=\"back\" x=\""),
-        Number(x),
-        Plain(b"\" y=\""),
-        Number(y),
-        Plain(b"\">"),
-        Marked(bytes),
-        Plain(b"</text>"),
-    ];
-    write_fragments(&fragments, out)
+    write_words_in(b"<text", x, y, bytes, out)
 }
 
 /// Appends words beside a lane, on its left where `back` says so.
@@ -168,7 +187,7 @@ pub fn write_words_beside(
     ensures memory { OnErr result (KeepsFront out.old.items out.new.items) }
 {
     if back {
-        write_words_to(x - 9, y, said, out)
+        write_words_in(b"<text class=\"back\"", x - 9, y, said, out)
     } else {
         write_words(x + 9, y, said, out)
     }
@@ -246,11 +265,10 @@ fn write_tag(wide: u64, high: u64, out: &mut Vec<u8>) -> Result<(), Memory>
     ensures memory { OnErr result (KeepsFront out.old.items out.new.items) }
 {
     let fragments = [
-        Plain(b"<svg xmlns=\"http://www.w3.org/2000/svg\" width=\""),
-        Number(wide),
-        Plain(b"\" height=\""),
-        Number(high),
-        Plain(b"\" viewBox=\"0 0 "),
+        Plain(b"<svg xmlns=\"http://www.w3.org/2000/svg\""),
+        Attribute(b"width", wide),
+        Attribute(b"height", high),
+        Plain(b" viewBox=\"0 0 "),
         Number(wide),
         Plain(b" "),
         Number(high),
@@ -266,11 +284,10 @@ fn write_ground(wide: u64, high: u64, out: &mut Vec<u8>) -> Result<(), Memory>
     ensures memory { OnErr result (KeepsFront out.old.items out.new.items) }
 {
     let fragments = [
-        Plain(b"<rect class=\"ground\" width=\""),
-        Number(wide),
-        Plain(b"\" height=\""),
-        Number(high),
-        Plain(b"\"/>\n"),
+        Plain(b"<rect class=\"ground\""),
+        Attribute(b"width", wide),
+        Attribute(b"height", high),
+        Plain(b"/>\n"),
     ];
     write_fragments(&fragments, out)
 }

@@ -1,4 +1,4 @@
-//! The lines of a trace, read from the tokens of a text.
+//! Reads the lines of a trace from the tokens of a text.
 #![tactic(auto)]
 
 mod entries;

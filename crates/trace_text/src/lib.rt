@@ -1,4 +1,4 @@
-//! The lines of a trace, the text of a run, and the text of a process.
+//! Writes the lines of a trace, the text of a run, and the text of a process.
 #![tactic(auto)]
 
 mod json_lines;

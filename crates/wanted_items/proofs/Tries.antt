@@ -13,18 +13,18 @@ use Rattle.aioc_tokens.proofs.Written.{spelled_lexemes}
 use Rattle.text_places.specs.Laws.{HasTokens}
 use Rattle.wanted_tokens.specs.declared.goals.Goal.{Goal}
 use Rattle.wanted_tokens.specs.declared.looks.Look.{Look}
+use Rattle.wanted_tokens.specs.declared.looks.PlaceWord.{PlaceWord}
+use Rattle.wanted_tokens.specs.declared.looks.PlaceWord.TheVariants as word
 use Rattle.wanted_tokens.specs.Takings.{GoalEffect, Takes, Passes, Stops}
 use Rattle.wanted_tokens.specs.Wanted.{Reading, taking, version_behind, answer, reading_behind}
 use Rattle.wanted_items.specs.declared.items.Item.{Item}
 use Rattle.wanted_items.specs.declared.items.Item.TheVariants as item
-use Rattle.wanted_items.specs.declared.items.Placed.{Placed}
-use Rattle.wanted_items.specs.declared.items.Placed.TheVariants as word
 use Rattle.wanted_items.specs.declared.walks.Walk.{Walk}
 use Rattle.wanted_items.specs.Items.{lexeme_of, is_wanted}
 use Rattle.wanted_items.specs.Walks.{IsTakenBy, IsWalk}
 
 -- each item's token can be written
-placed_formed : (placed : Placed) → HasSpelling (lexeme_of (item.Placed placed))
+placed_formed : (placed : PlaceWord) → HasSpelling (lexeme_of (item.Placed placed))
 unfolding word_of
 placed_formed word.Version = ((refl, refl), omega arith, refl)
 placed_formed word.Rules = ((refl, refl), omega arith, refl)

@@ -5,5 +5,5 @@ mod items;
 mod trials;
 mod walks;
 
-pub use items::{Item, Placed};
+pub use items::Item;
 pub use trials::{ITEMS, may_end, wanted};

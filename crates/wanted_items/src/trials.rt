@@ -7,13 +7,13 @@ ghost use Rattle.wanted_tokens.specs.Looks.{look};
 ghost use Rattle.wanted_items.specs.Items.{lexeme_of, is_wanted, may_end};
 ghost use Rattle.wanted_items.specs.Walks.{IsWalk, TakesItem};
 
-use crate::items::{Item, Placed};
+use crate::items::Item;
 use crate::walks::{Walk, walk_to};
 use aioc_tokens::{Lexed, Punctuator, Token, Word};
 use dioc_terms::Memory;
 use std::alloc::Global;
 use text_places::tokens_of;
-use wanted_tokens::{Goal, Look, look_at};
+use wanted_tokens::{Goal, Look, PlaceWord, look_at};
 
 /// All items, in the order in which a person is told of them.
 pub const ITEMS: [Item; 78] = [
@@ -40,33 +40,33 @@ pub const ITEMS: [Item; 78] = [
     Item::Reserved(Word::Input),
     Item::Reserved(Word::N),
     Item::Reserved(Word::E),
-    Item::Placed(Placed::Version),
-    Item::Placed(Placed::Rules),
-    Item::Placed(Placed::Env),
-    Item::Placed(Placed::Inputs),
-    Item::Placed(Placed::Script),
-    Item::Placed(Placed::Trace),
-    Item::Placed(Placed::After),
-    Item::Placed(Placed::Add),
-    Item::Placed(Placed::Drop),
-    Item::Placed(Placed::Roles),
-    Item::Placed(Placed::Priority),
-    Item::Placed(Placed::Put),
-    Item::Placed(Placed::Take),
-    Item::Placed(Placed::Set),
-    Item::Placed(Placed::Pick),
-    Item::Placed(Placed::Ended),
-    Item::Placed(Placed::Stopped),
-    Item::Placed(Placed::Done),
-    Item::Placed(Placed::Keep),
-    Item::Placed(Placed::Part),
-    Item::Placed(Placed::As),
-    Item::Placed(Placed::Choice),
-    Item::Placed(Placed::Go),
-    Item::Placed(Placed::Turn),
-    Item::Placed(Placed::Begin),
-    Item::Placed(Placed::End),
-    Item::Placed(Placed::Out),
+    Item::Placed(PlaceWord::Version),
+    Item::Placed(PlaceWord::Rules),
+    Item::Placed(PlaceWord::Env),
+    Item::Placed(PlaceWord::Inputs),
+    Item::Placed(PlaceWord::Script),
+    Item::Placed(PlaceWord::Trace),
+    Item::Placed(PlaceWord::After),
+    Item::Placed(PlaceWord::Add),
+    Item::Placed(PlaceWord::Drop),
+    Item::Placed(PlaceWord::Roles),
+    Item::Placed(PlaceWord::Priority),
+    Item::Placed(PlaceWord::Put),
+    Item::Placed(PlaceWord::Take),
+    Item::Placed(PlaceWord::Set),
+    Item::Placed(PlaceWord::Pick),
+    Item::Placed(PlaceWord::Ended),
+    Item::Placed(PlaceWord::Stopped),
+    Item::Placed(PlaceWord::Done),
+    Item::Placed(PlaceWord::Keep),
+    Item::Placed(PlaceWord::Part),
+    Item::Placed(PlaceWord::As),
+    Item::Placed(PlaceWord::Choice),
+    Item::Placed(PlaceWord::Go),
+    Item::Placed(PlaceWord::Turn),
+    Item::Placed(PlaceWord::Begin),
+    Item::Placed(PlaceWord::End),
+    Item::Placed(PlaceWord::Out),
     Item::Symbol(Punctuator::Semicolon),
     Item::Symbol(Punctuator::Comma),
     Item::Symbol(Punctuator::Colon),

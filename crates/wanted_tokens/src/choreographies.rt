@@ -6,130 +6,66 @@ ghost use Rattle.wanted_tokens.specs.declared.goals.Goal.{Goal};
 ghost use Rattle.wanted_tokens.specs.Choreographies.{step_before, take_step, step_behind_name, assigned, more_steps, next_step, more_parts, otherwise, extra_roles, more_names, properties, first_property, more_properties};
 
 use crate::expressions::expression;
-use crate::goals::Goal;
+use crate::goals::Goal::{
+    self, ExtraRoles, MoreParts, MoreSteps, Name, Otherwise, Properties, Step, Value,
+};
+use crate::goals::{
+    A_NAME, ARROW, AT, BLOCK, DOT, EQUAL, EXPRESSION, OPEN_BRACE, OPEN_PAREN, SHUT_BRACE,
+    SHUT_PAREN,
+};
 use crate::looks::{Look, PlaceWord};
 use crate::takings::{NOTHING, Taking, takes, takes_before};
 use aioc_tokens::{Punctuator, Word};
 use expr_syntax::ExprKind;
 
-/// `{ choreo }`
-const BLOCK: [Goal; 5] = [
-    Goal::Symbol(Punctuator::LeftBrace),
-    Goal::Step,
-    Goal::MoreSteps,
-    Goal::MoreParts,
-    Goal::Symbol(Punctuator::RightBrace),
-];
-
 /// Behind `if`.
 const CONDITIONAL: [Goal; 9] = [
-    Goal::Expression(ExprKind::Step),
-    Goal::Symbol(Punctuator::At),
-    Goal::Name,
-    Goal::Symbol(Punctuator::LeftBrace),
-    Goal::Step,
-    Goal::MoreSteps,
-    Goal::MoreParts,
-    Goal::Symbol(Punctuator::RightBrace),
-    Goal::Otherwise,
+    EXPRESSION, AT, Name, OPEN_BRACE, Step, MoreSteps, MoreParts, SHUT_BRACE, Otherwise,
 ];
 
 /// Behind `while`.
 const LOOP: [Goal; 8] = [
-    Goal::Expression(ExprKind::Step),
-    Goal::Symbol(Punctuator::At),
-    Goal::Name,
-    Goal::Symbol(Punctuator::LeftBrace),
-    Goal::Step,
-    Goal::MoreSteps,
-    Goal::MoreParts,
-    Goal::Symbol(Punctuator::RightBrace),
+    EXPRESSION, AT, Name, OPEN_BRACE, Step, MoreSteps, MoreParts, SHUT_BRACE,
 ];
 
 /// Behind `scope`.
 const SCOPE: [Goal; 9] = [
-    Goal::Symbol(Punctuator::At),
-    Goal::Name,
-    Goal::Symbol(Punctuator::LeftBrace),
-    Goal::Step,
-    Goal::MoreSteps,
-    Goal::MoreParts,
-    Goal::Symbol(Punctuator::RightBrace),
-    Goal::ExtraRoles,
-    Goal::Properties,
+    AT, Name, OPEN_BRACE, Step, MoreSteps, MoreParts, SHUT_BRACE, ExtraRoles, Properties,
 ];
 
 /// Behind `(`.
-const GROUP: [Goal; 4] = [
-    Goal::Step,
-    Goal::MoreSteps,
-    Goal::MoreParts,
-    Goal::Symbol(Punctuator::RightParen),
-];
+const GROUP: [Goal; 4] = [Step, MoreSteps, MoreParts, SHUT_PAREN];
 
 /// Behind the name at the front of a step.
 const BEHIND_NAME: [Goal; 1] = [Goal::StepBehindName];
 
 /// Behind the `:` of an interaction.
 const SENDING: [Goal; 9] = [
-    Goal::Name,
-    Goal::Symbol(Punctuator::LeftParen),
-    Goal::Expression(ExprKind::Step),
-    Goal::Symbol(Punctuator::RightParen),
-    Goal::Symbol(Punctuator::Arrow),
-    Goal::Name,
-    Goal::Symbol(Punctuator::LeftParen),
-    Goal::Name,
-    Goal::Symbol(Punctuator::RightParen),
+    Name, OPEN_PAREN, EXPRESSION, SHUT_PAREN, ARROW, Name, OPEN_PAREN, Name, SHUT_PAREN,
 ];
 
 /// Behind the `@` of an assignment.
-const ASSIGNMENT: [Goal; 3] = [Goal::Name, Goal::Symbol(Punctuator::Equal), Goal::Assigned];
+const ASSIGNMENT: [Goal; 3] = [Name, EQUAL, Goal::Assigned];
 
 /// Behind `input`.
-const INPUT: [Goal; 2] = [
-    Goal::Symbol(Punctuator::LeftParen),
-    Goal::Symbol(Punctuator::RightParen),
-];
+const INPUT: [Goal; 2] = [OPEN_PAREN, SHUT_PAREN];
 
 const NEXT_STEP: [Goal; 1] = [Goal::NextStep];
 
 /// Behind `|`.
-const PART: [Goal; 2] = [Goal::Step, Goal::MoreSteps];
+const PART: [Goal; 2] = [Step, MoreSteps];
 
 /// Behind `roles`.
-const NAMES: [Goal; 4] = [
-    Goal::Symbol(Punctuator::LeftBrace),
-    Goal::Name,
-    Goal::MoreNames,
-    Goal::Symbol(Punctuator::RightBrace),
-];
-
-const A_NAME: [Goal; 1] = [Goal::Name];
+const NAMES: [Goal; 4] = [OPEN_BRACE, Name, Goal::MoreNames, SHUT_BRACE];
 
 /// Behind `prop`.
-const PROPERTIES: [Goal; 3] = [
-    Goal::Symbol(Punctuator::LeftBrace),
-    Goal::FirstProperty,
-    Goal::Symbol(Punctuator::RightBrace),
-];
+const PROPERTIES: [Goal; 3] = [OPEN_BRACE, Goal::FirstProperty, SHUT_BRACE];
 
 /// Behind the `N` of a property.
-const PROPERTY: [Goal; 4] = [
-    Goal::Symbol(Punctuator::Dot),
-    Goal::Name,
-    Goal::Symbol(Punctuator::Equal),
-    Goal::Value,
-];
+const PROPERTY: [Goal; 4] = [DOT, Name, EQUAL, Value];
 
 /// Behind the `,` before a property.
-const ANOTHER: [Goal; 5] = [
-    Goal::Reserved(Word::N),
-    Goal::Symbol(Punctuator::Dot),
-    Goal::Name,
-    Goal::Symbol(Punctuator::Equal),
-    Goal::Value,
-];
+const ANOTHER: [Goal; 5] = [Goal::Reserved(Word::N), DOT, Name, EQUAL, Value];
 
 /// A step, and this goal behind it.
 fn step_before(last: Option<Goal>, look: Look) -> Taking

@@ -4,7 +4,7 @@ ghost use Rattle.std.specs.Prelude.{◌≡◌};
 ghost use Rattle.wanted_tokens.specs.Takings.{effect};
 ghost use Rattle.wanted_tokens.specs.Expressions.{value, more_values, bracketed, word_operand, take_operand, take_expression, take_negated, take_compared, take_joined, symbol_behind, more_operands};
 
-use crate::goals::Goal;
+use crate::goals::{CONDITION, DOT, EXPRESSION, Goal, SHUT_PAREN};
 use crate::looks::Look;
 use crate::takings::{NOTHING, Taking, takes, takes_before};
 use aioc_tokens::{Punctuator, Word};
@@ -14,17 +14,11 @@ const NEGATIVE: [Goal; 1] = [Goal::Number(GREATEST_NEGATED)];
 
 const A_VALUE: [Goal; 1] = [Goal::Value];
 
-const MEMBER: [Goal; 2] = [Goal::Symbol(Punctuator::Dot), Goal::Name];
+const MEMBER: [Goal; 2] = [DOT, Goal::Name];
 
-const BRACKETED_OF_STEP: [Goal; 2] = [
-    Goal::Expression(ExprKind::Step),
-    Goal::Symbol(Punctuator::RightParen),
-];
+const BRACKETED_OF_STEP: [Goal; 2] = [EXPRESSION, SHUT_PAREN];
 
-const BRACKETED_OF_CONDITION: [Goal; 2] = [
-    Goal::Expression(ExprKind::Condition),
-    Goal::Symbol(Punctuator::RightParen),
-];
+const BRACKETED_OF_CONDITION: [Goal; 2] = [CONDITION, SHUT_PAREN];
 
 /// A value.
 pub fn value(look: Look) -> Taking

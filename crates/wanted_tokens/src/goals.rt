@@ -3,6 +3,49 @@
 use aioc_tokens::{Punctuator, Word};
 use expr_syntax::ExprKind;
 
+pub const OPEN_BRACE: Goal = Goal::Symbol(Punctuator::LeftBrace);
+
+pub const SHUT_BRACE: Goal = Goal::Symbol(Punctuator::RightBrace);
+
+pub const OPEN_PAREN: Goal = Goal::Symbol(Punctuator::LeftParen);
+
+pub const SHUT_PAREN: Goal = Goal::Symbol(Punctuator::RightParen);
+
+pub const SEMICOLON: Goal = Goal::Symbol(Punctuator::Semicolon);
+
+pub const COLON: Goal = Goal::Symbol(Punctuator::Colon);
+
+pub const EQUAL: Goal = Goal::Symbol(Punctuator::Equal);
+
+pub const AT: Goal = Goal::Symbol(Punctuator::At);
+
+pub const ARROW: Goal = Goal::Symbol(Punctuator::Arrow);
+
+pub const DOT: Goal = Goal::Symbol(Punctuator::Dot);
+
+pub const HASH: Goal = Goal::Symbol(Punctuator::Hash);
+
+/// An expression of a step.
+pub const EXPRESSION: Goal = Goal::Expression(ExprKind::Step);
+
+/// The condition of a rule.
+pub const CONDITION: Goal = Goal::Expression(ExprKind::Condition);
+
+/// A name alone, as behind `drop`.
+pub const A_NAME: [Goal; 1] = [Goal::Name];
+
+/// A name and its value, as behind `env`.
+pub const BOUND: [Goal; 3] = [Goal::Name, EQUAL, Goal::Value];
+
+/// `{ choreo }`
+pub const BLOCK: [Goal; 5] = [
+    OPEN_BRACE,
+    Goal::Step,
+    Goal::MoreSteps,
+    Goal::MoreParts,
+    SHUT_BRACE,
+];
+
 /// What may be wanted next in a text: one token, or a part that begins with one.
 #[derive(Clone, Copy)]
 pub enum Goal {

@@ -13,5 +13,5 @@ mod tokens;
 mod traces;
 
 pub use goals::Goal;
-pub use looks::{Look, look_at};
+pub use looks::{Look, PlaceWord, look_at};
 pub use stack::{first_unwanted, is_over, take};

@@ -7,7 +7,7 @@ use aioc_tokens::{Lexed, Punctuator, Sort, Word};
 use expr_syntax::{GREATEST_NEGATED, number_at};
 
 /// A word that has a meaning only in its place. It isn't reserved, so elsewhere it is a name.
-#[derive(Clone, Copy)]
+#[derive(Clone, Copy, PartialEq, Eq)]
 pub enum PlaceWord {
     Version,
     Session,
@@ -88,7 +88,7 @@ const PLACE_WORDS: [PlaceWord; 28] = [
 
 impl PlaceWord {
     /// How the word is spelled.
-    fn spelling(self) -> &'static [u8]
+    pub fn spelling(self) -> &'static [u8]
         ensures { result.now ≡ place_word_spelling self }
     {
         match self {

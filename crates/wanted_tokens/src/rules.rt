@@ -4,55 +4,30 @@ ghost use Rattle.std.specs.Prelude.{◌≡◌};
 ghost use Rattle.wanted_tokens.specs.Takings.{effect};
 ghost use Rattle.wanted_tokens.specs.Rules.{rules, priority, rank, change};
 
-use crate::goals::Goal;
+use crate::goals::Goal::{self, MoreParts, MoreSteps, Name, Priority, Step};
+use crate::goals::{A_NAME, BOUND, CONDITION, OPEN_BRACE, SHUT_BRACE};
 use crate::looks::{Look, PlaceWord};
 use crate::takings::{NOTHING, Taking, takes, takes_before};
 use aioc_tokens::{Punctuator, Word};
-use expr_syntax::ExprKind;
 use limits::MOST_PRIORITY;
+
+const RULE_WORD: Goal = Goal::Reserved(Word::Rule);
+
+const ON: Goal = Goal::Reserved(Word::On);
+
+const DO: Goal = Goal::Reserved(Word::Do);
 
 /// Behind `rule`.
 const RULE: [Goal; 14] = [
-    Goal::Name,
-    Goal::Priority,
-    Goal::Symbol(Punctuator::LeftBrace),
-    Goal::Reserved(Word::On),
-    Goal::Symbol(Punctuator::LeftBrace),
-    Goal::Expression(ExprKind::Condition),
-    Goal::Symbol(Punctuator::RightBrace),
-    Goal::Reserved(Word::Do),
-    Goal::Symbol(Punctuator::LeftBrace),
-    Goal::Step,
-    Goal::MoreSteps,
-    Goal::MoreParts,
-    Goal::Symbol(Punctuator::RightBrace),
-    Goal::Symbol(Punctuator::RightBrace),
+    Name, Priority, OPEN_BRACE, ON, OPEN_BRACE, CONDITION, SHUT_BRACE, DO, OPEN_BRACE, Step,
+    MoreSteps, MoreParts, SHUT_BRACE, SHUT_BRACE,
 ];
 
 /// Behind `add`.
 const ADDED: [Goal; 15] = [
-    Goal::Reserved(Word::Rule),
-    Goal::Name,
-    Goal::Priority,
-    Goal::Symbol(Punctuator::LeftBrace),
-    Goal::Reserved(Word::On),
-    Goal::Symbol(Punctuator::LeftBrace),
-    Goal::Expression(ExprKind::Condition),
-    Goal::Symbol(Punctuator::RightBrace),
-    Goal::Reserved(Word::Do),
-    Goal::Symbol(Punctuator::LeftBrace),
-    Goal::Step,
-    Goal::MoreSteps,
-    Goal::MoreParts,
-    Goal::Symbol(Punctuator::RightBrace),
-    Goal::Symbol(Punctuator::RightBrace),
+    RULE_WORD, Name, Priority, OPEN_BRACE, ON, OPEN_BRACE, CONDITION, SHUT_BRACE, DO, OPEN_BRACE,
+    Step, MoreSteps, MoreParts, SHUT_BRACE, SHUT_BRACE,
 ];
-
-/// Behind `drop`.
-const DROPPED: [Goal; 1] = [Goal::Name];
-
-/// Behind `env`.
-const BOUND: [Goal; 3] = [Goal::Name, Goal::Symbol(Punctuator::Equal), Goal::Value];
 
 const RANK: [Goal; 1] = [Goal::Rank];
 
@@ -95,7 +70,7 @@ pub fn change(look: Look) -> Taking
 {
     match look {
         Look::Name(Some(PlaceWord::Add)) => takes(ADDED.as_slice()),
-        Look::Name(Some(PlaceWord::Drop)) => takes(DROPPED.as_slice()),
+        Look::Name(Some(PlaceWord::Drop)) => takes(A_NAME.as_slice()),
         Look::Name(Some(PlaceWord::Env)) => takes(BOUND.as_slice()),
         _ => Taking::Stops,
     }

@@ -5,83 +5,42 @@ ghost use Rattle.wanted_tokens.specs.Takings.{effect, Passes, Stops};
 ghost use Rattle.wanted_tokens.specs.declared.goals.Goal.{Goal};
 ghost use Rattle.wanted_tokens.specs.Sections.{bindings, inputs, take_script, take_repeated, take_traced, sections, sections_behind_trace, later_sections, last_sections, bundle, session};
 
-use crate::goals::Goal;
+use crate::goals::Goal::{self, Value};
+use crate::goals::{BLOCK, COLON, EQUAL, OPEN_BRACE, SEMICOLON, SHUT_BRACE};
 use crate::looks::{Look, PlaceWord};
 use crate::takings::{Taking, takes, takes_before};
 use aioc_tokens::{Punctuator, Word};
 use expr_syntax::GREATEST;
 
 /// Behind the name of a binding.
-const BINDING: [Goal; 3] = [
-    Goal::Symbol(Punctuator::Equal),
-    Goal::Value,
-    Goal::Symbol(Punctuator::Semicolon),
-];
+const BINDING: [Goal; 3] = [EQUAL, Value, SEMICOLON];
 
 /// Behind the role of inputs.
-const INPUT: [Goal; 4] = [
-    Goal::Symbol(Punctuator::Colon),
-    Goal::Value,
-    Goal::MoreValues,
-    Goal::Symbol(Punctuator::Semicolon),
-];
+const INPUT: [Goal; 4] = [COLON, Value, Goal::MoreValues, SEMICOLON];
 
 /// Behind `after`.
 const TIMED: [Goal; 2] = [Goal::Number(GREATEST), Goal::Change];
 
-/// Behind `aioc`.
-const CHOREOGRAPHY: [Goal; 5] = [
-    Goal::Symbol(Punctuator::LeftBrace),
-    Goal::Step,
-    Goal::MoreSteps,
-    Goal::MoreParts,
-    Goal::Symbol(Punctuator::RightBrace),
-];
-
 /// Behind `rules`.
-const RULES: [Goal; 3] = [
-    Goal::Symbol(Punctuator::LeftBrace),
-    Goal::Rules,
-    Goal::Symbol(Punctuator::RightBrace),
-];
+const RULES: [Goal; 3] = [OPEN_BRACE, Goal::Rules, SHUT_BRACE];
 
 /// Behind `env`.
-const BINDINGS: [Goal; 3] = [
-    Goal::Symbol(Punctuator::LeftBrace),
-    Goal::Bindings,
-    Goal::Symbol(Punctuator::RightBrace),
-];
+const BINDINGS: [Goal; 3] = [OPEN_BRACE, Goal::Bindings, SHUT_BRACE];
 
 /// Behind `inputs`.
-const INPUTS: [Goal; 3] = [
-    Goal::Symbol(Punctuator::LeftBrace),
-    Goal::Inputs,
-    Goal::Symbol(Punctuator::RightBrace),
-];
+const INPUTS: [Goal; 3] = [OPEN_BRACE, Goal::Inputs, SHUT_BRACE];
 
 /// Behind `script`.
-const SCRIPT: [Goal; 3] = [
-    Goal::Symbol(Punctuator::LeftBrace),
-    Goal::Script,
-    Goal::Symbol(Punctuator::RightBrace),
-];
+const SCRIPT: [Goal; 3] = [OPEN_BRACE, Goal::Script, SHUT_BRACE];
 
 /// Behind `trace`.
-const LINES: [Goal; 3] = [
-    Goal::Symbol(Punctuator::LeftBrace),
-    Goal::Lines,
-    Goal::Symbol(Punctuator::RightBrace),
-];
+const LINES: [Goal; 3] = [OPEN_BRACE, Goal::Lines, SHUT_BRACE];
 
 /// Behind `version`.
 const VERSION: [Goal; 2] = [Goal::Two, Goal::Sections];
 
 /// Behind `session`.
-const SESSION: [Goal; 3] = [
-    Goal::Symbol(Punctuator::LeftBrace),
-    Goal::Bundle,
-    Goal::Symbol(Punctuator::RightBrace),
-];
+const SESSION: [Goal; 3] = [OPEN_BRACE, Goal::Bundle, SHUT_BRACE];
 
 /// Bindings, or none.
 pub fn bindings(look: Look) -> Taking
@@ -143,7 +102,7 @@ pub fn sections(look: Look) -> Taking
     ensures { effect result ≡ sections look }
 {
     match look {
-        Look::Reserved(Word::Aioc) => takes_before(CHOREOGRAPHY.as_slice(), Goal::LaterSections),
+        Look::Reserved(Word::Aioc) => takes_before(BLOCK.as_slice(), Goal::LaterSections),
         Look::Name(Some(word)) => {
             traced(
                 Goal::SectionsBehindTrace,
@@ -161,7 +120,7 @@ pub fn sections_behind_trace(look: Look) -> Taking
     ensures { effect result ≡ sections_behind_trace look }
 {
     match look {
-        Look::Reserved(Word::Aioc) => takes_before(CHOREOGRAPHY.as_slice(), Goal::LastSections),
+        Look::Reserved(Word::Aioc) => takes_before(BLOCK.as_slice(), Goal::LastSections),
         Look::Name(Some(word)) => repeated(Goal::SectionsBehindTrace, Taking::Stops, word),
         _ => Taking::Stops,
     }

@@ -4,141 +4,63 @@ ghost use Rattle.std.specs.Prelude.{◌≡◌};
 ghost use Rattle.wanted_tokens.specs.Takings.{effect};
 ghost use Rattle.wanted_tokens.specs.Traces.{name_line, take_lines, tag_of_put, auxiliary_word, auxiliary_of_put, begun, tag_of_take, auxiliary_of_take, chosen};
 
-use crate::goals::Goal;
+use crate::goals::Goal::{self, Name, Truth, Value};
+use crate::goals::{A_NAME, ARROW, AT, BOUND, DOT, EQUAL, HASH};
 use crate::looks::{Look, PlaceWord};
 use crate::takings::{NOTHING, Taking, takes, takes_before};
 use aioc_tokens::{Punctuator, Word};
 use expr_syntax::GREATEST;
 
-/// The greatest place or epoch of an index.
-const GREATEST_PLACE: u64 = u32::MAX as u64;
+/// A place or an epoch of an index.
+const PLACE: Goal = Goal::Number(u32::MAX as u64);
 
 /// Behind `put`.
-const PUT: [Goal; 4] = [
-    Goal::Name,
-    Goal::Symbol(Punctuator::Arrow),
-    Goal::Name,
-    Goal::TagOfPut,
-];
+const PUT: [Goal; 4] = [Name, ARROW, Name, Goal::TagOfPut];
 
 /// Behind `take`.
-const TAKE: [Goal; 4] = [
-    Goal::Name,
-    Goal::Symbol(Punctuator::Arrow),
-    Goal::Name,
-    Goal::TagOfTake,
-];
+const TAKE: [Goal; 4] = [Name, ARROW, Name, Goal::TagOfTake];
 
 /// Behind `set` and `input`.
-const SETTING: [Goal; 9] = [
-    Goal::Name,
-    Goal::Symbol(Punctuator::At),
-    Goal::Name,
-    Goal::Symbol(Punctuator::Hash),
-    Goal::Number(GREATEST_PLACE),
-    Goal::Symbol(Punctuator::Dot),
-    Goal::Number(GREATEST_PLACE),
-    Goal::Symbol(Punctuator::Equal),
-    Goal::Value,
-];
+const SETTING: [Goal; 9] = [Name, AT, Name, HASH, PLACE, DOT, PLACE, EQUAL, Value];
 
 /// Behind `pick`.
-const PICK: [Goal; 6] = [
-    Goal::Name,
-    Goal::Symbol(Punctuator::Hash),
-    Goal::Number(GREATEST_PLACE),
-    Goal::Symbol(Punctuator::Dot),
-    Goal::Number(GREATEST_PLACE),
-    Goal::Truth,
-];
+const PICK: [Goal; 6] = [Name, HASH, PLACE, DOT, PLACE, Truth];
 
 /// Behind `scope`.
-const SCOPE: [Goal; 6] = [
-    Goal::Name,
-    Goal::Symbol(Punctuator::Hash),
-    Goal::Number(GREATEST_PLACE),
-    Goal::Symbol(Punctuator::Dot),
-    Goal::Number(GREATEST_PLACE),
-    Goal::Chosen,
-];
-
-/// Behind `add` and `drop`.
-const A_NAME: [Goal; 1] = [Goal::Name];
-
-/// Behind `env`.
-const BOUND: [Goal; 3] = [Goal::Name, Goal::Symbol(Punctuator::Equal), Goal::Value];
+const SCOPE: [Goal; 6] = [Name, HASH, PLACE, DOT, PLACE, Goal::Chosen];
 
 /// Behind `ended` and `stopped`.
 const COUNT: [Goal; 1] = [Goal::Number(GREATEST)];
 
 /// Behind the operation of a put.
-const VALUED: [Goal; 6] = [
-    Goal::Symbol(Punctuator::Hash),
-    Goal::Number(GREATEST_PLACE),
-    Goal::Symbol(Punctuator::Dot),
-    Goal::Number(GREATEST_PLACE),
-    Goal::Symbol(Punctuator::Equal),
-    Goal::Value,
-];
+const VALUED: [Goal; 6] = [HASH, PLACE, DOT, PLACE, EQUAL, Value];
 
 /// Behind the tag of a choice or a go.
-const JUDGED: [Goal; 6] = [
-    Goal::Symbol(Punctuator::Hash),
-    Goal::Number(GREATEST_PLACE),
-    Goal::Symbol(Punctuator::Dot),
-    Goal::Number(GREATEST_PLACE),
-    Goal::Symbol(Punctuator::Equal),
-    Goal::Truth,
-];
+const JUDGED: [Goal; 6] = [HASH, PLACE, DOT, PLACE, EQUAL, Truth];
 
 /// Behind the tag of the end of a turn, of an end and of a release.
-const OVER: [Goal; 6] = [
-    Goal::Symbol(Punctuator::Hash),
-    Goal::Number(GREATEST_PLACE),
-    Goal::Symbol(Punctuator::Dot),
-    Goal::Number(GREATEST_PLACE),
-    Goal::Symbol(Punctuator::Equal),
-    Goal::Done,
-];
+const OVER: [Goal; 6] = [HASH, PLACE, DOT, PLACE, EQUAL, Goal::Done];
 
 /// Behind the tag of a begin.
-const BEGUN: [Goal; 6] = [
-    Goal::Symbol(Punctuator::Hash),
-    Goal::Number(GREATEST_PLACE),
-    Goal::Symbol(Punctuator::Dot),
-    Goal::Number(GREATEST_PLACE),
-    Goal::Symbol(Punctuator::Equal),
-    Goal::Begun,
-];
+const BEGUN: [Goal; 6] = [HASH, PLACE, DOT, PLACE, EQUAL, Goal::Begun];
 
 /// Behind the `!` of a put.
 const AUXILIARY_OF_PUT: [Goal; 1] = [Goal::AuxiliaryOfPut];
 
 /// Behind `part`.
-const EPOCH: [Goal; 1] = [Goal::Number(GREATEST_PLACE)];
+const EPOCH: [Goal; 1] = [PLACE];
 
 /// Behind the operation of a take.
-const NAMED: [Goal; 5] = [
-    Goal::Symbol(Punctuator::Hash),
-    Goal::Number(GREATEST_PLACE),
-    Goal::Symbol(Punctuator::Dot),
-    Goal::Number(GREATEST_PLACE),
-    Goal::Name,
-];
+const NAMED: [Goal; 5] = [HASH, PLACE, DOT, PLACE, Name];
 
 /// Behind the `!` of a take.
 const AUXILIARY_OF_TAKE: [Goal; 1] = [Goal::AuxiliaryOfTake];
 
 /// Behind the auxiliary tag of a take.
-const INDEX: [Goal; 4] = [
-    Goal::Symbol(Punctuator::Hash),
-    Goal::Number(GREATEST_PLACE),
-    Goal::Symbol(Punctuator::Dot),
-    Goal::Number(GREATEST_PLACE),
-];
+const INDEX: [Goal; 4] = [HASH, PLACE, DOT, PLACE];
 
 /// Behind `rule`.
-const RULE: [Goal; 3] = [Goal::Name, Goal::As, Goal::Number(GREATEST_PLACE)];
+const RULE: [Goal; 3] = [Name, Goal::As, PLACE];
 
 /// A line that begins with a word that isn't reserved, and the lines behind it.
 fn name_line(word: PlaceWord) -> Taking

@@ -1,6 +1,6 @@
 //! `read_choreo VERSION: TEXT`: the longest choreography at the front of a text.
 
-use case_tables::{Case, Front, Problem, front_choreo, write_count, write_place};
+use case_tables::{Case, Front, Problem, front_choreo};
 use dioc_syntax::write_choreo;
 use dioc_terms::{Choreo, Memory};
 use std::alloc::Global;
@@ -14,13 +14,9 @@ pub fn answer(alloc: Global, case: &Case, out: &mut Vec<u8>) -> Result<(), Probl
 }
 
 fn write_front(front: &Front<Choreo>, out: &mut Vec<u8>) -> Result<(), Memory> {
-    match front {
-        Front::Found { value, count, .. } => {
-            write_count(*count, out)?;
-            write_choreo(value, out)
-        }
-        Front::Nothing(byte) => write_place("none at byte", *byte, out),
-        Front::BadByte(byte) => write_place("bad byte", *byte, out),
+    match front.write_head(out)? {
+        Some(choreo) => write_choreo(choreo, out),
+        None => Ok(()),
     }
 }
 

@@ -1,7 +1,7 @@
 //! `read_expr step: TEXT` and `read_expr condition: TEXT`: the longest expression at the front of a
 //! text.
 
-use case_tables::{Case, Front, Problem, front_expr, write_count, write_place};
+use case_tables::{Case, Front, Problem, front_expr};
 use dioc_terms::{Expr, Memory};
 use expr_syntax::{ExprKind, write_expr};
 use std::alloc::Global;
@@ -15,13 +15,9 @@ pub fn answer(alloc: Global, case: &Case, out: &mut Vec<u8>) -> Result<(), Probl
 }
 
 fn write_front(front: &Front<Expr>, out: &mut Vec<u8>) -> Result<(), Memory> {
-    match front {
-        Front::Found { value, count, .. } => {
-            write_count(*count, out)?;
-            write_expr(value, out)
-        }
-        Front::Nothing(byte) => write_place("none at byte", *byte, out),
-        Front::BadByte(byte) => write_place("bad byte", *byte, out),
+    match front.write_head(out)? {
+        Some(expr) => write_expr(expr, out),
+        None => Ok(()),
     }
 }
 

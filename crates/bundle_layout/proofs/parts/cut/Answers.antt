@@ -37,7 +37,7 @@ loop-at-preserved-then-begins_at c =
     let found = c.begins_at.ensures.0 c.if-begins_at.true in
     let longest = subst (λ text. IsLongestToken text kind count) (take_rest bytes at) c.token_length-kind.ensures in
     subst (λ parts. IsCutBy bytes c.args.starts.now (c.loop-at.next + 1) parts (at + count)) (sym c.in_ok-push.ensures.items)
-    (token_added bytes c.args.starts.now c.loop-at.next c.loop-at.parts.items at c.loop-at.invariant kind count c.unwrap_or.result c.loop-at.breaks found longest)
+    (token_added bytes c.args.starts.now c.loop-at.next c.loop-at.parts.items at c.loop-at.invariant kind count c.unwrap_or.result found longest)
 
 pub loop-at-preserved-then-begins_comment : goal.loop-at-preserved-then-begins_comment
 loop-at-preserved-then-begins_comment c =
@@ -47,9 +47,9 @@ loop-at-preserved-then-begins_comment c =
     let begins = subst BeginsComment rest (c.begins_comment.ensures.0 c.if-begins_comment.true) in
     let count : c.run_length.result ≡ line_length (drop at bytes) = c.run_length.ensures.value ∙ ap line_length rest in
     let none = λ (found : slice_get c.args.starts.now c.loop-at.next ≡ Some c.loop-at.at). both_ways _ c.if-begins_at.false (c.begins_at.ensures.1 found) in
-    let more = comment_added bytes c.args.starts.now c.loop-at.next c.loop-at.parts.items at c.loop-at.invariant c.loop-at.breaks none c.loop-at-test.true begins in
+    let more = comment_added bytes c.args.starts.now c.loop-at.next c.loop-at.parts.items at c.loop-at.invariant none c.loop-at-test.true begins in
     subst (λ parts. IsCutBy bytes c.args.starts.now c.loop-at.next parts (at + c.run_length.result)) (sym c.in_ok-push-2.ensures.items)
-    (subst (λ count. IsCutBy bytes c.args.starts.now c.loop-at.next (c.loop-at.parts.items ++ record { kind = kinds.Comment; sort = sorts.End; breaks = c.loop-at.breaks; start = at; end = at + count } ∷ []) (at + count)) (sym count) more.0)
+    (subst (λ count. IsCutBy bytes c.args.starts.now c.loop-at.next (c.loop-at.parts.items ++ record { kind = kinds.Comment; sort = sorts.End; start = at; end = at + count } ∷ []) (at + count)) (sym count) more.0)
 
 pub loop-at-preserved : goal.loop-at-preserved
 loop-at-preserved c =

@@ -14,7 +14,7 @@ loop-place-preserved c =
     let bytes = c.args.bytes.now in
     let parts = c.args.parts.now in
     let place = c.loop-place.place in
-    let other : Part = record { kind = Token Name; sort = End; breaks = 0; start = 0; end = 0 } in
+    let other : Part = record { kind = Token Name; sort = End; start = 0; end = 0 } in
     let part = get_or parts place other in
     let gap = c.safe_gap-before.result.now in
     let run = slice_range bytes c.loop-place.from c.loop-place.to in

@@ -4,7 +4,7 @@ use Rattle.dioc_terms.specs.Expressions.{expression}
 use Rattle.global_follower.specs.KeptBooks.{book_of, rules_of}
 use Rattle.global_follower.specs.KeptRunning.{part_term, running}
 use Rattle.global_follower.specs.KeptStores.{stores_of}
-use Rattle.global_follower.specs.Playing.{attempt_of, plays_alone}
+use Rattle.global_follower.specs.Playing.{attempt_of, plays_in}
 use Rattle.global_steps.specs.Follow.{book_choice}
 use Rattle.global_steps.specs.Running as runs
 use Rattle.global_follower.proofs.Stills.{over_again}
@@ -16,12 +16,12 @@ returns-in-Again c =
     let scene = c.args.scene.now in
     let stores = stores_of scene.stores.now in
     IfOk-weaker c.play_loop.result
-    (λ played. attempt_of played ≡ plays_alone scene (runs.While turn.index turn.leader.now
+    (λ played. attempt_of played ≡ plays_in scene (runs.While turn.index turn.leader.now
     (expression turn.guard.now) (part_term turn.body)))
     _
     (λ played is. rw c.in-Again.is (is
-    ∙ sym (over_again scene.cast.now stores
-    (λ head. book_choice (rules_of c.args.rules) (book_of scene.book.now) head (stores head.leader))
+    ∙ sym (over_again scene.rules.bundle.now.cast stores
+    (λ head. book_choice (rules_of scene.rules) (book_of scene.book.now) head (stores head.leader))
     scene.updates turn.index turn.leader.now (expression turn.guard.now) (part_term turn.body)
     (running c.in-Again.field-1.value) scene.entry.now (rw c.in-Again.is at c.requires))))
     c.play_loop.ensures

@@ -17,7 +17,7 @@ returns-in-Ok-begin_scope-clause-did g c = λ rules of bodies.
       offers = c.in-Ok.ensures.shown.can_act;
       there = sym c.is_there.ensures ∙ c.if-not-is_there.false;
       done = subst (λ (s : LocalState). IsDone c.args.act.now
-          (given_to c.args.cast.now rules c.args.mail.now (book_of c.args.book.now) c.args.updates.now s.store c.args.act.now)
+          (given_to c.args.fixed.now.cast.now rules c.args.mail.now (book_of c.args.fixed.now.book.now) c.args.updates.now s.store c.args.act.now)
           s c.args.mail.now c.args.updates.now c.args.history.now.entries
           (g.R.Runs.local c.begin_scope.new.state) c.args.mail.now c.begin_scope.new.updates c.begin_scope.new.history.entries)
           c.prepare.ensures.same (c.in-Ok-begin_scope.ensures.did rules c.args.mail.now of bodies);
@@ -25,7 +25,7 @@ returns-in-Ok-begin_scope-clause-did g c = λ rules of bodies.
 
 pub begin_scope-requires-clause-tells : goal.begin_scope-requires-clause-tells
 begin_scope-requires-clause-tells g c =
-    subst (λ (s : LocalState). Tells c.args.cast.now s c.args.act.now) (sym c.prepare.ensures.same) c.requires.tells
+    subst (λ (s : LocalState). Tells c.args.fixed.now.cast.now s c.args.act.now) (sym c.prepare.ensures.same) c.requires.tells
 
 pub begin_scope-requires-clause-shown : goal.begin_scope-requires-clause-shown
 begin_scope-requires-clause-shown g c =
@@ -54,7 +54,7 @@ returns-else-is_scope-clause-did g c = λ rules of bodies.
       there = sym c.is_there.ensures ∙ c.if-not-is_there.false;
       done = subst (λ (given : Given). IsDone c.args.act.now given s c.args.mail.now c.args.updates.now c.args.history.now.entries
           (g.R.Runs.local c.commit.new.state) c.commit.new.mail c.args.updates.now c.commit.new.history.entries)
-          (given_plain c.args.cast.now rules c.args.mail.now (book_of c.args.book.now) c.args.updates.now s.store c.args.act.now plain)
+          (given_plain c.args.fixed.now.cast.now rules c.args.mail.now (book_of c.args.fixed.now.book.now) c.args.updates.now s.store c.args.act.now plain)
           (subst (λ (t : LocalState). IsDone c.args.act.now (given_from_mail c.args.act.now c.args.mail.now) t c.args.mail.now c.args.updates.now c.args.history.now.entries
           (g.R.Runs.local c.commit.new.state) c.commit.new.mail c.args.updates.now c.commit.new.history.entries)
           c.prepare.ensures.same (c.commit.ensures c.args.updates.now));

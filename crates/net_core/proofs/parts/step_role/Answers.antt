@@ -13,16 +13,16 @@ use Rattle.net_core.proofs.parts.step_role.Goals as goal
 
 pub returns-in_default-clause-refused : goal.returns-in_default-clause-refused
 returns-in_default-clause-refused g c =
-    inl (place_none c.args.role.now c.args.cast.now
+    inl (place_none c.args.role.now c.args.fixed.now.cast.now
     (ap (position (role_eq c.args.role.now)) (sym c.as_slice.ensures) ∙ sym c.place_of.ensures ∙ c.in_default.is))
 
 pub do_act-requires-clause-can : goal.do_act-requires-clause-can
 do_act-requires-clause-can g c =
-    let at : slice_get c.args.cast.now c.in-Some.at ≡ Some c.args.role.now =
-    place_at c.args.role.now c.args.cast.now c.in-Some.at
+    let at : slice_get c.args.fixed.now.cast.now c.in-Some.at ≡ Some c.args.role.now =
+    place_at c.args.role.now c.args.fixed.now.cast.now c.in-Some.at
     (ap (position (role_eq c.args.role.now)) (sym c.as_slice.ensures) ∙ sym c.place_of.ensures ∙ c.in-Some.is) in
     let within : c.in-Some.at < length c.args.roles.now.items =
-    omega (arith, c.requires.lengths, slice_get_within c.args.cast.now c.in-Some.at c.args.role.now at) in
+    omega (arith, c.requires.lengths, slice_get_within c.args.fixed.now.cast.now c.in-Some.at c.args.role.now at) in
     can_same c.args.mail.now c.make_room.new.mail c.make_room.ensures.same_mail (g.R.Runs.local c.index_mut-state.result.now) c.args.act.now
     (c.requires.can (g.R.Runs.local c.index_mut-state.result.now) (record {
       place = c.in-Some.at;
@@ -32,11 +32,11 @@ do_act-requires-clause-can g c =
 
 pub returns-in-Ok-clause-did : goal.returns-in-Ok-clause-did
 returns-in-Ok-clause-did g c = λ rules of bodies.
-    let at : slice_get c.args.cast.now c.in-Some.at ≡ Some c.args.role.now =
-    place_at c.args.role.now c.args.cast.now c.in-Some.at
+    let at : slice_get c.args.fixed.now.cast.now c.in-Some.at ≡ Some c.args.role.now =
+    place_at c.args.role.now c.args.fixed.now.cast.now c.in-Some.at
     (ap (position (role_eq c.args.role.now)) (sym c.as_slice.ensures) ∙ sym c.place_of.ensures ∙ c.in-Some.is) in
     let within : c.in-Some.at < length c.args.roles.now.items =
-    omega (arith, c.requires.lengths, slice_get_within c.args.cast.now c.in-Some.at c.args.role.now at) in
+    omega (arith, c.requires.lengths, slice_get_within c.args.fixed.now.cast.now c.in-Some.at c.args.role.now at) in
     record {
       place = c.in-Some.at;
       at = at;
@@ -44,7 +44,7 @@ returns-in-Ok-clause-did g c = λ rules of bodies.
       here = here_is g.R.Runs.local c.args.roles.now.items c.in-Some.at c.index_mut-state.result.now c.index_mut-state.ensures.value within;
       becomes = g.R.Runs.local c.do_act.new.state;
       locals = map-set g.R.Runs.local c.args.roles.now.items c.in-Some.at c.do_act.new.state;
-      did = done_same c.args.mail.now c.make_room.new.mail c.make_room.ensures.same_mail c.args.cast.now rules (book_of c.args.book.now) c.args.updates.now c.args.act.now
+      did = done_same c.args.mail.now c.make_room.new.mail c.make_room.ensures.same_mail c.args.fixed.now.cast.now rules (book_of c.args.fixed.now.book.now) c.args.updates.now c.args.act.now
           (g.R.Runs.local c.index_mut-state.result.now) c.args.history.now.entries c.make_room.new.history.entries
           (g.R.Runs.local c.do_act.new.state) c.do_act.new.mail c.do_act.new.updates c.do_act.new.history.entries
           c.make_room.ensures.same_history (c.in-Ok.ensures.did rules of bodies);
@@ -52,12 +52,12 @@ returns-in-Ok-clause-did g c = λ rules of bodies.
 
 pub returns-in-Err-clause-refused : goal.returns-in-Err-clause-refused
 returns-in-Err-clause-refused g c =
-    let at : slice_get c.args.cast.now c.in-Some.at ≡ Some c.args.role.now =
-    place_at c.args.role.now c.args.cast.now c.in-Some.at
+    let at : slice_get c.args.fixed.now.cast.now c.in-Some.at ≡ Some c.args.role.now =
+    place_at c.args.role.now c.args.fixed.now.cast.now c.in-Some.at
     (ap (position (role_eq c.args.role.now)) (sym c.as_slice.ensures) ∙ sym c.place_of.ensures ∙ c.in-Some.is) in
     let within : c.in-Some.at < length c.args.roles.now.items =
-    omega (arith, c.requires.lengths, slice_get_within c.args.cast.now c.in-Some.at c.args.role.now at) in
-    refused_role c.args.cast.now (map g.R.Runs.local c.args.roles.now.items) c.args.role.now (g.R.Runs.local c.index_mut-state.result.now)
+    omega (arith, c.requires.lengths, slice_get_within c.args.fixed.now.cast.now c.in-Some.at c.args.role.now at) in
+    refused_role c.args.fixed.now.cast.now (map g.R.Runs.local c.args.roles.now.items) c.args.role.now (g.R.Runs.local c.index_mut-state.result.now)
     (record {
       place = c.in-Some.at;
       at = at;
@@ -72,11 +72,11 @@ returns-in-Err-clause-same_roles g c =
 
 pub do_act-requires-clause-tells : goal.do_act-requires-clause-tells
 do_act-requires-clause-tells g c =
-    let at : slice_get c.args.cast.now c.in-Some.at ≡ Some c.args.role.now =
-    place_at c.args.role.now c.args.cast.now c.in-Some.at
+    let at : slice_get c.args.fixed.now.cast.now c.in-Some.at ≡ Some c.args.role.now =
+    place_at c.args.role.now c.args.fixed.now.cast.now c.in-Some.at
     (ap (position (role_eq c.args.role.now)) (sym c.as_slice.ensures) ∙ sym c.place_of.ensures ∙ c.in-Some.is) in
     let within : c.in-Some.at < length c.args.roles.now.items =
-    omega (arith, c.requires.lengths, slice_get_within c.args.cast.now c.in-Some.at c.args.role.now at) in
+    omega (arith, c.requires.lengths, slice_get_within c.args.fixed.now.cast.now c.in-Some.at c.args.role.now at) in
     c.requires.tells (g.R.Runs.local c.index_mut-state.result.now) (record {
       place = c.in-Some.at;
       at = at;

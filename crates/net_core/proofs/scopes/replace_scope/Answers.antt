@@ -14,7 +14,7 @@ returns-in-Ok-clause-steps g c = λ decide decided.
     let next : c.args.updates.now + 1 ≡ suc c.args.updates.now = add-one c.args.updates.now in
     let parts = c.in-Ok.parts in
     c.advance.ensures.steps (FromBook decide)
-    (replaced_brings c.args.cast.now (g.R.Runs.local c.args.state.now) c.args.act.now led.0 c.args.head decide c.args.rule.now.name (suc c.args.updates.now) body
+    (replaced_brings c.args.fixed.now.cast.now (g.R.Runs.local c.args.state.now) c.args.act.now led.0 c.args.head decide c.args.rule.now.name (suc c.args.updates.now) body
     (process parts.own) (letters parts.tell) led.1 (c.requires.tells led.0 led.1) led.2 decided
     (c.in-Ok.ensures.own ∙ ap₂ (λ cast n. part_of cast c.args.head n body c.args.head.leader) c.as_slice.ensures next)
     (c.in-Ok.ensures.tell ∙ ap₂ (λ cast n. begin_messages cast c.args.head n body) c.as_slice.ensures next))

@@ -4,6 +4,6 @@ use Rattle.dioc_terms.specs.Equality.{member}
 use Rattle.schedule.proofs.AgendaLemmas.{member_at}
 use Rattle.schedule.proofs.agenda.list_ready.Goals as goal
 
-pub ready_acts-requires : goal.ready_acts-requires
-ready_acts-requires g c =
+pub list_role-requires : goal.list_role-requires
+list_role-requires g c =
     ap (member c.role-item.result) (sym c.cast-cast.ensures) ∙ member_at c.cast-cast.result.now c.loop-role.role-index c.role-item.result c.loop-role-test.true c.role-item.is

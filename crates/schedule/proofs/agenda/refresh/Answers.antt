@@ -5,7 +5,7 @@ use Rattle.std.proofs.lemmas.List.{length-map}
 use Rattle.dioc_terms.specs.Equality.{member}
 use Rattle.net_core.specs.Nets.{network_of}
 use Rattle.schedule.proofs.AgendaLemmas.{listed_at, listed_more}
-use Rattle.schedule.specs.declared.agenda.ReadyRole.{ReadyRole}
+use Rattle.schedule.specs.declared.roles.ReadyRole.{ReadyRole}
 use Rattle.schedule.specs.Agendas.{again, ready_seen}
 use Rattle.schedule.proofs.agenda.refresh.Goals as goal
 

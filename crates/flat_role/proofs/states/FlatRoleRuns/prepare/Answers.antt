@@ -1,9 +1,6 @@
 -- A place that offers the act is found exactly where the process offers it. What is made ready
 -- there leaves the process as it is.
-use Rattle.std.proofs.Common.{◌≡◌, true, false, get_or, refl, sym, ◌∙◌, Result, Ok, Err}
-use Rattle.std.specs.Prelude.{IsErrAnd, IsErrOf}
-use Rattle.dpoc_process.specs.declared.runs.PrepareFault.{PrepareFault}
-use Rattle.dpoc_process.specs.declared.runs.PrepareFault.TheVariants.{Memory as no_memory, NoAct}
+use Rattle.std.proofs.Common.{◌≡◌, true, false, get_or, refl, sym, ◌∙◌}
 use Rattle.flat_code.specs.Codes.{process_of}
 use Rattle.flat_role.specs.Progress.{marks_by, runs_by}
 use Rattle.flat_role.proofs.FlatLemmas.{is-progress}
@@ -18,8 +15,8 @@ find-requires c = is-progress c.args.self.now
 pub make_ready-requires-clause-progress : goal.make_ready-requires-clause-progress
 make_ready-requires-clause-progress c = is-progress c.args.self.now
 
-pub invariant_of-self-in-Break-1 : goal.invariant_of-self-in-Break-1
-invariant_of-self-in-Break-1 c =
+pub invariant_of-self-in-Err : goal.invariant_of-self-in-Err
+invariant_of-self-in-Err c =
     let flat = c.args.self.now in
     let is = c.make_ready.ensures.progress in
     record {
@@ -31,8 +28,8 @@ invariant_of-self-in-Break-1 c =
       spare = is.spare;
     }
 
-pub invariant_of-self-in-Some : goal.invariant_of-self-in-Some
-invariant_of-self-in-Some c =
+pub invariant_of-self-in-Ok-1 : goal.invariant_of-self-in-Ok-1
+invariant_of-self-in-Ok-1 c =
     let flat = c.args.self.now in
     let is = c.make_ready.ensures.progress in
     record {
@@ -43,24 +40,18 @@ invariant_of-self-in-Some c =
       room = is.room;
       spare = is.spare;
     }
-
--- no error is of two kinds
-never_both : {T : Type 0} (r : Result T PrepareFault) → IsErrAnd r (λ e. e ≡ no_memory)
-    → IsErrOf r NoAct → ⊥
-never_both (Ok x) memory no_act = absurd memory
-never_both (Err e) memory no_act = cc
 
 not_both : true ≡ false → ⊥
 not_both e = cc
 
-pub returns-in_err-ready-in-Some-clause-no_act : goal.returns-in_err-ready-in-Some-clause-no_act
-returns-in_err-ready-in-Some-clause-no_act c =
+pub returns-in-Err-clause-no_act : goal.returns-in-Err-clause-no_act
+returns-in-Err-clause-no_act c =
     let flat = c.args.self.now in
     let a = c.args.act.now in
     let offered : is_offered a (offers flat.role (runs_by flat.role flat.plan flat.progress)) ≡ true =
     found-offered flat.role flat.plan flat.progress (is-progress flat) a c.in-Some.at
     (get_or flat.progress.active.items c.in-Some.at 0)
     (c.in-Some.ensures.found c.in-Some.at refl) in (
-      λ fault. absurd (never_both c.from_residual.result c.from_residual.ensures.1 fault),
+      λ fault. cc,
       λ none. absurd (not_both (sym offered ∙ none)),
     )

@@ -11,7 +11,7 @@ returns-then-not-branch-clause-stray c = λ stray.
     let old = c.args.self.now in
     role_stray (setting_of old) (state_of old) c.args.role.now c.args.entry.now
     (stores_of c.make_ready.new.self) c.in_ok-make_ready.ensures.same
-    (rw (c.if-not-branch.true, c.as_slice.ensures) at c.in_ok-play.ensures.played)
+    (rw c.if-not-branch.true at c.in_ok-play.ensures.played)
 
 pub returns-clause-followed : goal.returns-clause-followed
 returns-clause-followed c =
@@ -20,5 +20,5 @@ returns-clause-followed c =
     (stores_of c.make_ready.new.self) (stores_of c.affect.new.self) (effect_of c.play.new.effect)
     (running c.play.new.left) c.updates_after-self.result (old.entries + 1)
     c.in_ok-make_ready.ensures.same
-    (rw (c.if-not-branch.false, c.as_slice.ensures) at c.in_ok-play.ensures.played)
+    (rw c.if-not-branch.false at c.in_ok-play.ensures.played)
     c.affect.ensures c.updates_after-self.ensures (add-one old.entries)
