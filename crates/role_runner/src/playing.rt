@@ -1,6 +1,6 @@
 //! A role that runs in its thread.
 
-ghost use Rattle.std.specs.Prelude.{◌≡◌, [], All, false, true, None, IfSome};
+ghost use Rattle.std.specs.Prelude.{◌≡◌, ◌<◌, [], All, false, true, None, IfSome, length};
 ghost use Rattle.dioc_terms.specs.Equality.{member};
 ghost use Rattle.dioc_terms.specs.Plain.{plain};
 ghost use Rattle.dpoc_process.specs.LocalStates.{offered};
@@ -11,6 +11,7 @@ ghost use Rattle.process_steps.specs.Steps.{is_offered};
 ghost use Rattle.role_runner.specs.Ties.{IfRefused, IsRefusedTry, IsSeated, IsTied, Leaves, RefusedIn, WentOn, is_not_yet};
 ghost use Rattle.stage.specs.Faults.{act_fault};
 ghost use Rattle.stage.specs.Owners.{cast_place};
+ghost use Rattle.stage.specs.Seats.{HasMet, LookedOn};
 ghost use Rattle.stage.specs.Stages.{IsSeatIn};
 ghost use Rattle.turn_lock.specs.Words.{view};
 
@@ -138,16 +139,54 @@ fn take_turn<R: Wait, G: Gate>(
     if only_takes(acts.as_slice()) {
         actor.stage.wait_for_mail(rt, actor.place as usize);
     }
-    let (seat, tried) = try_first(rt, actor, seat, state, acts.as_slice());
-    match tried {
-        Tried::Done => go_round(rt, actor, seat, state, acts.as_slice()),
-        _ => (seat, tried),
+    try_offered(rt, actor, seat, state, acts.as_slice())
+}
+
+/// Goes once over the acts, which are all that the role's process offers. A single act, and one
+/// that takes no message, is tried at once.
+fn try_offered<R: Wait, G: Gate>(
+    rt: &R,
+    actor: &Actor<'_, G>,
+    seat: Seat<Home>,
+    state: &mut FlatRole,
+    acts: &[Act],
+) -> (Seat<Home>, Tried)
+    requires sound { IsSound (plain actor.now.bundle.now) }
+    requires of { IsSeatIn actor.now.stage.now seat }
+    requires tied { IsTied (plain actor.now.bundle.now) actor.now.role.now (view seat)
+        (local_of state.old) }
+    requires all { acts.now ≡ offered (local_of state.old) }
+    ensures of { IsSeatIn actor.now.stage.now result.0 }
+    ensures leaves { Leaves (plain actor.now.bundle.now) actor.now.role.now (view seat)
+        (view result.0) result.1 (local_of state.new) }
+    ensures tried { is_not_yet result.1 ≡ true → All
+        (λ act. RefusedIn (act_fault act) (view seat) (view result.0) CommitFault.NotYet)
+        acts.now }
+{
+    if asks_first(acts) {
+        return try_first(rt, actor, seat, state, acts);
+    }
+    match acts {
+        [] => (seat, Tried::Refused(CommitFault::NotYet)),
+        [act] => try_act(rt, actor, seat, state, act),
+        [act, rest @ ..] => {
+            let (next, tried) = try_act(rt, actor, seat, state, act);
+            match tried {
+                Tried::Done => go_round(rt, actor, next, state, rest),
+                _ => {
+                    if tried.is_not_yet() {
+                        return try_first(rt, actor, next, state, acts);
+                    }
+                    (next, tried)
+                }
+            }
+        }
     }
 }
 
 /// Asks the stage for the first act that may come, and tries it, until one is done or refused for
 /// more than that it may not come yet, or none may come yet. The acts are all that the role's
-/// process offers.
+/// process offers. Where one is done those behind it follow.
 fn try_first<R: Wait, G: Gate>(
     rt: &R,
     actor: &Actor<'_, G>,
@@ -176,8 +215,13 @@ fn try_first<R: Wait, G: Gate>(
         };
         let (next, tried) = try_act(rt, actor, seat, state, &acts[at]);
         seat = next;
-        if !tried.is_not_yet() {
-            return (seat, tried);
+        match tried {
+            Tried::Done => return go_round(rt, actor, seat, state, &acts[at + 1..]),
+            _ => {
+                if !tried.is_not_yet() {
+                    return (seat, tried);
+                }
+            }
         }
     }
     unreachable!()
@@ -204,7 +248,7 @@ fn go_round<R: Wait, G: Gate>(
     let mut seat = seat;
     let mut rest = acts;
     for _ in 0..acts.len() {
-        let (next, first) = actor.stage.first_ready(rt, seat, rest);
+        let (next, first) = next_to_try(rt, actor, seat, rest);
         seat = next;
         let Some(at) = first else {
             return (seat, Tried::Done);
@@ -222,6 +266,34 @@ fn go_round<R: Wait, G: Gate>(
         rest = &rest[at + 1..];
     }
     (seat, Tried::Done)
+}
+
+/// Where the act stands that is to be tried next: the first, where it is single or takes no
+/// message, and else the first that may come.
+fn next_to_try<R: Wait, G: Gate>(
+    rt: &R,
+    actor: &Actor<'_, G>,
+    seat: Seat<Home>,
+    acts: &[Act],
+) -> (Seat<Home>, Option<usize>)
+    requires of { IsSeatIn actor.now.stage.now seat }
+    requires met { HasMet (view seat) }
+    ensures of { IsSeatIn actor.now.stage.now result.0 }
+    ensures looked { LookedOn (view seat) (view result.0) }
+    ensures within { IfSome result.1 (λ at. at < length acts.now) }
+{
+    if acts.is_empty() {
+        return (seat, None);
+    }
+    if asks_first(acts) {
+        return actor.stage.first_ready(rt, seat, acts);
+    }
+    (seat, Some(0))
+}
+
+/// Whether there are several acts, and the first takes a message, which may not be there yet.
+fn asks_first(acts: &[Act]) -> bool {
+    matches!(acts, [Act::Take(_), _, ..])
 }
 
 /// Whether each act takes a message.

@@ -14,8 +14,8 @@ not_full is = cc
 pub returns-in_default-clause-leaves : goal.returns-in_default-clause-leaves
 returns-in_default-clause-leaves g c =
     let v = view c.loop.seat in
-    let x = view c.first_ready-next.result.0 in
-    let looked = c.first_ready-next.ensures.first.looked in
+    let x = view c.next_to_try-next.result.0 in
+    let looked = c.next_to_try-next.ensures.looked in
     record {
       went = went_looked (view c.args.seat) v x c.loop.invariant.went looked;
       tied = λ here. looked_tied (plain c.args.actor.now.bundle.now) c.args.actor.now.role.now v x (local_of c.loop.state) looked c.loop.invariant.tied;
@@ -24,4 +24,4 @@ returns-in_default-clause-leaves g c =
 
 pub try_listed-next-requires-clause-tied : goal.try_listed-next-requires-clause-tied
 try_listed-next-requires-clause-tied g c =
-    looked_tied (plain c.args.actor.now.bundle.now) c.args.actor.now.role.now (view c.loop.seat) (view c.first_ready-next.result.0) (local_of c.loop.state) c.first_ready-next.ensures.first.looked c.loop.invariant.tied
+    looked_tied (plain c.args.actor.now.bundle.now) c.args.actor.now.role.now (view c.loop.seat) (view c.next_to_try-next.result.0) (local_of c.loop.state) c.next_to_try-next.ensures.looked c.loop.invariant.tied
