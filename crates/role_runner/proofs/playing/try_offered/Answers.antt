@@ -1,7 +1,6 @@
 -- The first act is offered. A single act that may not come yet is all that there is, and after a first act of several that may not come yet the seat has only looked on.
 use Rattle.std.proofs.Common.{◌≡◌, Some, length, slice_get, slice_index_or, refl, sym, ap, ◌∙◌, subst, arith}
 use Rattle.std.proofs.lemmas.Option.{slice_get_read, slice_get_within}
-use Rattle.dpoc_process.specs.LocalStates.{offered}
 use Rattle.flat_role.specs.FlatStates.{local_of}
 use Rattle.marked_laws.proofs.Shapes.{some_same}
 use Rattle.process_steps.specs.Steps.{is_offered}
