@@ -24,12 +24,12 @@ use Rattle.net_core.specs.Nets.{network_at}
 use Rattle.role_runner.proofs.StepLemmas.{deed_same, left_same}
 use Rattle.role_runner.specs.declared.acting.Tried.{Tried}
 use Rattle.role_runner.specs.declared.acting.Tried.TheVariants as tried
-use Rattle.role_runner.specs.Acts.{act_fault, is_alone}
+use Rattle.role_runner.specs.Acts.{is_alone}
 use Rattle.role_runner.specs.Ties.{IfRefused, IsRefusedTry, IsSeated, IsTied, IsUncommitted, Leaves, WentOn, is_not_yet}
 use Rattle.stage.specs.declared.faults.CommitFault.{CommitFault}
 use Rattle.stage.specs.declared.faults.CommitFault.TheVariants as fault
 use Rattle.stage.specs.declared.faults.Why.{Why}
-use Rattle.stage.specs.Faults.{fault_if, full_fault, role_fault, stop_fault, take_fault}
+use Rattle.stage.specs.Faults.{act_fault, fault_if, full_fault, role_fault, stop_fault, take_fault}
 use Rattle.net_core.specs.Standing.{local_in}
 use Rattle.stage.specs.Holds.{HasFinished}
 use Rattle.stage.specs.Homes.{HasEnded, HomeState, IsCut}

@@ -1,9 +1,7 @@
 -- What a seat that was refused keeps of the hold, and what a turn tries.
-use Rattle.std.proofs.Common.{◌≡◌, ◌+◌, ◌<◌, ◌≤◌, ℕ, zero, suc, List, [], ◌∷◌, ◌++◌, Bool, true, false, Option, Some, slice_get, refl, sym, ap, ◌∙◌, subst, arith, append-nil}
+use Rattle.std.proofs.Common.{◌≡◌, ℕ, zero, suc, List, [], ◌∷◌, ◌++◌, true, Option, Some, slice_get, refl, sym, ap, ◌∙◌, subst, append-nil}
 use Rattle.std.proofs.lemmas.Bool.{or_left, or_right}
-use Rattle.std.proofs.lemmas.Bool.Decides.{nat_tests}
 use Rattle.std.proofs.lemmas.List.{append_assoc}
-use Rattle.std.specs.Prelude.{nat_lt}
 use Rattle.dioc_terms.specs.declared.entries.Act.{Act}
 use Rattle.dioc_terms.specs.declared.entries.Entry.{Entry}
 use Rattle.dioc_terms.specs.Equality.{act_eq}
@@ -52,14 +50,14 @@ module _ (fault_of : HomeState → Option CommitFault) (u v w : View Entry Base)
   pub refused_here : LookedOn u v → HasMet w → RefusedFor fault_of v w f → RefusedIn fault_of u w f
   refused_here came met refused = record { before = v; after = w; came = came; refused = refused; left = looked_nowhere w met }
 
-  -- and one of before, where the seat has looked on
-  pub refused_on : RefusedIn fault_of u v f → LookedOn v w → RefusedIn fault_of u w f
-  refused_on was then = record {
+  -- a refusal, seen from where the seat had looked on before
+  pub refused_from : LookedOn u v → RefusedIn fault_of v w f → RefusedIn fault_of u w f
+  refused_from looked was = record {
     before = was.before;
     after = was.after;
-    came = was.came;
+    came = looked_through u v was.before looked was.came;
     refused = was.refused;
-    left = looked_through was.after v w was.left then;
+    left = was.left;
   }
 
   -- the refusal for which a seat left
@@ -68,24 +66,6 @@ module _ (fault_of : HomeState → Option CommitFault) (u v w : View Entry Base)
 
   pub left_looked : (x : View Entry Base) → WentOn u v → RefusedFor fault_of v w f → LookedOn w x → LeftFor fault_of u x f
   left_looked x came refused then = record { before = v; after = w; came = came; refused = refused; left = then }
-
-lt_of : (i n : ℕ) → nat_lt i n ≡ true → i < n
-lt_of i n h = grind (arith, nat_tests)
-
-le_of : (i n : ℕ) → nat_lt i n ≡ false → n ≤ i
-le_of i n h = grind (arith, nat_tests)
-
--- what holds of each act up to one more
-pub tried_next : (P Q : Act → Type 0) (acts : List Act) (n : ℕ) → ((a : Act) → P a → Q a) → ((i : ℕ) (a : Act) → slice_get acts i ≡ Some a → i < n → P a)
-    → (b : Act) → slice_get acts n ≡ Some b → Q b → (i : ℕ) (a : Act) → slice_get acts i ≡ Some a → i < n + 1 → Q a
-tried_next P Q acts n on before b here one i a at below = by_test (nat_lt i n) refl
-  where
-    by_test : (t : Bool) → nat_lt i n ≡ t → Q a
-    by_test true is = on a (before i a at (lt_of i n is))
-    by_test false is =
-        let least = le_of i n is in
-        let same : n ≡ i = omega (arith, least, below) in
-        subst Q (some_same (sym here ∙ ap (slice_get acts) same ∙ at)) one
 
 -- an act at a place of a list is offered by it
 pub offered_in : (acts : List Act) (i : ℕ) (a : Act) → slice_get acts i ≡ Some a → is_offered a acts ≡ true

@@ -1,6 +1,5 @@
--- Which acts a role does alone, which faults keep an act from its commit, and what the book says to
--- the begin of a scope.
-use Rattle.std.specs.Prelude.{ℕ, Bool, true, false, Option}
+-- Which acts a role does alone, and what the book says to the begin of a scope.
+use Rattle.std.specs.Prelude.{ℕ, Bool, true, false}
 use Rattle.dioc_terms.specs.declared.entries.Act.{Act}
 use Rattle.dioc_terms.specs.declared.entries.Act.TheVariants as act
 use Rattle.dioc_terms.specs.Plain.{PlainBundle}
@@ -9,9 +8,6 @@ use Rattle.dioc_terms.specs.Stores.{Store}
 use Rattle.global_steps.specs.Follow.{book_choice}
 use Rattle.network_steps.specs.Network.{decision}
 use Rattle.process_steps.specs.Steps.{Given, FromBook}
-use Rattle.stage.specs.declared.faults.CommitFault.{CommitFault}
-use Rattle.stage.specs.Faults.{role_fault, take_fault}
-use Rattle.stage.specs.Homes.{HomeState}
 
 -- it sets a variable, reads an input or picks a branch
 abbrev pub is_alone : Act → Bool
@@ -24,11 +20,6 @@ is_alone _ = false
 abbrev pub is_scope : Act → Bool
 is_scope (act.Scope i) = true
 is_scope _ = false
-
--- the fault for which a commit of the act is refused, by the home that is found
-abbrev pub act_fault : Act → HomeState → Option CommitFault
-act_fault (act.Take k) = take_fault k
-act_fault _ = role_fault
 
 -- what this book says, after so many updates, to a leader with this store
 abbrev pub book_given : PlainBundle → Book → ℕ → Store → Given

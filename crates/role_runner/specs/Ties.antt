@@ -10,9 +10,9 @@ use Rattle.dpoc_process.specs.Handed.{handed, Brings, IsEnabled}
 use Rattle.dpoc_process.specs.LocalStates.{LocalState}
 use Rattle.dpoc_process.specs.RoleSteps.{IsStep}
 use Rattle.process_steps.specs.Steps.{Given}
-use Rattle.role_runner.specs.Acts.{act_fault}
 use Rattle.role_runner.specs.declared.acting.Tried.{Tried}
 use Rattle.role_runner.specs.declared.acting.Tried.TheVariants.{Behind, Done, Refused}
+use Rattle.stage.specs.Faults.{act_fault}
 use Rattle.stage.specs.declared.faults.CommitFault.{CommitFault}
 use Rattle.stage.specs.declared.faults.CommitFault.TheVariants.{Full, Memory, NotYet}
 use Rattle.stage.specs.Holds.{SawLimit}

@@ -1,15 +1,17 @@
 //! A role that runs in its thread.
 
-ghost use Rattle.std.specs.Prelude.{◌≡◌, [], All, true, None, IfSome};
+ghost use Rattle.std.specs.Prelude.{◌≡◌, ◌<◌, [], All, false, true, None, IfSome, length};
 ghost use Rattle.dioc_terms.specs.Equality.{member};
 ghost use Rattle.dioc_terms.specs.Plain.{plain};
 ghost use Rattle.dpoc_process.specs.LocalStates.{offered};
-ghost use Rattle.flat_role.specs.FlatStates.{local_of};
+ghost use Rattle.dpoc_process.specs.RoleSteps.{IsPrepared};
+ghost use Rattle.flat_role.specs.FlatStates.{local_of, IsReady};
 ghost use Rattle.marked_laws.specs.Laws.{IsSound};
 ghost use Rattle.process_steps.specs.Steps.{is_offered};
-ghost use Rattle.role_runner.specs.Acts.{act_fault};
 ghost use Rattle.role_runner.specs.Ties.{IfRefused, IsRefusedTry, IsSeated, IsTied, Leaves, RefusedIn, WentOn, is_not_yet};
+ghost use Rattle.stage.specs.Faults.{act_fault};
 ghost use Rattle.stage.specs.Owners.{cast_place};
+ghost use Rattle.stage.specs.Seats.{HasMet, LookedOn};
 ghost use Rattle.stage.specs.Stages.{IsSeatIn};
 ghost use Rattle.turn_lock.specs.Words.{view};
 
@@ -18,7 +20,7 @@ use crate::actors::Actor;
 use crate::gates::{Gate, Place};
 use crate::scopes::begin;
 use dioc_terms::Act;
-use dpoc_process::{PrepareFault, Runs};
+use dpoc_process::{PrepareFault, Prepared, Runs};
 use flat_role::FlatRole;
 use net_core::opening_state;
 use stage::{CommitFault, Home, Why};
@@ -73,12 +75,13 @@ fn play_on<R: Wait, G: Gate>(
     let place = actor.place as usize;
     let mut seat = seat;
     let mut state = state;
+    let mut acts = Vec::new(actor.alloc);
     for _ in rt.forever() {
         let count = stage.holds_at(place);
         if state.is_done() {
             return (stage.finish(rt, seat, actor.role), Some(state));
         }
-        let (next, tried) = take_turn(rt, actor, seat, &mut state);
+        let (next, tried) = take_turn(rt, actor, seat, &mut state, &mut acts);
         seat = next;
         match tried {
             Tried::Done => {}
@@ -109,13 +112,15 @@ fn given_up(state: FlatRole) -> Option<FlatRole>
     None
 }
 
-/// Tries the acts of the role's process, in their order, until one is done or refused for more than
-/// that it may not come yet. Where none may come yet each was tried.
+/// Lists the acts of the role's process, and goes once over them to do those that may come, until
+/// one is refused for more than that it may not come yet. Where none may come yet each was refused
+/// so. The list is for the acts, whatever it has.
 fn take_turn<R: Wait, G: Gate>(
     rt: &R,
     actor: &Actor<'_, G>,
     seat: Seat<Home>,
     state: &mut FlatRole,
+    acts: &mut Vec<Act>,
 ) -> (Seat<Home>, Tried)
     requires sound { IsSound (plain actor.now.bundle.now) }
     requires of { IsSeatIn actor.now.stage.now seat }
@@ -128,21 +133,167 @@ fn take_turn<R: Wait, G: Gate>(
         (λ act. RefusedIn (act_fault act) (view seat) (view result.0) CommitFault.NotYet)
         (offered (local_of state.old)) }
 {
-    let Ok(acts) = state.acts(actor.alloc) else {
+    let Ok(()) = state.refresh_acts(actor.alloc, acts) else {
         return (seat, Tried::Refused(CommitFault::Memory));
     };
     if only_takes(acts.as_slice()) {
         actor.stage.wait_for_mail(rt, actor.place as usize);
     }
-    let mut seat = seat;
-    for act in acts.as_slice() {
-        let (next, tried) = try_act(rt, actor, seat, state, act);
-        seat = next;
-        if !tried.is_not_yet() {
-            return (seat, tried);
+    try_offered(rt, actor, seat, state, acts.as_slice())
+}
+
+/// Goes once over the acts, which are all that the role's process offers. A single act, and one
+/// that takes no message, is tried at once.
+fn try_offered<R: Wait, G: Gate>(
+    rt: &R,
+    actor: &Actor<'_, G>,
+    seat: Seat<Home>,
+    state: &mut FlatRole,
+    acts: &[Act],
+) -> (Seat<Home>, Tried)
+    requires sound { IsSound (plain actor.now.bundle.now) }
+    requires of { IsSeatIn actor.now.stage.now seat }
+    requires tied { IsTied (plain actor.now.bundle.now) actor.now.role.now (view seat)
+        (local_of state.old) }
+    requires all { acts.now ≡ offered (local_of state.old) }
+    ensures of { IsSeatIn actor.now.stage.now result.0 }
+    ensures leaves { Leaves (plain actor.now.bundle.now) actor.now.role.now (view seat)
+        (view result.0) result.1 (local_of state.new) }
+    ensures tried { is_not_yet result.1 ≡ true → All
+        (λ act. RefusedIn (act_fault act) (view seat) (view result.0) CommitFault.NotYet)
+        acts.now }
+{
+    if asks_first(acts) {
+        return try_first(rt, actor, seat, state, acts);
+    }
+    match acts {
+        [] => (seat, Tried::Refused(CommitFault::NotYet)),
+        [act] => try_act(rt, actor, seat, state, act),
+        [act, rest @ ..] => {
+            let (next, tried) = try_act(rt, actor, seat, state, act);
+            match tried {
+                Tried::Done => go_round(rt, actor, next, state, rest),
+                _ => {
+                    if tried.is_not_yet() {
+                        return try_first(rt, actor, next, state, acts);
+                    }
+                    (next, tried)
+                }
+            }
         }
     }
-    (seat, Tried::Refused(CommitFault::NotYet))
+}
+
+/// Asks the stage for the first act that may come, and tries it, until one is done or refused for
+/// more than that it may not come yet, or none may come yet. The acts are all that the role's
+/// process offers. Where one is done those behind it follow.
+fn try_first<R: Wait, G: Gate>(
+    rt: &R,
+    actor: &Actor<'_, G>,
+    seat: Seat<Home>,
+    state: &mut FlatRole,
+    acts: &[Act],
+) -> (Seat<Home>, Tried)
+    requires sound { IsSound (plain actor.now.bundle.now) }
+    requires of { IsSeatIn actor.now.stage.now seat }
+    requires tied { IsTied (plain actor.now.bundle.now) actor.now.role.now (view seat)
+        (local_of state.old) }
+    requires all { acts.now ≡ offered (local_of state.old) }
+    ensures of { IsSeatIn actor.now.stage.now result.0 }
+    ensures leaves { Leaves (plain actor.now.bundle.now) actor.now.role.now (view seat)
+        (view result.0) result.1 (local_of state.new) }
+    ensures tried { is_not_yet result.1 ≡ true → All
+        (λ act. RefusedIn (act_fault act) (view seat) (view result.0) CommitFault.NotYet)
+        acts.now }
+{
+    let mut seat = seat;
+    for _ in rt.forever() {
+        let (next, first) = actor.stage.first_ready(rt, seat, acts);
+        seat = next;
+        let Some(at) = first else {
+            return (seat, Tried::Refused(CommitFault::NotYet));
+        };
+        let (next, tried) = try_act(rt, actor, seat, state, &acts[at]);
+        seat = next;
+        match tried {
+            Tried::Done => return go_round(rt, actor, seat, state, &acts[at + 1..]),
+            _ => {
+                if !tried.is_not_yet() {
+                    return (seat, tried);
+                }
+            }
+        }
+    }
+    unreachable!()
+}
+
+/// Goes once over acts that were listed before another was done, and does those that may come. One
+/// that isn't offered any more is passed over.
+fn go_round<R: Wait, G: Gate>(
+    rt: &R,
+    actor: &Actor<'_, G>,
+    seat: Seat<Home>,
+    state: &mut FlatRole,
+    acts: &[Act],
+) -> (Seat<Home>, Tried)
+    requires sound { IsSound (plain actor.now.bundle.now) }
+    requires of { IsSeatIn actor.now.stage.now seat }
+    requires tied { IsTied (plain actor.now.bundle.now) actor.now.role.now (view seat)
+        (local_of state.old) }
+    ensures of { IsSeatIn actor.now.stage.now result.0 }
+    ensures leaves { Leaves (plain actor.now.bundle.now) actor.now.role.now (view seat)
+        (view result.0) result.1 (local_of state.new) }
+    ensures over { is_not_yet result.1 ≡ false }
+{
+    let mut seat = seat;
+    let mut rest = acts;
+    for _ in 0..acts.len() {
+        let (next, first) = next_to_try(rt, actor, seat, rest);
+        seat = next;
+        let Some(at) = first else {
+            return (seat, Tried::Done);
+        };
+        let (next, tried) = try_listed(rt, actor, seat, state, &rest[at]);
+        seat = next;
+        match tried {
+            Tried::Done => {}
+            _ => {
+                if !tried.is_not_yet() {
+                    return (seat, tried);
+                }
+            }
+        }
+        rest = &rest[at + 1..];
+    }
+    (seat, Tried::Done)
+}
+
+/// Where the act stands that is to be tried next: the first, where it is single or takes no
+/// message, and else the first that may come.
+fn next_to_try<R: Wait, G: Gate>(
+    rt: &R,
+    actor: &Actor<'_, G>,
+    seat: Seat<Home>,
+    acts: &[Act],
+) -> (Seat<Home>, Option<usize>)
+    requires of { IsSeatIn actor.now.stage.now seat }
+    requires met { HasMet (view seat) }
+    ensures of { IsSeatIn actor.now.stage.now result.0 }
+    ensures looked { LookedOn (view seat) (view result.0) }
+    ensures within { IfSome result.1 (λ at. at < length acts.now) }
+{
+    if acts.is_empty() {
+        return (seat, None);
+    }
+    if asks_first(acts) {
+        return actor.stage.first_ready(rt, seat, acts);
+    }
+    (seat, Some(0))
+}
+
+/// Whether there are several acts, and the first takes a message, which may not be there yet.
+fn asks_first(acts: &[Act]) -> bool {
+    matches!(acts, [Act::Take(_), _, ..])
 }
 
 /// Whether each act takes a message.
@@ -170,11 +321,57 @@ fn try_act<R: Wait, G: Gate>(
     ensures refused { IfRefused result.1 (IsRefusedTry act.now (view seat) (view result.0)
         (local_of state.old) (local_of state.new)) }
 {
-    let prepared = match state.prepare(actor.alloc, act) {
-        Ok(prepared) => prepared,
+    match state.prepare(actor.alloc, act) {
+        Ok(prepared) => try_prepared(rt, actor, seat, state, act, prepared),
         Err(PrepareFault::NoAct) => unreachable!(),
-        Err(PrepareFault::Memory) => return (seat, Tried::Refused(CommitFault::Memory)),
-    };
+        Err(PrepareFault::Memory) => (seat, Tried::Refused(CommitFault::Memory)),
+    }
+}
+
+/// A try of an act that was listed before. Nothing is done where it isn't offered any more.
+fn try_listed<R: Wait, G: Gate>(
+    rt: &R,
+    actor: &Actor<'_, G>,
+    seat: Seat<Home>,
+    state: &mut FlatRole,
+    act: &Act,
+) -> (Seat<Home>, Tried)
+    requires sound { IsSound (plain actor.now.bundle.now) }
+    requires of { IsSeatIn actor.now.stage.now seat }
+    requires tied { IsTied (plain actor.now.bundle.now) actor.now.role.now (view seat)
+        (local_of state.old) }
+    ensures of { IsSeatIn actor.now.stage.now result.0 }
+    ensures leaves { Leaves (plain actor.now.bundle.now) actor.now.role.now (view seat)
+        (view result.0) result.1 (local_of state.new) }
+{
+    match state.prepare(actor.alloc, act) {
+        Ok(prepared) => try_prepared(rt, actor, seat, state, act, prepared),
+        Err(PrepareFault::NoAct) => (seat, Tried::Done),
+        Err(PrepareFault::Memory) => (seat, Tried::Refused(CommitFault::Memory)),
+    }
+}
+
+/// Commits an act for which the role is ready, and lets the role's own state do it.
+fn try_prepared<R: Wait, G: Gate>(
+    rt: &R,
+    actor: &Actor<'_, G>,
+    seat: Seat<Home>,
+    state: &mut FlatRole,
+    act: &Act,
+    prepared: Prepared,
+) -> (Seat<Home>, Tried)
+    requires sound { IsSound (plain actor.now.bundle.now) }
+    requires of { IsSeatIn actor.now.stage.now seat }
+    requires tied { IsTied (plain actor.now.bundle.now) actor.now.role.now (view seat)
+        (local_of state.old) }
+    requires shown { IsPrepared (local_of state.old) act.now prepared }
+    requires ready { IsReady state.old act.now }
+    ensures of { IsSeatIn actor.now.stage.now result.0 }
+    ensures leaves { Leaves (plain actor.now.bundle.now) actor.now.role.now (view seat)
+        (view result.0) result.1 (local_of state.new) }
+    ensures refused { IfRefused result.1 (IsRefusedTry act.now (view seat) (view result.0)
+        (local_of state.old) (local_of state.new)) }
+{
     actor.gate.pass(rt, Place::BeforeStep(actor.role));
     match act {
         Act::Put(_) | Act::Take(_) | Act::Set(_) | Act::Input(_) | Act::Pick(_) => {

@@ -14,9 +14,8 @@ use Rattle.process_steps.specs.Steps.{Alone, Got, Puts, Takes}
 use Rattle.role_runner.proofs.ActLemmas.{put_can, put_committed, put_sends, take_can, take_committed}
 use Rattle.role_runner.proofs.StepLemmas.{goes_on, take_key, take_shown}
 use Rattle.role_runner.proofs.TieLemmas.{err_each, if_err_at, if_ok_at, ok_each, role_full, take_full, uncommitted}
-use Rattle.role_runner.specs.Acts.{act_fault}
 use Rattle.role_runner.specs.Ties.{IsCommitted, IsUncommitted}
-use Rattle.stage.specs.Faults.{role_fault, take_fault}
+use Rattle.stage.specs.Faults.{act_fault, role_fault, take_fault}
 use Rattle.stage.specs.Seats.{Committed, RefusedFor}
 use Rattle.turn_lock.specs.Words.{view}
 use Rattle.role_runner.proofs.acting.on_stage.Goals as goal

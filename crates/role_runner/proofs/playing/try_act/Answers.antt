@@ -29,6 +29,6 @@ pub returns-in-Err-Memory-clause-refused : goal.returns-in-Err-Memory-clause-ref
 returns-in-Err-Memory-clause-refused g c =
     scarce_try c.args.act.now (view c.args.seat) (local_of c.args.state.now) (local_of c.prepare.new.self) c.prepare.ensures.same
 
-pub returns-in-Put-clause-refused : goal.returns-in-Put-clause-refused
-returns-in-Put-clause-refused g c =
-    prepared_try c.args.act.now (view c.args.seat) (view c.commit.result.0) (local_of c.args.state.now) (local_of c.prepare.new.self) (local_of c.commit.new.state) c.commit.result.1 c.prepare.ensures.same c.commit.ensures.refused
+pub returns-in-Ok-clause-refused : goal.returns-in-Ok-clause-refused
+returns-in-Ok-clause-refused g c =
+    prepared_try c.args.act.now (view c.args.seat) (view c.try_prepared.result.0) (local_of c.args.state.now) (local_of c.prepare.new.self) (local_of c.try_prepared.new.state) c.try_prepared.result.1 c.prepare.ensures.same c.try_prepared.ensures.refused

@@ -9,8 +9,8 @@ use Rattle.net_core.specs.Scopes.{Tells}
 use Rattle.role_runner.proofs.ScopeLemmas.{begin_can, begin_leaves, chosen, head_there, heads, led, tells}
 use Rattle.role_runner.proofs.StepLemmas.{goes_on}
 use Rattle.role_runner.proofs.TieLemmas.{if_err_at, if_ok_at, refused_leaves, refused_try, role_full}
-use Rattle.role_runner.specs.Acts.{act_fault, book_given}
-use Rattle.stage.specs.Faults.{role_fault}
+use Rattle.role_runner.specs.Acts.{book_given}
+use Rattle.stage.specs.Faults.{act_fault, role_fault}
 use Rattle.stage.specs.Holds.{CommittedScope}
 use Rattle.stage.specs.Seats.{RefusedFor}
 use Rattle.turn_lock.specs.Words.{view}

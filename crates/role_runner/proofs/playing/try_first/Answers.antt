@@ -1,0 +1,77 @@
+-- A look finds an act to try, or that none may come yet. A try that may not come yet leaves the role tied to its seat.
+use Rattle.std.proofs.Common.{◌≡◌, ◌<◌, IfSome, Some, length, slice_get, refl, sym, ap, ◌∙◌, subst}
+use Rattle.std.proofs.lemmas.Option.{slice_get_read}
+use Rattle.dioc_terms.specs.Plain.{plain}
+use Rattle.dpoc_process.specs.LocalStates.{offered}
+use Rattle.flat_role.specs.FlatStates.{local_of}
+use Rattle.process_steps.specs.Steps.{is_offered}
+use Rattle.role_runner.proofs.EndLemmas.{all_by_place}
+use Rattle.role_runner.proofs.TieLemmas.{if_refused_at, looked_tied, not_yet_is, refused_not_behind, went_looked, went_nowhere}
+use Rattle.role_runner.proofs.TurnLemmas.{looked_nowhere, looked_through, offered_in, refused_here}
+use Rattle.role_runner.specs.declared.acting.Tried.TheVariants as tried
+use Rattle.role_runner.specs.Ties.{IsRefusedTry, RefusedIn}
+use Rattle.stage.proofs.FirstLemmas.{none_comes}
+use Rattle.stage.proofs.MetLemmas.{looked_met}
+use Rattle.stage.specs.declared.faults.CommitFault.TheVariants as fault
+use Rattle.stage.specs.Faults.{act_fault}
+use Rattle.turn_lock.specs.Words.{view}
+use Rattle.role_runner.proofs.playing.try_first.Goals as goal
+
+not_memory : fault.NotYet ≡ fault.Memory → ⊥
+not_memory is = cc
+
+pub loop-init : goal.loop-init
+loop-init g c = record { of = c.requires.of; looked = looked_nowhere (view c.args.seat) c.requires.tied.met; tied = c.requires.tied; same = refl }
+
+pub loop-preserved : goal.loop-preserved
+loop-preserved g c =
+    let u = view c.args.seat in
+    let v = view c.loop.seat in
+    let x = view c.first_ready-next.result.0 in
+    let w = view c.try_act-next.result.0 in
+    let act = c.index-acts-at.result in
+    let is = not_yet_is c.try_act-next.result.1 (sym c.is_not_yet.ensures ∙ c.if-not-is_not_yet.false) in
+    let refused = if_refused_at (IsRefusedTry act x w (local_of c.loop.state) (local_of c.try_act-next.new.state)) c.try_act-next.result.1 fault.NotYet c.try_act-next.ensures.refused is in
+    let held = refused.held not_memory in
+    record {
+      of = c.try_act-next.ensures.of;
+      looked = looked_through u x w (looked_through u v x c.loop.invariant.looked c.first_ready-next.ensures.first.looked) held.looked;
+      tied = c.try_act-next.ensures.leaves.tied (λ behind. refused_not_behind is behind);
+      same = refused.same ∙ c.loop.invariant.same;
+    }
+
+pub try_act-next-requires-clause-tied : goal.try_act-next-requires-clause-tied
+try_act-next-requires-clause-tied g c =
+    looked_tied (plain c.args.actor.now.bundle.now) c.args.actor.now.role.now (view c.loop.seat) (view c.first_ready-next.result.0) (local_of c.loop.state) c.first_ready-next.ensures.first.looked c.loop.invariant.tied
+
+not_full : tried.Refused fault.NotYet ≡ tried.Refused fault.Full → ⊥
+not_full is = cc
+
+pub returns-in_default-clause-leaves : goal.returns-in_default-clause-leaves
+returns-in_default-clause-leaves g c =
+    let u = view c.args.seat in
+    let v = view c.loop.seat in
+    let x = view c.first_ready-next.result.0 in
+    let looked = c.first_ready-next.ensures.first.looked in
+    record {
+      went = went_looked u u x (went_nowhere u c.requires.tied.met) (looked_through u v x c.loop.invariant.looked looked);
+      tied = λ here. looked_tied (plain c.args.actor.now.bundle.now) c.args.actor.now.role.now v x (local_of c.loop.state) looked c.loop.invariant.tied;
+      full = λ is. absurd (not_full is);
+    }
+
+pub returns-in_default-clause-tried : goal.returns-in_default-clause-tried
+returns-in_default-clause-tried g c = λ _.
+    let u = view c.args.seat in
+    let v = view c.loop.seat in
+    let x = view c.first_ready-next.result.0 in
+    let found = c.first_ready-next.ensures.first in
+    all_by_place (λ a. RefusedIn (act_fault a) u x fault.NotYet) c.args.acts.now (λ i a at.
+    refused_here (act_fault a) u v x fault.NotYet c.loop.invariant.looked (looked_met v x found.looked) (none_comes c.args.acts.now v x c.first_ready-next.result.1 found c.in_default.is i a at))
+
+pub try_act-next-requires-clause-offered : goal.try_act-next-requires-clause-offered
+try_act-next-requires-clause-offered g c =
+    let now = c.args.acts.now in
+    let act = c.index-acts-at.result in
+    let below = subst (λ o. IfSome o (λ at. at < length now)) c.in-Some-first.is c.first_ready-next.ensures.within in
+    let there : slice_get now c.in-Some-first.at ≡ Some act = slice_get_read now (length now) c.in-Some-first.at act refl below c.index-acts-at.is in
+    ap (λ l. is_offered act (offered l)) c.loop.invariant.same ∙ ap (is_offered act) (sym c.requires.all) ∙ offered_in now c.in-Some-first.at act there
