@@ -6,6 +6,7 @@ pub mod ListLemmas
 pub mod MailLemmas
 pub mod NetLemmas
 pub mod PlaceLemmas
+pub mod PlacesLemmas
 pub mod RoleLemmas
 pub mod RunLemmas
 pub mod SameMail

@@ -6,6 +6,7 @@ pub mod Faults
 pub mod KeptParts
 pub mod MovesIn
 pub mod Nets
+pub mod Places
 pub mod Scopes
 pub mod Scripts
 pub mod Standing

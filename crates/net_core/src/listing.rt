@@ -7,6 +7,7 @@ ghost use Rattle.network_steps.specs.declared.moves.Move.TheVariants as move;
 ghost use Rattle.net_core.specs.Deeds.{is_there};
 ghost use Rattle.net_core.specs.KeptParts.{due_seen};
 ghost use Rattle.net_core.specs.MovesIn.{ReadyAt, are_places, chosen, is_first_due, local_moves, moves_in};
+ghost use Rattle.net_core.specs.Places.{ListedAt, places_of};
 
 use crate::bodies::Coming;
 use crate::parts::{is_there, place_of};
@@ -148,6 +149,8 @@ pub(crate) fn refresh_at<R: Runs>(
     requires member { member role.now cast.now ≡ true }
     ensures ready { OnOk result (ReadyAt cast.now (map R.local roles.now) mail.now role.now
         (chosen ready.new.items acts.new.items)) }
+    ensures listed { OnOk result (ListedAt cast.now (map R.local roles.now) mail.now role.now
+        acts.new.items ready.new.items) }
     ensures inside { are_places ready.new.items acts.new.items ≡ true }
 {
     let Some(at) = place_of(cast, role) else {
@@ -164,6 +167,8 @@ fn add_ready(mail: &Mail, acts: &[Act], ready: &mut Vec<usize>) -> Result<(), Me
     requires { ready.old.items ≡ [] }
     ensures ready { OnOk result
         (chosen ready.new.items acts.now ≡ filter (λ a. is_there a mail.now) acts.now) }
+    ensures places { OnOk result
+        (ready.new.items ≡ places_of (λ a. is_there a mail.now) acts.now) }
     ensures inside { are_places ready.new.items acts.now ≡ true }
 {
     for at in 0..acts.len() {

@@ -4,11 +4,12 @@ ghost use Rattle.std.specs.Prelude.{◌≡◌, ◌≢◌, ◌<◌, ◌≤◌, tr
 ghost use Rattle.dioc_terms.specs.Equality.{member};
 ghost use Rattle.dioc_terms.specs.Plain.{setting};
 ghost use Rattle.network_steps.specs.Network.{network_ended};
-ghost use Rattle.network_steps.specs.Schedule.{change_due, moves};
+ghost use Rattle.network_steps.specs.Schedule.{change_due, is_ready, moves};
 ghost use Rattle.process_steps.specs.Steps.{ended};
 ghost use Rattle.net_core.specs.Changes.{IsChangeOf, change_fault};
 ghost use Rattle.net_core.specs.MovesIn.{are_places, chosen, ready_of};
 ghost use Rattle.net_core.specs.Nets.{IsSoundRun, network_of};
+ghost use Rattle.net_core.specs.Places.{offers_of, places_of};
 ghost use Rattle.net_core.specs.Steps.{IsStepOf, fault_of};
 
 use crate::bodies::{Coming, RuleBody};
@@ -169,6 +170,9 @@ impl<R: Runs> Net<R> {
         requires { member role.now self.now.bundle.cast ≡ true }
         ensures ready { OnOk result (chosen ready.new.items acts.new.items
             ≡ ready_of (network_of self.now) role.now) }
+        ensures acts { OnOk result (acts.new.items ≡ offers_of (network_of self.now) role.now) }
+        ensures places { OnOk result (ready.new.items
+            ≡ places_of (is_ready (network_of self.now)) acts.new.items) }
         ensures inside { are_places ready.new.items acts.new.items ≡ true }
     {
         let cast = self.cast.as_slice();

@@ -2,6 +2,7 @@
 use Rattle.std.proofs.Common.{◌≡◌, ◌∷◌, [], ◌++◌, sym, ap, ◌∙◌, rules}
 use Rattle.dioc_terms.specs.declared.entries.Act.{Act}
 use Rattle.net_core.proofs.Choosing.{chosen_more, chosen_same, one_more_place}
+use Rattle.net_core.proofs.PlacesLemmas.{places_more, places_stay}
 use Rattle.net_core.specs.Deeds.{is_there}
 use Rattle.net_core.specs.MovesIn.{are_places, chosen}
 use Rattle.net_core.proofs.listing.add_ready.Goals as goal
@@ -17,11 +18,15 @@ loop-at-preserved c =
       | then-is_there+in_ok-push w ↦
           let pushed : w.push.new.self.items ≡ c.loop-at.ready.items ++ i ∷ [] = search rules in
           record {
+            places = ap (λ v. v.items) w.ready-is ∙ pushed ∙ ap (λ ps. ps ++ i ∷ []) c.loop-at.invariant.places
+                ∙ sym (places_more there xs i x c.loop-at-test.true c.index-acts-at.is (sym c.is_there.ensures ∙ w.if-is_there.true));
             ready = ap (λ v. chosen v.items xs) w.ready-is ∙ ap (λ ps. chosen ps xs) pushed
                 ∙ chosen_more there xs c.loop-at.ready.items i x c.loop-at-test.true c.loop-at.invariant.ready c.index-acts-at.is (sym c.is_there.ensures ∙ w.if-is_there.true);
             inside = ap (λ v. are_places v.items xs) w.ready-is ∙ ap (λ ps. are_places ps xs) pushed ∙ one_more_place xs c.loop-at.ready.items i c.loop-at-test.true c.loop-at.invariant.inside;
           }
       | else-is_there w ↦ record {
+        places = ap (λ v. v.items) w.ready-is ∙ c.loop-at.invariant.places
+            ∙ sym (places_stay there xs i x c.loop-at-test.true c.index-acts-at.is (sym c.is_there.ensures ∙ w.if-is_there.false));
         ready = ap (λ v. chosen v.items xs) w.ready-is
             ∙ chosen_same there xs c.loop-at.ready.items i x c.loop-at-test.true c.loop-at.invariant.ready c.index-acts-at.is (sym c.is_there.ensures ∙ w.if-is_there.false);
         inside = ap (λ v. are_places v.items xs) w.ready-is ∙ c.loop-at.invariant.inside;

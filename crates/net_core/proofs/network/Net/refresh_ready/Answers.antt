@@ -4,11 +4,14 @@ use Rattle.std.specs.Prelude.{map}
 use Rattle.std.proofs.lemmas.List.{length-map}
 use Rattle.dioc_terms.specs.Equality.{member}
 use Rattle.dioc_terms.specs.Plain.{plain}
+use Rattle.network_steps.specs.Schedule.{is_ready}
 use Rattle.net_core.proofs.ActLemmas.{locals_long}
 use Rattle.net_core.proofs.ListLemmas.{ready_is_of}
+use Rattle.net_core.proofs.PlacesLemmas.{acts_are, places_are}
 use Rattle.net_core.specs.KeptParts.{body_seen, due_seen}
 use Rattle.net_core.specs.MovesIn.{ReadyAt, chosen, ready_of}
 use Rattle.net_core.specs.Nets.{NetState, network_of}
+use Rattle.net_core.specs.Places.{ListedAt, offers_of, places_of}
 use Rattle.net_core.specs.Standing.{Parts}
 use Rattle.net_core.proofs.network.Net.refresh_ready.Goals as goal
 
@@ -34,3 +37,27 @@ returns-in-Ok-clause-ready g c =
     (subst (λ cast. ReadyAt cast (map g.R.Runs.local c.as_slice-roles.result.now) i.mail c.args.role.now acts) c.as_slice-cast.ensures c.in-Ok.ensures.ready) in
     ready_is_of (plain i.of.value) i.limit parts c.self.invariant c.args.role.now acts ready
     ∙ ap (λ (net : NetState). ready_of (network_of net) c.args.role.now) c.self.view_is
+
+pub returns-in-Ok-clause-acts : goal.returns-in-Ok-clause-acts
+returns-in-Ok-clause-acts g c =
+    let i = c.self.inside in
+    let acts = c.refresh_at.new.acts.items in
+    let places = c.refresh_at.new.ready.items in
+    let parts : Parts = record { cast = i.cast; locals = map g.R.Runs.local i.roles.items; mail = i.mail; book = i.book; bodies = map body_seen i.bodies; coming = map due_seen i.coming.items; updates = i.updates; history = i.history.entries } in
+    let listed : ListedAt i.cast (map g.R.Runs.local i.roles.items) i.mail c.args.role.now acts places =
+    subst (λ roles. ListedAt i.cast (map g.R.Runs.local roles) i.mail c.args.role.now acts places) c.as_slice-roles.ensures.value
+    (subst (λ cast. ListedAt cast (map g.R.Runs.local c.as_slice-roles.result.now) i.mail c.args.role.now acts places) c.as_slice-cast.ensures c.in-Ok.ensures.listed) in
+    acts_are (plain i.of.value) i.limit parts c.self.invariant c.args.role.now acts places listed
+    ∙ ap (λ (net : NetState). offers_of (network_of net) c.args.role.now) c.self.view_is
+
+pub returns-in-Ok-clause-places : goal.returns-in-Ok-clause-places
+returns-in-Ok-clause-places g c =
+    let i = c.self.inside in
+    let acts = c.refresh_at.new.acts.items in
+    let places = c.refresh_at.new.ready.items in
+    let parts : Parts = record { cast = i.cast; locals = map g.R.Runs.local i.roles.items; mail = i.mail; book = i.book; bodies = map body_seen i.bodies; coming = map due_seen i.coming.items; updates = i.updates; history = i.history.entries } in
+    let listed : ListedAt i.cast (map g.R.Runs.local i.roles.items) i.mail c.args.role.now acts places =
+    subst (λ roles. ListedAt i.cast (map g.R.Runs.local roles) i.mail c.args.role.now acts places) c.as_slice-roles.ensures.value
+    (subst (λ cast. ListedAt cast (map g.R.Runs.local c.as_slice-roles.result.now) i.mail c.args.role.now acts places) c.as_slice-cast.ensures c.in-Ok.ensures.listed) in
+    places_are (plain i.of.value) i.limit parts c.self.invariant c.args.role.now acts places listed
+    ∙ ap (λ (net : NetState). places_of (is_ready (network_of net)) acts) c.self.view_is
