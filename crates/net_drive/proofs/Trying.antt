@@ -34,7 +34,7 @@ use Rattle.net_core.specs.Nets.{IsSoundRun, NetState, network_of}
 use Rattle.net_core.specs.Steps.{GoesOn}
 use Rattle.schedule.specs.declared.roles.ReadyRole.{ReadyRole}
 use Rattle.schedule.proofs.AgendaLemmas.{is_due, moves_are}
-use Rattle.schedule.specs.Agendas.{agenda_of, moves_of, ready_seen}
+use Rattle.schedule.specs.Agendas.{Shown, agenda_of, moves_of, ready_seen}
 use Rattle.schedule.specs.Turns.{IsMoveOf}
 
 pub longer : (old new : NetState) (outcome : NextNetwork) → GoesOn old outcome new → length old.history < length new.history
@@ -162,7 +162,7 @@ found_in q (a ∷ acts) = by_test (is_aux_act a) (found_in q acts)
     by_test false rest = rest
 
 -- in the first of the roles that has one
-pub found_first : (ready : Role × List Act) (rest : List (Role × List Act)) (o : Option Act) → find is_aux_act ready.1 ≡ o
+pub found_first : (ready : Shown) (rest : List Shown) (o : Option Act) → find is_aux_act ready.1 ≡ o
     → find is_aux_move (flat_map moves_of (ready ∷ rest)) ≡ option_or (option_map (move.Act ready.0) o) (find is_aux_move (flat_map moves_of rest))
 found_first ready rest o is =
     find-append is_aux_move (moves_of ready) (flat_map moves_of rest)
@@ -200,7 +200,7 @@ module _ (acts : List Act) (places : List ℕ) (i : ℕ) (a : Act) (inside : are
   aux_later h = ap (find is_aux_act) chosen_next ∙ cond-false (is_aux_act a) (Some a) (find is_aux_act (chosen (drop (i + 1) places) acts)) h
 
 -- of an agenda of a net it is the first of its moves
-pub first_of_agenda : (net : NetState) (agenda : List (Role × List Act)) → agenda ≡ agenda_of net
+pub first_of_agenda : (net : NetState) (agenda : List Shown) → agenda ≡ agenda_of net
     → first_auxiliary (setting net.bundle) (network_of net) ≡ option_and_then (move_step (setting net.bundle) (network_of net)) (find is_aux_move (flat_map moves_of agenda))
 first_of_agenda net agenda is =
     ap (λ ms. option_and_then (move_step (setting net.bundle) (network_of net)) (find is_aux_move ms)) (moves_are net)

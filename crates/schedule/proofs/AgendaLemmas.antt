@@ -1,15 +1,17 @@
 -- An agenda lists the acts of a net, and is brought up to date by listing anew what the last act touches.
 use Rattle.std.proofs.Common.{◌≡◌, ◌<◌, ◌≤◌, ◌+◌, ◌-◌, ℕ, zero, suc, List, [], ◌∷◌, ◌++◌, length, Bool, true, false, ◌&&◌, not, Option, Some, slice_get, refl, sym, ap, ap₂, ◌∙◌, subst, map, arith, take, drop, get_or}
-use Rattle.std.specs.Prelude.{flat_map, if◌then◌else◌, slice_set, vec_len}
+use Rattle.std.specs.Prelude.{◌||◌, flat_map, if◌then◌else◌, slice_set, vec_len}
 use Rattle.std.specs.List.{between, list_all}
-use Rattle.std.proofs.lemmas.Bool.{and_from, both_ways, cond-false, cond-true, or_left, or_right}
+use Rattle.std.proofs.lemmas.Bool.{and_from, both_ways, cond-false, or_left, or_right}
 use Rattle.std.proofs.lemmas.List.{append-nil, drop_more, get_or-map, get_or_at, length-append, length-map, length-take, map-set, take_more}
 use Rattle.std.proofs.lemmas.List.Edits.{map_over_more}
 use Rattle.std.proofs.lemmas.List.Folds.{flat_map-map, list_all_at}
 use Rattle.std.proofs.lemmas.Option.{slice_get_read}
 use Rattle.std.proofs.lemmas.Slice.{between_to_end}
 use Rattle.dioc_terms.specs.declared.entries.Act.{Act}
+use Rattle.dioc_terms.specs.declared.entries.Act.TheVariants as act
 use Rattle.dioc_terms.specs.declared.names.Role.{Role}
+use Rattle.dioc_terms.specs.declared.processes.Key.{Key}
 use Rattle.dioc_terms.specs.Equality.{member, role_eq}
 use Rattle.dioc_terms.specs.Plain.{PlainBundle, setting}
 use Rattle.network_steps.specs.Network.{Network}
@@ -18,14 +20,15 @@ use Rattle.marked_laws.proofs.Premise.{Known}
 use Rattle.marked_laws.proofs.Shapes.{some_same}
 use Rattle.network_steps.specs.declared.moves.Move.{Move}
 use Rattle.network_steps.specs.declared.moves.Move.TheVariants as move
-use Rattle.network_steps.specs.Schedule.{change_due, move_place, moves}
-use Rattle.net_core.specs.MovesIn.{ready_of}
+use Rattle.network_steps.specs.Schedule.{change_due, is_ready, move_place, moves}
 use Rattle.net_core.specs.Nets.{IsSoundRun, NetState, network_of}
 use Rattle.schedule.specs.declared.roles.ReadyRole.{ReadyRole}
 use Rattle.net_core.proofs.Choosing.{chosen_long}
+use Rattle.net_core.proofs.PlacesLemmas.{chosen_places}
 use Rattle.net_core.specs.MovesIn.{chosen}
-use Rattle.schedule.proofs.TouchLemmas.{untouched, untouched_by_change}
-use Rattle.schedule.specs.Agendas.{IsStale, SparesRest, agenda_of, moves_of, ready_in, refreshed, ready_seen, touches}
+use Rattle.net_core.specs.Places.{offers_of, places_of}
+use Rattle.schedule.proofs.TouchLemmas.{follows, untouched_by_change}
+use Rattle.schedule.specs.Agendas.{Follows, IsStale, Shown, SparesRest, WasAgenda, WasListed, agenda_of, moves_of, puts_to, ready_in, ready_seen, refreshed, spared, takes}
 use Rattle.schedule.specs.Turns.{IsMoveOf, IsScheduled, has_ended}
 
 -- whether a change is listed
@@ -37,13 +40,13 @@ pub moves_are : (net : NetState) → moves (setting net.bundle) (network_of net)
 moves_are net =
     ap (λ l. (if is_due net then move.Change ∷ [] else []) ++ l) (sym (flat_map-map moves_of (ready_in (network_of net)) net.bundle.cast))
 
-moves_due : (net : NetState) (agenda : List (Role × List Act)) → agenda ≡ agenda_of net → true ≡ is_due net
+moves_due : (net : NetState) (agenda : List Shown) → agenda ≡ agenda_of net → true ≡ is_due net
     → moves (setting net.bundle) (network_of net) ≡ move.Change ∷ flat_map moves_of agenda
 moves_due net agenda is due =
     moves_are net ∙ ap (λ (t : Bool). (if t then move.Change ∷ [] else []) ++ flat_map moves_of (agenda_of net)) (sym due)
     ∙ ap (λ l. move.Change ∷ flat_map moves_of l) (sym is)
 
-moves_not_due : (net : NetState) (agenda : List (Role × List Act)) → agenda ≡ agenda_of net → false ≡ is_due net
+moves_not_due : (net : NetState) (agenda : List Shown) → agenda ≡ agenda_of net → false ≡ is_due net
     → moves (setting net.bundle) (network_of net) ≡ flat_map moves_of agenda
 moves_not_due net agenda is due =
     moves_are net ∙ ap (λ (t : Bool). (if t then move.Change ∷ [] else []) ++ flat_map moves_of (agenda_of net)) (sym due)
@@ -56,19 +59,19 @@ is_scheduled net seed listed place m same is got =
     subst (λ (ms : List Move). slice_get ms (move_place seed (length ms)) ≡ Some m) (sym same) at
 
 -- what is scheduled where a change is due, and where none is
-pub scheduled_due : (net : NetState) (seed : Option ℕ) (agenda : List (Role × List Act)) (acts place : ℕ) (m : Move) → agenda ≡ agenda_of net → true ≡ is_due net
+pub scheduled_due : (net : NetState) (seed : Option ℕ) (agenda : List Shown) (acts place : ℕ) (m : Move) → agenda ≡ agenda_of net → true ≡ is_due net
     → acts ≡ length (flat_map moves_of agenda) → place ≡ move_place seed (acts + 1) → slice_get (move.Change ∷ flat_map moves_of agenda) place ≡ Some m → IsScheduled net seed m
 scheduled_due net seed agenda acts place m is due count at got =
     let more : acts + 1 ≡ length (move.Change ∷ flat_map moves_of agenda) = omega (arith, count) in
     is_scheduled net seed (move.Change ∷ flat_map moves_of agenda) place m (moves_due net agenda is due) (at ∙ ap (move_place seed) more) got
 
-pub scheduled_act : (net : NetState) (seed : Option ℕ) (agenda : List (Role × List Act)) (acts place : ℕ) (m : Move) → agenda ≡ agenda_of net → false ≡ is_due net
+pub scheduled_act : (net : NetState) (seed : Option ℕ) (agenda : List Shown) (acts place : ℕ) (m : Move) → agenda ≡ agenda_of net → false ≡ is_due net
     → acts ≡ length (flat_map moves_of agenda) → place ≡ move_place seed acts → slice_get (flat_map moves_of agenda) place ≡ Some m → IsScheduled net seed m
 scheduled_act net seed agenda acts place m is due count at got =
     is_scheduled net seed (flat_map moves_of agenda) place m (moves_not_due net agenda is due) (at ∙ ap (move_place seed) count) got
 
 -- there is an act where no change is due
-pub some_act : (net : NetState) (agenda : List (Role × List Act)) (acts : ℕ) → agenda ≡ agenda_of net → false ≡ is_due net
+pub some_act : (net : NetState) (agenda : List Shown) (acts : ℕ) → agenda ≡ agenda_of net → false ≡ is_due net
     → acts ≡ length (flat_map moves_of agenda) → 0 < length (moves (setting net.bundle) (network_of net)) → 0 < acts
 some_act net agenda acts is due count some = omega (arith, some, count, ap length (moves_not_due net agenda is due))
 
@@ -161,59 +164,57 @@ member_got [] i q h = cc
 member_got (r ∷ rs) zero q h = or_left (role_eq q r) (member q rs) (subst (λ x. role_eq q x ≡ true) (sym (some_same h)) (role_itself q))
 member_got (r ∷ rs) (suc i) q h = or_right (role_eq q r) (member q rs) (member_got rs i q h)
 
--- a list made of another, whose members become what they are to be
-map_map_same : {A B : Type 0} (f h : A → B) (g : B → B) (xs : List A) → ((x : A) → g (f x) ≡ h x) → map g (map f xs) ≡ map h xs
-map_map_same f h g [] same = refl
-map_map_same f h g (x ∷ xs) same = ap₂ (λ y ys. y ∷ ys) (same x) (map_map_same f h g xs same)
-
+-- lists made of one whose members become the same
 map_same : {A B : Type 0} (f h : A → B) (xs : List A) → ((x : A) → f x ≡ h x) → map f xs ≡ map h xs
 map_same f h [] same = refl
 map_same f h (x ∷ xs) same = ap₂ (λ y ys. y ∷ ys) (same x) (map_same f h xs same)
 
-refreshed_one : (N M : Network) (q : Role) (a : Act) (r : Role) → (touches q a r ≡ false → ready_of M r ≡ ready_of N r)
-    → (if touches q a r then ready_in M r else ready_in N r) ≡ ready_in M r
-refreshed_one N M q a r same = by_test (touches q a r) refl
-  where
-    by_test : (t : Bool) → touches q a r ≡ t → (if touches q a r then ready_in M r else ready_in N r) ≡ ready_in M r
-    by_test true is = cond-true (touches q a r) (ready_in M r) (ready_in N r) is
-    by_test false is = cond-false (touches q a r) (ready_in M r) (ready_in N r) is ∙ ap (λ acts. (r, acts)) (sym (same is))
-
 -- after a move the agenda from before it is one that is to be brought up to date
-pub stale_after : Known → (old new : NetState) (m : Move) (agenda : List (Role × List Act)) → IsSoundRun old → IsMoveOf old m new → agenda ≡ agenda_of old
+pub stale_after : Known → (old new : NetState) (m : Move) (agenda : List Shown) → IsSoundRun old → IsMoveOf old m new → agenda ≡ agenda_of old
     → IsStale new (Some m) agenda
 stale_after known old new move.Change agenda run made is =
     is ∙ map_same (ready_in (network_of old)) (ready_in (network_of new)) old.bundle.cast
-    (λ r. ap (λ acts. (r, acts)) (sym (ap (λ M. ready_of M r) made.goes.network ∙ untouched_by_change (setting old.bundle) (network_of old) made.outcome made.steps r)))
+    (λ r. sym (ap (λ M. ready_in M r) made.goes.network ∙ untouched_by_change (setting old.bundle) (network_of old) made.outcome made.steps r))
     ∙ ap (λ (b : PlainBundle). map (ready_in (network_of new)) b.cast) (sym made.goes.bundle)
-stale_after known old new (move.Act q a) agenda run made is =
-    ap (refreshed (network_of new) q a) is
-    ∙ map_map_same (ready_in (network_of old)) (ready_in (network_of new)) (λ ready. if touches q a ready.0 then ready_in (network_of new) ready.0 else ready) old.bundle.cast
-    (λ r. refreshed_one (network_of old) (network_of new) q a r
-    (λ apart. ap (λ M. ready_of M r) made.goes.network
-    ∙ untouched known old.bundle old.history (network_of old) run.sound run.runs q a made.outcome made.steps r apart))
-    ∙ ap (λ (b : PlainBundle). map (ready_in (network_of new)) b.cast) (sym made.goes.bundle)
+stale_after known old new (move.Act q a) agenda run made is = record {
+  before = network_of old;
+  listed = ap (map (spared q)) (is ∙ ap (λ (b : PlainBundle). map (ready_in (network_of old)) b.cast) (sym made.goes.bundle));
+  follows = λ r other. subst (λ M. Follows (network_of old) M a r) (sym made.goes.network)
+      (follows known old.bundle old.history (network_of old) run.sound run.runs q a made.outcome made.steps r other);
+}
 
--- so is one that differs from it in nothing but what is listed anew
-pub stale_spared : (new : NetState) (m : Move) (before after : List (Role × List Act)) → SparesRest m before after → IsStale new (Some m) before → IsStale new (Some m) after
+-- so is one that differs from it in nothing but what is listed of the role that moves
+pub stale_spared : (new : NetState) (m : Move) (before after : List Shown) → SparesRest m before after → IsStale new (Some m) before → IsStale new (Some m) after
 stale_spared new move.Change before after spares stale = spares ∙ stale
-stale_spared new (move.Act q a) before after spares stale = spares (network_of new) ∙ stale
+stale_spared new (move.Act q a) before after spares stale = record {
+  before = stale.before;
+  listed = spares ∙ stale.listed;
+  follows = stale.follows;
+}
 
--- the roles of an agenda stay when it is brought up to date
-roles_stay : (N : Network) (q : Role) (a : Act) (agenda : List (Role × List Act)) → map (λ ready. ready.0) (refreshed N q a agenda) ≡ map (λ ready. ready.0) agenda
-roles_stay N q a [] = refl
-roles_stay N q a (ready ∷ rest) = ap₂ (λ r rs. r ∷ rs) (by_test (touches q a ready.0)) (roles_stay N q a rest)
+-- what is listed of a role keeps that it is of the role
+spared_role : (q : Role) (ready : Shown) → (spared q ready).0 ≡ ready.0
+spared_role q ready = by_test (role_eq ready.0 q)
   where
-    by_test : (t : Bool) → (if t then ready_in N ready.0 else ready).0 ≡ ready.0
+    by_test : (t : Bool) → (if t then (ready.0, [], [], []) else ready).0 ≡ ready.0
     by_test true = refl
     by_test false = refl
 
-all_by_roles : (f : Role → Bool) (agenda : List (Role × List Act)) → list_all f (map (λ ready. ready.0) agenda) ≡ list_all (λ ready. f ready.0) agenda
+roles_stay : (q : Role) (agenda : List Shown) → map (λ (ready : Shown). ready.0) (map (spared q) agenda) ≡ map (λ (ready : Shown). ready.0) agenda
+roles_stay q [] = refl
+roles_stay q (ready ∷ rest) = ap₂ (λ r rs. r ∷ rs) (spared_role q ready) (roles_stay q rest)
+
+all_by_roles : (f : Role → Bool) (agenda : List Shown) → list_all f (map (λ (ready : Shown). ready.0) agenda) ≡ list_all (λ (ready : Shown). f ready.0) agenda
 all_by_roles f [] = refl
 all_by_roles f (ready ∷ rest) = ap (λ t. f ready.0 && t) (all_by_roles f rest)
 
-roles_listed : (N : Network) (cast : List Role) → map (λ ready. ready.0) (map (ready_in N) cast) ≡ cast
+roles_listed : (N : Network) (cast : List Role) → map (λ (ready : Shown). ready.0) (map (ready_in N) cast) ≡ cast
 roles_listed N [] = refl
 roles_listed N (q ∷ qs) = ap (λ l. q ∷ l) (roles_listed N qs)
+
+listed_by_roles : (N : Network) (agenda : List Shown) → refreshed N agenda ≡ map (ready_in N) (map (λ (ready : Shown). ready.0) agenda)
+listed_by_roles N [] = refl
+listed_by_roles N (ready ∷ rest) = ap (λ l. ready_in N ready.0 ∷ l) (listed_by_roles N rest)
 
 all_among : (cast roles : List Role) → ((q : Role) → member q roles ≡ true → member q cast ≡ true) → list_all (λ q. member q cast) roles ≡ true
 all_among cast [] among = refl
@@ -221,27 +222,55 @@ all_among cast (q ∷ qs) among =
     and_from (member q cast) (list_all (λ r. member r cast) qs) (among q (or_left (role_eq q q) (member q qs) (role_itself q)))
     (all_among cast qs (λ r h. among r (or_right (role_eq r q) (member r qs) h)))
 
--- the roles of an agenda that is to be brought up to date are roles of the cast
-pub roles_of_cast : (net : NetState) (q : Role) (a : Act) (agenda : List (Role × List Act)) → IsStale net (Some (move.Act q a)) agenda
-    → list_all (λ ready. member ready.0 net.bundle.cast) agenda ≡ true
-roles_of_cast net q a agenda stale =
-    let cast = net.bundle.cast in
-    sym (all_by_roles (λ r. member r cast) agenda)
-    ∙ ap (list_all (λ r. member r cast)) (sym (roles_stay (network_of net) q a agenda) ∙ ap (map (λ ready. ready.0)) stale ∙ roles_listed (network_of net) cast)
-    ∙ all_among cast cast (λ r h. h)
+-- an agenda that is to be brought up to date
+module _ (cast : List Role) (N : Network) (q : Role) (a : Act) (agenda : List Shown) (was : WasAgenda cast N q a agenda) where
+  roles_are : map (λ (ready : Shown). ready.0) agenda ≡ cast
+  roles_are =
+      sym (roles_stay q agenda) ∙ ap (map (λ (ready : Shown). ready.0)) was.listed
+      ∙ roles_stay q (map (ready_in was.before) cast) ∙ roles_listed was.before cast
+
+  -- has the roles of the cast
+  pub roles_of_cast : list_all (λ (ready : Shown). member ready.0 cast) agenda ≡ true
+  roles_of_cast = sym (all_by_roles (λ r. member r cast) agenda) ∙ ap (list_all (λ r. member r cast)) roles_are ∙ all_among cast cast (λ r h. h)
+
+  -- and is up to date with each of them listed anew
+  pub all_refreshed : refreshed N agenda ≡ map (ready_in N) cast
+  all_refreshed = listed_by_roles N agenda ∙ ap (map (ready_in N)) roles_are
+
+-- what it lists of a role that didn't act is what it could before
+was_at : (q : Role) (M : Network) (agenda : List Shown) (cast : List Role) (i : ℕ) (x : Shown) → map (spared q) agenda ≡ map (spared q) (map (ready_in M) cast)
+    → i < length agenda → x ≡ get_or agenda i x → role_eq x.0 q ≡ false → x ≡ ready_in M x.0
+was_at q M [] cast i x same inside is other = absurd (omega (arith, inside))
+was_at q M (y ∷ ys) [] i x same inside is other = cc
+was_at q M (y ∷ ys) (c ∷ cs) zero x same inside is other =
+    let head : spared q x ≡ spared q (ready_in M c) = ap (spared q) is ∙ ap (λ l. get_or l 0 x) same in
+    let role : x.0 ≡ c = sym (spared_role q x) ∙ ap (λ (z : Shown). z.0) head ∙ spared_role q (ready_in M c) in
+    sym (cond-false (role_eq x.0 q) (x.0, [], [], []) x other) ∙ head
+    ∙ cond-false (role_eq c q) (c, [], [], []) (ready_in M c) (ap (λ r. role_eq r q) (sym role) ∙ other)
+    ∙ ap (ready_in M) (sym role)
+was_at q M (y ∷ ys) (c ∷ cs) (suc i) x same inside is other =
+    was_at q M ys cs i x (ap (drop 1) same) (omega (arith, inside)) is other
 
 -- a role that an agenda lists at a place
-module _ (f : Role × List Act → Role × List Act) (old : List (Role × List Act)) (now : List ReadyRole) (i : ℕ) (ready : ReadyRole) (lt : i < length old) (lt' : i < length now)
+module _ (f : Shown → Shown) (old : List Shown) (now : List ReadyRole) (i : ℕ) (ready : ReadyRole) (lt : i < length old) (lt' : i < length now)
     (so_far : map ready_seen now ≡ map f (take i old) ++ drop i old) (is : ready ≡ get_or now i ready) where
   here_now : ready_seen ready ≡ get_or (map ready_seen now) i (ready_seen ready)
   here_now = ap ready_seen is ∙ sym (get_or-map ready_seen now i ready (ready_seen ready) lt')
 
   here_before : ready_seen ready ≡ get_or old i (ready_seen ready)
   here_before =
-      let front : List (Role × List Act) = map f (take i old) in
+      let front : List Shown = map f (take i old) in
       let long : length front ≡ i = length-map (take i old) f ∙ omega (arith, length-take i old) in
       let parts : map ready_seen now ≡ front ++ get_or old i (ready_seen ready) ∷ drop (i + 1) old = so_far ∙ ap (λ l. front ++ l) (drop_more old i (ready_seen ready) lt) in
       here_now ∙ ap (λ l. get_or l i (ready_seen ready)) parts ∙ get_or_at front (get_or old i (ready_seen ready)) (drop (i + 1) old) (ready_seen ready) i long
+
+  -- is as it was before the act, unless it did the act
+  pub was_listed : (cast : List Role) (N : Network) (q : Role) (a : Act) → WasAgenda cast N q a old → role_eq ready.role q ≡ false → WasListed N a (ready_seen ready)
+  was_listed cast N q a was other = record {
+    before = was.before;
+    listed = was_at q was.before old cast i (ready_seen ready) was.listed lt here_before other;
+    follows = was.follows ready.role other;
+  }
 
   -- stands in the cast where all of them do
   pub listed_at : (p : Role → Bool) → list_all (λ r. p r.0) old ≡ true → p ready.role ≡ true
@@ -251,7 +280,7 @@ module _ (f : Role × List Act → Role × List Act) (old : List (Role × List A
       by_test true e = e
       by_test false e =
           absurd (both_ways (list_all (λ r. p r.0) old)
-          (list_all_at (λ r. p r.0) old i (ready_seen ready) lt (ap (λ (r : Role × List Act). p r.0) (sym here_before) ∙ e)) all)
+          (list_all_at (λ r. p r.0) old i (ready_seen ready) lt (ap (λ (r : Shown). p r.0) (sym here_before) ∙ e)) all)
 
   -- and is brought up to date with those before it
   pub listed_more : (new : ReadyRole) → ready_seen new ≡ f (ready_seen (get_or now i ready)) → map ready_seen (slice_set now i new) ≡ map f (take (i + 1) old) ++ drop (i + 1) old
@@ -261,3 +290,39 @@ module _ (f : Role × List Act → Role × List Act) (old : List (Role × List A
 -- a role of the cast
 pub member_at : (cast : List Role) (i : ℕ) (q : Role) → i < length cast → q ≡ get_or cast i q → member q cast ≡ true
 member_at cast i q lt is = member_got cast i q (slice_get_read cast (length cast) i q refl lt is)
+
+-- what is listed of a role with all its acts and the right places is what is to be
+listed_so : (N : Network) (r : Role) (acts : List Act) (places : List ℕ) → acts ≡ offers_of N r → places ≡ places_of (is_ready N) (offers_of N r)
+    → (r, chosen places acts, acts, places) ≡ ready_in N r
+listed_so N r acts places all here =
+    ap₂ (λ (xs : List Act) (ps : List ℕ). (r, chosen ps xs, xs, ps)) all here
+    ∙ ap (λ (done : List Act). (r, done, offers_of N r, places_of (is_ready N) (offers_of N r))) (chosen_places (is_ready N) (offers_of N r))
+
+-- so it is once the takes of a message that was put to it are put among them
+pub come_listed : (N : Network) (k : Key) (r : Role) (acts : List Act) (places new : List ℕ) → WasListed N (act.Put k) (r, chosen places acts, acts, places)
+    → ((p : Act → Bool) → places ≡ places_of p acts → new ≡ places_of (λ a. takes k a || p a) acts) → (r, chosen new acts, acts, new) ≡ ready_in N r
+come_listed N k r acts places new was put =
+    let M = was.before in
+    let at : acts ≡ offers_of M r = ap (λ (x : Shown). x.2) was.listed in
+    let old : places ≡ places_of (is_ready M) acts = ap (λ (x : Shown). x.3) was.listed ∙ ap (places_of (is_ready M)) (sym at) in
+    listed_so N r acts new (at ∙ sym was.follows.offers)
+    (put (is_ready M) old ∙ ap (places_of (λ a. takes k a || is_ready M a)) at ∙ sym was.follows.ready ∙ ap (places_of (is_ready N)) (sym was.follows.offers))
+
+-- and as it is where nothing was put to it
+pub stay_listed : (N : Network) (a : Act) (ready : Shown) → WasListed N a ready → puts_to a ready.0 ≡ false → ready ≡ ready_in N ready.0
+stay_listed N a ready was none =
+    let M = was.before in
+    let r : Role = ready.0 in
+    was.listed
+    ∙ ap (λ (done : List Act). (r, done, offers_of M r, places_of (is_ready M) (offers_of M r))) (sym (chosen_places (is_ready M) (offers_of M r)))
+    ∙ listed_so N r (offers_of M r) (places_of (is_ready M) (offers_of M r)) (sym was.follows.offers)
+    (sym (was.follows.same none) ∙ ap (places_of (is_ready N)) (sym was.follows.offers))
+
+-- an act that is no put puts nothing
+pub none_put : (a : Act) (r : Role) → ((k : Key) → a ≡ act.Put k → ⊥) → puts_to a r ≡ false
+none_put (act.Put k) r other = absurd (other k refl)
+none_put (act.Take k) r other = refl
+none_put (act.Set i) r other = refl
+none_put (act.Input i) r other = refl
+none_put (act.Pick i) r other = refl
+none_put (act.Scope i) r other = refl

@@ -1,4 +1,5 @@
 pub mod AgendaLemmas
+pub mod ComeLemmas
 pub mod MoveLemmas
 pub mod OwnLemmas
 pub mod PromptLemmas

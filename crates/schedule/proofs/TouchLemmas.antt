@@ -1,7 +1,7 @@
 -- What a role can do changes by its own act and by a message that is put to it, and by nothing else.
-use Rattle.std.proofs.Common.{◌≡◌, List, [], ◌∷◌, ◌++◌, Bool, true, false, Option, Some, None, slice_get, refl, sym, ap, ap₂, ◌∙◌, subst}
-use Rattle.std.specs.Prelude.{filter, if◌then◌else◌, is_some, nat_le}
-use Rattle.std.proofs.lemmas.Bool.{both_ways, cond-false, cond-true, false_from_ne_true, or_left, or_parts, or_right}
+use Rattle.std.proofs.Common.{◌≡◌, List, [], ◌∷◌, ◌++◌, ℕ, ◌+◌, Bool, true, false, Option, Some, None, slice_get, refl, sym, ap, ap₂, ◌∙◌, subst}
+use Rattle.std.specs.Prelude.{◌||◌, filter, if◌then◌else◌, is_some, nat_le}
+use Rattle.std.proofs.lemmas.Bool.{both_ways, cond-false, cond-true, false_from_ne_true, or_left, or_right}
 use Rattle.dioc_terms.specs.declared.bundles.Timed.{Timed}
 use Rattle.dioc_terms.specs.declared.entries.Act.{Act}
 use Rattle.dioc_terms.specs.declared.entries.Act.TheVariants as act
@@ -25,8 +25,9 @@ use Rattle.network_steps.specs.Schedule.{is_ready}
 use Rattle.net_laws.proofs.MoveLemmas.{deed_of, reached}
 use Rattle.process_steps.specs.Steps.{Chooses, Deed, Inputs, Picks, Puts, Sets, Takes, entry_of, is_offered, offers, step}
 use Rattle.net_core.specs.MovesIn.{ready_of}
+use Rattle.net_core.specs.Places.{offers_of, places_from, places_of}
 use Rattle.schedule.proofs.OwnLemmas.{own_takes}
-use Rattle.schedule.specs.Agendas.{puts_to, touches}
+use Rattle.schedule.specs.Agendas.{Follows, brings, puts_to, ready_in}
 
 -- a put under another key
 pending_put : (j k : Key) (l : Load) (pending : List (Key × Load)) → key_eq j k ≡ false → pending_at j (pending ++ (k, l) ∷ []) ≡ pending_at j pending
@@ -66,19 +67,23 @@ filter_same f g (a ∷ acts) same =
     ap₂ (λ (t : Bool) l. if t then a ∷ l else l) (same a (or_left (act_eq a a) (is_offered a acts) (act_itself a))) refl
     ∙ ap (λ l. if g a then a ∷ l else l) (filter_same f g acts (λ c h. same c (or_right (act_eq c a) (is_offered c acts) h)))
 
+places_same : (f g : Act → Bool) (n : ℕ) (acts : List Act) → ((a : Act) → is_offered a acts ≡ true → f a ≡ g a) → places_from f n acts ≡ places_from g n acts
+places_same f g n [] same = refl
+places_same f g n (a ∷ acts) same =
+    ap₂ (λ (t : Bool) l. if t then n ∷ l else l) (same a (or_left (act_eq a a) (is_offered a acts) (act_itself a)))
+    (places_same f g (n + 1) acts (λ c h. same c (or_right (act_eq c a) (is_offered c acts) h)))
+
 -- a role that has the same process, and the same messages for what it takes
-ready_same : (N M : Network) (r : Role) → M.processes r ≡ N.processes r
-    → ((j : Key) → is_offered (act.Take j) (offers r (N.processes r)) ≡ true → pending_at j M.pending ≡ pending_at j N.pending) → ready_of M r ≡ ready_of N r
-ready_same N M r same pending =
-    ap (λ P. filter (is_ready M) (offers r P)) same ∙ filter_same (is_ready M) (is_ready N) (offers r (N.processes r)) alike
-  where
-    alike : (a : Act) → is_offered a (offers r (N.processes r)) ≡ true → is_ready M a ≡ is_ready N a
-    alike (act.Take j) h = ap is_some (pending j h)
-    alike (act.Put k) h = refl
-    alike (act.Set i) h = refl
-    alike (act.Input i) h = refl
-    alike (act.Pick i) h = refl
-    alike (act.Scope i) h = refl
+module _ (N M : Network) (r : Role) (same : M.processes r ≡ N.processes r)
+    (alike : (a : Act) → is_offered a (offers_of N r) ≡ true → is_ready M a ≡ is_ready N a) where
+  ready_same : ready_of M r ≡ ready_of N r
+  ready_same = ap (λ P. filter (is_ready M) (offers r P)) same ∙ filter_same (is_ready M) (is_ready N) (offers_of N r) alike
+
+  listed_same : ready_in M r ≡ ready_in N r
+  listed_same =
+      ap₂ (λ (done : List Act) (at : List Act × List ℕ). (r, done, at.0, at.1)) ready_same
+      (ap₂ (λ (acts : List Act) (places : List ℕ). (acts, places)) (ap (offers r) same)
+      (ap (λ P. places_of (is_ready M) (offers r P)) same ∙ places_same (is_ready M) (is_ready N) 0 (offers_of N r) alike))
 
 -- what a role did, and whose and what its entry is
 record Did (N : Network) (q : Role) (a : Act) (outcome : NextNetwork) : Type 0 where
@@ -107,38 +112,88 @@ did known b H N sound run q a outcome h =
       acts = ap act_of (sym parts.2 ∙ is.entry) ∙ is.act;
     }
 
-module _ (q r : Role) (a : Act) (apart : touches q a r ≡ false) (j : Key) (own : j.to ≡ r) where
-  -- the role is neither who acts nor who receives, so no message for it comes or goes
-  other_role : role_eq r q ≡ false
-  other_role = (or_parts (role_eq r q) (puts_to a r) apart).0
+put_comes : (j k : Key) (l : Load) (pending : List (Key × Load)) → key_eq j k ≡ true → is_some (pending_at j (pending ++ (k, l) ∷ [])) ≡ true
+put_comes j k l [] is = ap is_some (cond-true (key_eq j k) (Some l) None is)
+put_comes j k l (message ∷ rest) is = by_test (key_eq j message.0) (put_comes j k l rest is)
+  where
+    by_test : (t : Bool) → is_some (pending_at j (rest ++ (k, l) ∷ [])) ≡ true
+        → is_some (if t then Some message.1 else pending_at j (rest ++ (k, l) ∷ [])) ≡ true
+    by_test true more = refl
+    by_test false more = more
 
-  not_put : (k : Key) → a ≡ act.Put k → key_eq j k ≡ false
-  not_put k is = false_from_ne_true (key_eq j k) (λ same.
-      both_ways (role_eq r k.to) (ap (λ x. puts_to x r) (sym is) ∙ (or_parts (role_eq r q) (puts_to a r) apart).1)
+-- the message is for a role that didn't act
+module _ (q r : Role) (a : Act) (other : role_eq r q ≡ false) (j : Key) (own : j.to ≡ r) where
+  not_put : puts_to a r ≡ false → (k : Key) → a ≡ act.Put k → key_eq j k ≡ false
+  not_put none k is = false_from_ne_true (key_eq j k) (λ same.
+      both_ways (role_eq r k.to) (ap (λ x. puts_to x r) (sym is) ∙ none)
       (subst (λ x. role_eq r x ≡ true) (sym own ∙ ap (λ (i : Key). i.to) (key_same j k same)) (role_itself r)))
 
   not_taken : (k : Key) → k.to ≡ q → key_eq j k ≡ false
   not_taken k of_q = false_from_ne_true (key_eq j k) (λ same.
-      both_ways (role_eq r q) other_role
+      both_ways (role_eq r q) other
       (subst (λ x. role_eq r x ≡ true) (sym own ∙ ap (λ (i : Key). i.to) (key_same j k same) ∙ of_q) (role_itself r)))
 
-  of_none : (d : Deed) → doer (entry_of d) ≡ Some q → act_of (entry_of d) ≡ Some a → Apart j d
-  of_none (Puts k l) who acts = not_put k (sym (some_same acts))
-  of_none (Takes k x l) who acts = not_taken k (some_same who)
-  of_none (Sets i s x v) who acts = tt
-  of_none (Inputs i s x v) who acts = tt
-  of_none (Picks i s t) who acts = tt
-  of_none (Chooses i s c) who acts = tt
+  of_none : puts_to a r ≡ false → (d : Deed) → doer (entry_of d) ≡ Some q → act_of (entry_of d) ≡ Some a → Apart j d
+  of_none none (Puts k l) who acts = not_put none k (sym (some_same acts))
+  of_none none (Takes k x l) who acts = not_taken k (some_same who)
+  of_none none (Sets i s x v) who acts = tt
+  of_none none (Inputs i s x v) who acts = tt
+  of_none none (Picks i s t) who acts = tt
+  of_none none (Chooses i s c) who acts = tt
 
--- what an act doesn't touch can do what it could before
-pub untouched : Known → (b : PlainBundle) (H : List Entry) (N : Network) → IsSound b → network_run b H ≡ Some N → (q : Role) (a : Act) (outcome : NextNetwork)
-    → act_step (setting b) N q a ≡ Some outcome → (r : Role) → touches q a r ≡ false → ready_of outcome.network r ≡ ready_of N r
-untouched known b H N sound run q a outcome h r apart =
+  -- it is there after the act if it was before, or if the act puts it
+  comes : (d : Deed) (pending : List (Key × Load)) → doer (entry_of d) ≡ Some q → act_of (entry_of d) ≡ Some a
+      → is_some (pending_at j (pending_after d pending)) ≡ (brings a (act.Take j) || is_some (pending_at j pending))
+  comes (Puts k l) pending who acts = by_test (key_eq j k) refl ∙ ap (λ x. brings x (act.Take j) || is_some (pending_at j pending)) (some_same acts)
+    where
+      by_test : (t : Bool) → key_eq j k ≡ t → is_some (pending_at j (pending ++ (k, l) ∷ [])) ≡ (key_eq j k || is_some (pending_at j pending))
+      by_test true is = put_comes j k l pending is ∙ ap (λ t. t || is_some (pending_at j pending)) (sym is)
+      by_test false is = ap is_some (pending_put j k l pending is) ∙ ap (λ t. t || is_some (pending_at j pending)) (sym is)
+  comes (Takes k x l) pending who acts =
+      ap is_some (pending_take j k pending (not_taken k (some_same who))) ∙ ap (λ x. brings x (act.Take j) || is_some (pending_at j pending)) (some_same acts)
+  comes (Sets i s x v) pending who acts = ap (λ x. brings x (act.Take j) || is_some (pending_at j pending)) (some_same acts)
+  comes (Inputs i s x v) pending who acts = ap (λ x. brings x (act.Take j) || is_some (pending_at j pending)) (some_same acts)
+  comes (Picks i s t) pending who acts = ap (λ x. brings x (act.Take j) || is_some (pending_at j pending)) (some_same acts)
+  comes (Chooses i s c) pending who acts = ap (λ x. brings x (act.Take j) || is_some (pending_at j pending)) (some_same acts)
+
+or_true : (t : Bool) → true ≡ (t || true)
+or_true true = refl
+or_true false = refl
+
+-- what a role takes is to it
+abbrev Owns : Network → Role → Type 0
+Owns N r = (j : Key) → is_offered (act.Take j) (offers r (N.processes r)) ≡ true → j.to ≡ r
+
+-- what a role can do that didn't act is what it could before, and the takes of what is put to it
+pub follows : Known → (b : PlainBundle) (H : List Entry) (N : Network) → IsSound b → network_run b H ≡ Some N → (q : Role) (a : Act) (outcome : NextNetwork)
+    → act_step (setting b) N q a ≡ Some outcome → (r : Role) → role_eq r q ≡ false → Follows N outcome.network a r
+follows known b H N sound run q a outcome h r other =
     let done = did known b H N sound run q a outcome h in
-    ap (λ M. ready_of M r) done.network
-    ∙ ready_same N (after_deed N q done.deed done.process) r
-    (cond-false (role_eq r q) done.process (N.processes r) (or_parts (role_eq r q) (puts_to a r) apart).0)
-    (λ j offered. still_pending j done.deed N.pending (of_none q r a apart j (own_takes known b H N sound run r j offered) done.deed done.who done.acts))
+    let own = own_takes known b H N sound run r in
+    subst (λ M. Follows N M a r) (sym done.network)
+    (record {
+      offers = ap (offers r) (cond-false (role_eq r q) done.process (N.processes r) other);
+      ready = places_same (is_ready (after_deed N q done.deed done.process)) (λ c. brings a c || is_ready N c) 0 (offers_of N r) (come done own);
+      same = λ none. places_same (is_ready (after_deed N q done.deed done.process)) (is_ready N) 0 (offers_of N r) (stay done own none);
+    })
+  where
+    come : (done : Did N q a outcome) → Owns N r → (c : Act) → is_offered c (offers_of N r) ≡ true
+        → is_ready (after_deed N q done.deed done.process) c ≡ (brings a c || is_ready N c)
+    come done own (act.Take j) k = comes q r a other j (own j k) done.deed N.pending done.who done.acts
+    come done own (act.Put j) k = or_true (brings a (act.Put j))
+    come done own (act.Set j) k = or_true (brings a (act.Set j))
+    come done own (act.Input j) k = or_true (brings a (act.Input j))
+    come done own (act.Pick j) k = or_true (brings a (act.Pick j))
+    come done own (act.Scope j) k = or_true (brings a (act.Scope j))
+
+    stay : (done : Did N q a outcome) → Owns N r → puts_to a r ≡ false → (c : Act) → is_offered c (offers_of N r) ≡ true
+        → is_ready (after_deed N q done.deed done.process) c ≡ is_ready N c
+    stay done own none (act.Take j) k = ap is_some (still_pending j done.deed N.pending (of_none q r a other j (own j k) none done.deed done.who done.acts))
+    stay done own none (act.Put j) k = refl
+    stay done own none (act.Set j) k = refl
+    stay done own none (act.Input j) k = refl
+    stay done own none (act.Pick j) k = refl
+    stay done own none (act.Scope j) k = refl
 
 outcome_entry : (b : Setting) (N : Network) (timed : Timed) (o : Option Entry) (outcome : NextNetwork) → entry_outcome b N timed o ≡ Some outcome
     → outcome.network ≡ after_change b N timed
@@ -147,11 +202,19 @@ outcome_entry b N timed (Some e) outcome h =
     ap (λ (o : NextNetwork). o.network) (if_some (nat_le timed.after N.visible) (record { entry = e; network = after_change b N timed }) h).1
 
 -- after a change of the script each role can do what it could before
-pub untouched_by_change : (b : Setting) (N : Network) (outcome : NextNetwork) → change_step b N ≡ Some outcome → (r : Role) → ready_of outcome.network r ≡ ready_of N r
+pub untouched_by_change : (b : Setting) (N : Network) (outcome : NextNetwork) → change_step b N ≡ Some outcome → (r : Role) → ready_in outcome.network r ≡ ready_in N r
 untouched_by_change b N outcome h r = by_script (slice_get b.script N.changes) h
   where
-    by_script : (o : Option Timed) → script_outcome b N o ≡ Some outcome → ready_of outcome.network r ≡ ready_of N r
+    alike : (timed : Timed) (a : Act) → is_ready (after_change b N timed) a ≡ is_ready N a
+    alike timed (act.Take j) = refl
+    alike timed (act.Put k) = refl
+    alike timed (act.Set i) = refl
+    alike timed (act.Input i) = refl
+    alike timed (act.Pick i) = refl
+    alike timed (act.Scope i) = refl
+
+    by_script : (o : Option Timed) → script_outcome b N o ≡ Some outcome → ready_in outcome.network r ≡ ready_in N r
     by_script None k = absurd (none_some k)
     by_script (Some timed) k =
-        ap (λ M. ready_of M r) (outcome_entry b N timed (change_entry b.rules timed.change) outcome k)
-        ∙ ready_same N (after_change b N timed) r refl (λ j offered. refl)
+        ap (λ M. ready_in M r) (outcome_entry b N timed (change_entry b.rules timed.change) outcome k)
+        ∙ listed_same N (after_change b N timed) r refl (λ a offered. alike timed a)

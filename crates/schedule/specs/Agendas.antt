@@ -1,29 +1,38 @@
 -- The agenda of a net: what each role can do now, and what of it an act may change.
-use Rattle.std.specs.Prelude.{◌≡◌, List, map, Bool, false, ◌||◌, Option, Some, None, if◌then◌else◌}
+use Rattle.std.specs.Prelude.{◌≡◌, ℕ, List, [], map, Bool, false, ◌∷◌, ◌||◌, nat_le, Option, Some, None, if◌then◌else◌}
 use Rattle.dioc_terms.specs.declared.entries.Act.{Act}
 use Rattle.dioc_terms.specs.declared.entries.Act.TheVariants as act
 use Rattle.dioc_terms.specs.declared.names.Role.{Role}
-use Rattle.dioc_terms.specs.Equality.{role_eq}
+use Rattle.dioc_terms.specs.declared.processes.Key.{Key}
+use Rattle.dioc_terms.specs.Equality.{key_eq, role_eq}
 use Rattle.network_steps.specs.Network.{Network}
+use Rattle.network_steps.specs.Schedule.{is_ready}
 use Rattle.network_steps.specs.declared.moves.Move.{Move}
 use Rattle.network_steps.specs.declared.moves.Move.TheVariants as move
 use Rattle.net_core.specs.MovesIn.{chosen, ready_of}
 use Rattle.net_core.specs.Nets.{NetState, network_of}
+use Rattle.net_core.specs.Places.{offers_of, places_of}
 use Rattle.schedule.specs.declared.roles.ReadyRole.{ReadyRole}
 
--- a role with the acts that it can do, as a proof sees it
-abbrev pub ready_seen : ReadyRole → Role × List Act
-ready_seen ready = (ready.role, chosen ready.ready.items ready.acts.items)
+-- a role, the acts that it can do, all acts that its process offers, and the places among them of
+-- those that it can do
+abbrev pub Shown : Type 0
+Shown = Role × List Act × List Act × List ℕ
 
-abbrev pub moves_of : Role × List Act → List Move
+-- what is listed of a role, as a proof sees it
+abbrev pub ready_seen : ReadyRole → Shown
+ready_seen ready =
+    (ready.role, chosen ready.ready.items ready.acts.items, ready.acts.items, ready.ready.items)
+
+abbrev pub moves_of : Shown → List Move
 moves_of ready = map (move.Act ready.0) ready.1
 
--- a role with the acts that it can do in a network
-abbrev pub ready_in : Network → Role → Role × List Act
-ready_in N q = (q, ready_of N q)
+-- what is to be listed of a role in a network
+abbrev pub ready_in : Network → Role → Shown
+ready_in N q = (q, ready_of N q, offers_of N q, places_of (is_ready N) (offers_of N q))
 
--- each role with the acts that it can do now, in the cast's order
-abbrev pub agenda_of : NetState → List (Role × List Act)
+-- what is to be listed of each role now, in the cast's order
+abbrev pub agenda_of : NetState → List Shown
 agenda_of net = map (ready_in (network_of net)) net.bundle.cast
 
 -- whether the act puts a message to the role
@@ -31,24 +40,60 @@ abbrev pub puts_to : Act → Role → Bool
 puts_to (act.Put k) r = role_eq r k.to
 puts_to _ r = false
 
--- whether an act of a role may change what another can do: it is the same, or a message comes to it
-abbrev pub touches : Role → Act → Role → Bool
-touches q a r = role_eq r q || puts_to a r
+-- whether the other act takes the message of this key
+abbrev pub takes : Key → Act → Bool
+takes k (act.Take j) = key_eq j k
+takes k _ = false
 
--- a role with its acts, listed anew where an act touches it
-abbrev pub again : Network → Role → Act → Role × List Act → Role × List Act
-again N q a ready = if touches q a ready.0 then ready_in N ready.0 else ready
+-- whether the act puts the message that the other takes
+abbrev pub brings : Act → Act → Bool
+brings (act.Put k) a = takes k a
+brings _ a = false
 
-abbrev pub refreshed : Network → Role → Act → List (Role × List Act) → List (Role × List Act)
-refreshed N q a agenda = map (again N q a) agenda
+-- a place put before the first that isn't below it, unless it is that one
+abbrev pub with_place : ℕ → List ℕ → List ℕ
+with_place n [] = n ∷ []
+with_place n (m ∷ ms) =
+    if nat_le n m then if nat_le m n then m ∷ ms else n ∷ m ∷ ms else m ∷ with_place n ms
 
--- two agendas that differ in nothing but what is listed anew after the move
-abbrev pub SparesRest : Move → List (Role × List Act) → List (Role × List Act) → Type 0
+-- an agenda with each role listed as it is to be in a network
+abbrev pub refreshed : Network → List Shown → List Shown
+refreshed N agenda = map (λ (ready : Shown). ready_in N ready.0) agenda
+
+-- what is listed of a role, where it isn't this one
+abbrev pub spared : Role → Shown → Shown
+spared q ready = if role_eq ready.0 q then (ready.0, [], [], []) else ready
+
+-- two agendas that differ in nothing but what is listed of the role that makes the move
+abbrev pub SparesRest : Move → List Shown → List Shown → Type 0
 SparesRest move.Change old new = new ≡ old
-SparesRest (move.Act q a) old new = (N : Network) → refreshed N q a new ≡ refreshed N q a old
+SparesRest (move.Act q a) old new = map (spared q) new ≡ map (spared q) old
+
+-- a role that didn't act offers after the act what it did before, and of that it can do what it
+-- could, and the takes of a message that is put to it
+pub record Follows (M N : Network) (a : Act) (r : Role) : Type 0 where
+  pub offers : offers_of N r ≡ offers_of M r
+  pub ready : places_of (is_ready N) (offers_of M r)
+      ≡ places_of (λ b. brings a b || is_ready M b) (offers_of M r)
+  pub same : puts_to a r ≡ false
+      → places_of (is_ready N) (offers_of M r) ≡ places_of (is_ready M) (offers_of M r)
+
+-- what is listed of a role is that from before the act, in some network, unless it did the act
+pub record WasListed (N : Network) (a : Act) (ready : Shown) : Type 0 where
+  pub before : Network
+  pub listed : ready ≡ ready_in before ready.0
+  pub follows : Follows before N a ready.0
+
+-- an agenda is that of a network before an act of the role, but for what is listed of that role
+pub record WasAgenda (cast : List Role) (N : Network) (q : Role) (a : Act) (agenda : List Shown)
+    : Type 0 where
+  pub before : Network
+  pub listed : map (spared q) agenda ≡ map (spared q) (map (ready_in before) cast)
+  pub follows : (r : Role) → role_eq r q ≡ false → Follows before N a r
 
 -- an agenda from before the last move, which was this one; before the first there is none
-abbrev pub IsStale : NetState → Option Move → List (Role × List Act) → Type 0
+abbrev pub IsStale : NetState → Option Move → List Shown → Type 0
 IsStale net None agenda = Unit {0}
 IsStale net (Some move.Change) agenda = agenda ≡ agenda_of net
-IsStale net (Some (move.Act q a)) agenda = refreshed (network_of net) q a agenda ≡ agenda_of net
+IsStale net (Some (move.Act q a)) agenda =
+    WasAgenda net.bundle.cast (network_of net) q a agenda

@@ -4,15 +4,19 @@
 //! It keeps all acts that a role's process offers, and beside them which of them can be done: so
 //! what is listed anew after an act keeps each act that is still offered.
 
-ghost use Rattle.std.specs.Prelude.{◌≡◌, ◌<◌, ◌^◌, ◌-◌, ◌∷◌, [], true, Some, IfOk, OnOk, flat_map, get_or, length, map, slice_get, vec_len};
-ghost use Rattle.std.specs.List.{list_all};
-ghost use Rattle.dioc_terms.specs.Equality.{member};
+ghost use Rattle.std.specs.Prelude.{◌≡◌, ◌<◌, ◌^◌, ◌-◌, ◌∷◌, ◌||◌, [], true, false, Bool, Some, IfOk, OnErr, OnOk, flat_map, get_or, length, map, nat_le, slice_get, vec_len};
+ghost use Rattle.std.specs.List.{position};
+ghost use Rattle.dioc_terms.specs.Equality.{member, role_eq};
+ghost use Rattle.dioc_terms.specs.declared.entries.Act.{Act as OneAct};
+ghost use Rattle.network_steps.specs.Network.{Network as OneNetwork};
+ghost use Rattle.net_core.specs.MovesIn.{are_places};
 ghost use Rattle.net_core.specs.Nets.{network_of};
+ghost use Rattle.net_core.specs.Places.{places_of};
 ghost use Rattle.schedule.specs.declared.roles.ReadyRole.{ReadyRole as OneRole};
-ghost use Rattle.schedule.specs.Agendas.{IsStale, SparesRest, again, agenda_of, moves_of, puts_to, ready_in, ready_seen, refreshed, touches};
+ghost use Rattle.schedule.specs.Agendas.{IsStale, SparesRest, WasAgenda, WasListed, agenda_of, moves_of, ready_in, ready_seen, refreshed, takes, with_place};
 
 use crate::roles::ReadyRole;
-use dioc_terms::{Act, Memory, Role, give_up};
+use dioc_terms::{Act, Key, Memory, Role, give_up};
 use dpoc_process::Runs;
 use net_core::Net;
 use network_steps::Move;
@@ -59,10 +63,10 @@ fn refreshed<R: Runs>(
     act: &Act,
     agenda: Vec<ReadyRole>,
 ) -> Result<Vec<ReadyRole>, Memory>
-    requires { list_all (λ ready. member ready.0 net.now.bundle.cast)
-        (map ready_seen agenda.items) ≡ true }
+    requires { WasAgenda net.now.bundle.cast (network_of net.now) role.now act.now
+        (map ready_seen agenda.items) }
     ensures { IfOk result (λ new. map ready_seen new.items
-        ≡ refreshed (network_of net.now) role.now act.now (map ready_seen agenda.items)) }
+        ≡ refreshed (network_of net.now) (map ready_seen agenda.items)) }
 {
     let mut new = agenda;
     match refresh(net, role, act, new.as_mut_slice()) {
@@ -104,10 +108,10 @@ fn refresh<R: Runs>(
     act: &Act,
     agenda: &mut [ReadyRole],
 ) -> Result<(), Memory>
-    requires { list_all (λ ready. member ready.0 net.now.bundle.cast)
-        (map ready_seen agenda.old) ≡ true }
+    requires { WasAgenda net.now.bundle.cast (network_of net.now) role.now act.now
+        (map ready_seen agenda.old) }
     ensures { OnOk result (map ready_seen agenda.new
-        ≡ refreshed (network_of net.now) role.now act.now (map ready_seen agenda.old)) }
+        ≡ refreshed (network_of net.now) (map ready_seen agenda.old)) }
 {
     for ready in agenda.iter_mut() {
         list_again(net, role, act, ready)?;
@@ -115,21 +119,85 @@ fn refresh<R: Runs>(
     Ok(())
 }
 
-/// Lists anew what a role can do where an act of a role touches it.
+/// Brings up to date what a role can do after an act of a role.
 fn list_again<R: Runs>(
     net: &Net<R>,
     role: &Role,
     act: &Act,
     ready: &mut ReadyRole,
 ) -> Result<(), Memory>
-    requires { member ready.old.role net.now.bundle.cast ≡ true }
-    ensures { OnOk result (ready_seen ready.new
-        ≡ again (network_of net.now) role.now act.now (ready_seen ready.old)) }
+    requires member { member ready.old.role net.now.bundle.cast ≡ true }
+    requires was { role_eq ready.old.role role.now ≡ false
+        → WasListed (network_of net.now) act.now (ready_seen ready.old) }
+    ensures { OnOk result (ready_seen ready.new ≡ ready_in (network_of net.now) ready.old.role) }
 {
-    if touches(role, act, &ready.role) {
+    if ready.role == *role {
         return list_role_again(net, ready);
     }
+    receive(act, ready)
+}
+
+/// Brings up to date what a role can do after the act of another: its process is as it was, and
+/// the message that the act may put to it can be taken.
+fn receive(act: &Act, ready: &mut ReadyRole) -> Result<(), Memory>
+    ensures { OnOk result ((N : OneNetwork) → WasListed N act.now (ready_seen ready.old)
+        → ready_seen ready.new ≡ ready_in N ready.old.role) }
+{
+    let Act::Put(key) = act else {
+        return Ok(());
+    };
+    if ready.role == key.to {
+        return add_takes(ready.acts.as_slice(), key, &mut ready.ready);
+    }
     Ok(())
+}
+
+/// Adds the places of the takes of a message to those of other acts.
+fn add_takes(acts: &[Act], key: &Key, ready: &mut Vec<usize>) -> Result<(), Memory>
+    requires { are_places ready.old.items acts.now ≡ true }
+    ensures places { OnOk result ((p : OneAct → Bool) → ready.old.items ≡ places_of p acts.now
+        → ready.new.items ≡ places_of (λ a. takes key.now a || p a) acts.now) }
+    ensures inside { are_places ready.new.items acts.now ≡ true }
+{
+    for at in 0..acts.len() {
+        if takes(key, &acts[at]) {
+            add_place(ready, at)?;
+        }
+    }
+    Ok(())
+}
+
+/// Whether the act takes the message of that key.
+fn takes(key: &Key, act: &Act) -> bool
+    ensures { result ≡ takes key.now act.now }
+{
+    match act {
+        Act::Take(other) => other.index == key.index && *other == *key,
+        _ => false,
+    }
+}
+
+/// Adds a place before the first that isn't below it, unless it is that one.
+fn add_place(ready: &mut Vec<usize>, at: usize) -> Result<(), Memory>
+    ensures added { OnOk result (ready.new.items ≡ with_place at ready.old.items) }
+    ensures err { OnErr result (ready.new.items ≡ ready.old.items) }
+{
+    let Some(place) = place_for(ready.as_slice(), at) else {
+        ready.push(at)?;
+        return Ok(());
+    };
+    if ready[place] == at {
+        return Ok(());
+    }
+    ready.insert(place, at)?;
+    Ok(())
+}
+
+/// Where the first of the places is that isn't below this one.
+fn place_for(places: &[usize], at: usize) -> Option<usize>
+    ensures { result ≡ position (nat_le at) places.now }
+{
+    places.iter().position(|place| at <= *place)
 }
 
 /// Lists anew what a role of the cast can do.
@@ -138,23 +206,6 @@ fn list_role_again<R: Runs>(net: &Net<R>, ready: &mut ReadyRole) -> Result<(), M
     ensures { OnOk result (ready_seen ready.new ≡ ready_in (network_of net.now) ready.old.role) }
 {
     net.refresh_ready(&ready.role, &mut ready.acts, &mut ready.ready)
-}
-
-/// Whether an act of a role may change what another can do.
-fn touches(role: &Role, act: &Act, other: &Role) -> bool
-    ensures { result ≡ touches role.now act.now other.now }
-{
-    other == role || puts_to(act, other)
-}
-
-/// Whether the act puts a message to the role.
-fn puts_to(act: &Act, role: &Role) -> bool
-    ensures { result ≡ puts_to act.now role.now }
-{
-    match act {
-        Act::Put(key) => *role == key.to,
-        _ => false,
-    }
 }
 
 /// How many acts can be done by an agenda. In 128 bits there is room for so many.

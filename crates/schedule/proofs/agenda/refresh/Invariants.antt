@@ -1,4 +1,4 @@
--- The roles so far are listed anew where they are touched, and the rest are as they were.
+-- The roles so far are listed anew, and the rest are as they were.
 use Rattle.std.proofs.Common.{◌≡◌, ◌++◌, drop, take}
 use Rattle.std.specs.Prelude.{map}
 use Rattle.net_core.specs.Nets.{network_of}
@@ -7,4 +7,4 @@ use Rattle.schedule.proofs.agenda.refresh.Given as goal
 
 abbrev pub invariant-loop-ready : goal.invariant-loop-ready
 invariant-loop-ready g l =
-    map ready_seen l.agenda ≡ refreshed (network_of l.net) l.role l.act (take l.ready-index (map ready_seen l.initial.agenda)) ++ drop l.ready-index (map ready_seen l.initial.agenda)
+    map ready_seen l.agenda ≡ refreshed (network_of l.net) (take l.ready-index (map ready_seen l.initial.agenda)) ++ drop l.ready-index (map ready_seen l.initial.agenda)
