@@ -1,4 +1,4 @@
--- An agenda lists the acts of a net, and is brought up to date by listing anew what the last act touches.
+-- An agenda lists the acts of a net, and is brought up to date after the last act.
 use Rattle.std.proofs.Common.{◌≡◌, ◌<◌, ◌≤◌, ◌+◌, ◌-◌, ℕ, zero, suc, List, [], ◌∷◌, ◌++◌, length, Bool, true, false, ◌&&◌, not, Option, Some, slice_get, refl, sym, ap, ap₂, ◌∙◌, subst, map, arith, take, drop, get_or}
 use Rattle.std.specs.Prelude.{◌||◌, flat_map, if◌then◌else◌, slice_set, vec_len}
 use Rattle.std.specs.List.{between, list_all}

@@ -2,7 +2,8 @@
 //! the role that does it can do, and where it puts a message, what the receiver can do.
 //!
 //! It keeps all acts that a role's process offers, and beside them which of them can be done: so
-//! what is listed anew after an act keeps each act that is still offered.
+//! what is listed anew after an act keeps each act that is still offered, and what a receiver can
+//! do is what it could, and the takes of the message.
 
 ghost use Rattle.std.specs.Prelude.{◌≡◌, ◌<◌, ◌^◌, ◌-◌, ◌∷◌, ◌||◌, [], true, false, Bool, Some, IfOk, OnErr, OnOk, flat_map, get_or, length, map, nat_le, slice_get, vec_len};
 ghost use Rattle.std.specs.List.{position};
@@ -40,8 +41,8 @@ pub(crate) fn keep_up<R: Runs>(
     }
 }
 
-/// The agenda of a net after a move, from the one before it: it asks only the roles that the move
-/// touches. After `Memory` the old agenda is dropped.
+/// The agenda of a net after a move, from the one before it: it asks the net only what the role can
+/// do that made the move. After `Memory` the old agenda is dropped.
 pub fn keep_up_with<R: Runs>(
     net: &Net<R>,
     made: &Move,
@@ -56,7 +57,7 @@ pub fn keep_up_with<R: Runs>(
     }
 }
 
-/// The agenda with what the roles can do listed anew that an act of a role touches.
+/// The agenda brought up to date after an act of a role.
 fn refreshed<R: Runs>(
     net: &Net<R>,
     role: &Role,
@@ -101,7 +102,7 @@ fn list_role<R: Runs>(net: &Net<R>, role: &Role) -> Result<ReadyRole, Memory>
     Ok(ReadyRole { role, acts, ready })
 }
 
-/// Lists anew what the roles can do that an act of a role touches.
+/// Brings up to date what the roles can do after an act of a role.
 fn refresh<R: Runs>(
     net: &Net<R>,
     role: &Role,
@@ -119,7 +120,7 @@ fn refresh<R: Runs>(
     Ok(())
 }
 
-/// Brings up to date what a role can do after an act of a role.
+/// Brings up to date what a role can do after an act, its own or another's.
 fn list_again<R: Runs>(
     net: &Net<R>,
     role: &Role,

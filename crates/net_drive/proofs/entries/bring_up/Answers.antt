@@ -1,8 +1,6 @@
 -- The agenda that is handed on is the one from before the move.
 use Rattle.std.proofs.Common.{List, Some, sym, subst}
 use Rattle.std.specs.Prelude.{map}
-use Rattle.dioc_terms.specs.declared.entries.Act.{Act}
-use Rattle.dioc_terms.specs.declared.names.Role.{Role}
 use Rattle.schedule.specs.Agendas.{IsStale, Shown, ready_seen}
 use Rattle.net_drive.proofs.entries.bring_up.Goals as goal
 
