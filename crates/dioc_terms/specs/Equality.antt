@@ -48,7 +48,7 @@ tag_eq _ _ = false
 
 abbrev pub key_eq : Key → Key → Bool
 key_eq a b =
-    role_eq a.from b.from && role_eq a.to b.to && index_eq a.index b.index && tag_eq a.tag b.tag
+    index_eq a.index b.index && tag_eq a.tag b.tag && role_eq a.from b.from && role_eq a.to b.to
 
 -- values of different kinds are unequal, and Nil equals Nil
 abbrev pub value_eq : Value → Value → Bool

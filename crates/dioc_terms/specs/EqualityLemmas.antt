@@ -79,14 +79,14 @@ tag_eq-decides _ _ = (λ h. cc, λ h. cc)
 pub key_eq-decides : DecidesEquality Key key_eq
 key_eq-decides a b =
     Decides-like (key_eq a b)
-    (λ e i. record { from = e.0.0.0 i; to = e.0.0.1 i; index = e.0.1 i; tag = e.1 i })
+    (λ e i. record { from = e.0.1 i; to = e.1 i; index = e.0.0.0 i; tag = e.0.0.1 i })
     (λ e. (
-      ((ap (λ (k : Key). k.from) e, ap (λ (k : Key). k.to) e), ap (λ (k : Key). k.index) e),
-      ap (λ (k : Key). k.tag) e,
+      ((ap (λ (k : Key). k.index) e, ap (λ (k : Key). k.tag) e), ap (λ (k : Key). k.from) e),
+      ap (λ (k : Key). k.to) e,
     ))
-    (Decides-and _ _ (Decides-and _ _ (Decides-and _ _ (role_eq-decides a.from b.from)
-    (role_eq-decides a.to b.to)) (index_eq-decides a.index b.index))
-    (tag_eq-decides a.tag b.tag))
+    (Decides-and _ _ (Decides-and _ _ (Decides-and _ _ (index_eq-decides a.index b.index)
+    (tag_eq-decides a.tag b.tag)) (role_eq-decides a.from b.from))
+    (role_eq-decides a.to b.to))
 
 pub value_eq-decides : DecidesEquality Value value_eq
 value_eq-decides value.Nil value.Nil = (λ h. refl, λ h. refl)

@@ -153,10 +153,10 @@ impl PartialEq for Key {
     ghost laws = { partial_equiv_from_equiv (equivalence_from_Decides key_eq key_eq-decides) };
 
     fn eq(&self, other: &Key) -> bool {
-        self.from == other.from
-            && self.to == other.to
-            && self.index == other.index
+        self.index == other.index
             && self.tag == other.tag
+            && self.from == other.from
+            && self.to == other.to
     }
 }
 

@@ -183,10 +183,10 @@ fn where_true(test: bool, value: Value) -> Option<Value>
 fn is_key_of(key: &Key, message: Message<'_>) -> bool
     ensures { result ≡ key_eq key.now (key_of message.entry) }
 {
-    key.from == *message.from
-        && key.to == *message.to
-        && key.index == message.index
+    key.index == message.index
         && is_tag_of(&key.tag, message.op)
+        && key.from == *message.from
+        && key.to == *message.to
 }
 
 fn is_tag_of(tag: &Tag, op: &Name) -> bool
