@@ -26,21 +26,22 @@ use Rattle.dioc_terms.specs.declared.entries.Act.TheVariants as act
 use Rattle.dioc_terms.specs.Equality.{truth_eq, name_eq, role_eq, index_eq, tag_eq, key_eq, value_eq, note_eq, chosen_eq, variable_eq, entry_eq, act_eq}
 use Rattle.dioc_terms.specs.EqualityLaws.{DecidesEquality, EqualityDecides}
 
+-- tests that hold one where the other does have one answer
+pub same_truth : (s t : Bool) → (s ≡ true → t ≡ true) → (t ≡ true → s ≡ true) → s ≡ t
+same_truth true t f g = sym (f refl)
+same_truth false true f g = g refl
+same_truth false false f g = refl
+
 -- a test that decides `≡` is an equivalence
 pub equivalence_from_Decides : {A : Type 0} (test : A → A → Bool) → DecidesEquality A test
     → IsEquivalence test
 equivalence_from_Decides test d = record {
   refl = λ a. (d a a).1 refl;
   symm =
-      λ a b. same (test a b) (test b a) (λ h. (d b a).1 (sym ((d a b).0 h)))
+      λ a b. same_truth (test a b) (test b a) (λ h. (d b a).1 (sym ((d a b).0 h)))
       (λ h. (d a b).1 (sym ((d b a).0 h)));
   congr = λ a b c h. ap (λ x. test x c) ((d a b).0 h);
 }
-  where
-    same : (s t : Bool) → (s ≡ true → t ≡ true) → (t ≡ true → s ≡ true) → s ≡ t
-    same true t f g = sym (f refl)
-    same false true f g = g refl
-    same false false f g = refl
 
 -- where the test decides `≡`, what it finds equal is fed alike to a hasher
 pub fed_alike : {A : Type 0} (test : A → A → Bool) → DecidesEquality A test → (F : A → HashWrites)

@@ -1,10 +1,12 @@
 //! Names, texts, roles and indices.
 
-ghost use Rattle.std.specs.Prelude.{◌≡◌, ◌≤◌, ◌↔◌, true, false, length, take, IsOk, IfOk, IsErrOf};
+ghost use Rattle.std.specs.Prelude.{◌≡◌, ◌≤◌, ◌+◌, ◌↔◌, true, false, length, take, IsOk, IfOk, IsErrOf};
 ghost use Rattle.std.specs.List.{list_all};
+ghost use Rattle.std.specs.Int.{from_le_bytes, w64};
+ghost use Rattle.std.specs.Str.{bytes_eq};
 ghost use Rattle.dioc_terms.specs.Equality.{member};
 ghost use Rattle.dioc_terms.specs.Names.{is_letter, is_word, is_printable, is_name, is_text};
-ghost use Rattle.dioc_terms.specs.Kept.{kept_items, IsKept};
+ghost use Rattle.dioc_terms.specs.Kept.{eight, kept_items, IsKept};
 
 use crate::copies::new_box;
 use crate::faults::{Memory, NameFault, TextFault};
@@ -105,7 +107,7 @@ impl PartialEq for Name {
     ghost laws = { partial_equiv_from_equiv (equivalence_from_Decides name_eq name_eq-decides) };
 
     fn eq(&self, other: &Name) -> bool {
-        self.bytes() == other.bytes()
+        self.bytes.is_same(&other.bytes)
     }
 }
 
@@ -318,6 +320,20 @@ impl Kept {
         }
     }
 
+    /// Whether both are the same bytes.
+    fn is_same(&self, other: &Kept) -> bool
+        requires mine { IsKept self.now }
+        requires theirs { IsKept other.now }
+        ensures { result ≡ bytes_eq (kept_items self.now) (kept_items other.now) }
+    {
+        match (self, other) {
+            (Kept::Short(count, bytes), Kept::Short(other_count, other_bytes)) => {
+                are_same_in_place(*count, bytes, *other_count, other_bytes)
+            }
+            _ => self.as_slice() == other.as_slice(),
+        }
+    }
+
     /// A copy, the same bytes.
     fn copy(&self, alloc: Global) -> Result<Kept, Memory>
         requires { IsKept self.now }
@@ -337,6 +353,45 @@ fn first_bytes(bytes: &[u8; BYTES_IN_PLACE], count: u8) -> &[u8]
     ensures { result.now ≡ take count bytes.now }
 {
     &bytes[..count as usize]
+}
+
+/// Whether the first bytes in place, so many of each, are the same. Zeros stand behind them, so all
+/// that is in place is compared at once.
+fn are_same_in_place(
+    count: u8,
+    bytes: &[u8; BYTES_IN_PLACE],
+    other_count: u8,
+    other_bytes: &[u8; BYTES_IN_PLACE],
+) -> bool
+    requires mine { IsKept (Kept.Short count bytes.now) }
+    requires theirs { IsKept (Kept.Short other_count other_bytes.now) }
+    ensures { result ≡ bytes_eq (take count bytes.now) (take other_count other_bytes.now) }
+{
+    count == other_count && are_same(bytes, other_bytes)
+}
+
+/// Whether all bytes in place are the same. They are compared as two numbers, which overlap.
+fn are_same(mine: &[u8; BYTES_IN_PLACE], theirs: &[u8; BYTES_IN_PLACE]) -> bool
+    ensures { result ≡ bytes_eq mine.now theirs.now }
+{
+    word_at(mine, 0) == word_at(theirs, 0) && word_at(mine, 6) == word_at(theirs, 6)
+}
+
+/// The eight bytes in place from there on, as one number.
+fn word_at(bytes: &[u8; BYTES_IN_PLACE], at: usize) -> u64
+    requires { at + 8 ≤ BYTES_IN_PLACE }
+    ensures { result ≡ from_le_bytes w64 (eight bytes.now at) }
+{
+    u64::from_le_bytes([
+        bytes[at],
+        bytes[at + 1],
+        bytes[at + 2],
+        bytes[at + 3],
+        bytes[at + 4],
+        bytes[at + 5],
+        bytes[at + 6],
+        bytes[at + 7],
+    ])
 }
 
 /// These bytes in place, and zeros behind them.
