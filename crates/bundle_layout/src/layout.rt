@@ -61,8 +61,8 @@ impl From<AllocError> for LayoutFault {
 /// It has the tokens and the comments of the text, byte for byte and in the same order, and at most
 /// as many bytes as a bundle may have; so it spells the bundle that the text spells. A text that is
 /// no bundle is laid out as well, as far as its brackets and separators tell. `BadByte` names the
-/// first byte that is in no token, space or comment, counted from 0; `TooLong` comes where the text,
-/// laid out, would have too many bytes, or where its places don't fit into 32 bits.
+/// first byte that is in no token, space or comment, counted from 0; `TooLong` comes where the
+/// text, laid out, would have too many bytes, or where its places don't fit into 32 bits.
 pub fn lay_out(alloc: Global, bytes: &[u8]) -> Result<Vec<u8>, LayoutFault>
     ensures same { IfOk result (λ v. SamePieces bytes.now v.items) }
     ensures bundle { IfOk result (λ v. (b : PlainBundle) → Spells bytes.now b → Spells v.items b) }

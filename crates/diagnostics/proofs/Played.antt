@@ -101,3 +101,6 @@ shown_known bytes tokens text left place start lexes same line begins = known le
 
 pub shown_unknown : (bytes : List ℕ) (left : ℕ) → IsShownAt bytes left 0
 shown_unknown bytes left = unknown
+
+-- by these a trace is judged
+pub ruleset judging_rules = (not_played, stray_told, short_told)

@@ -280,7 +280,7 @@ fn told_behind(
 /// What is wrong with the trace section of a bundle: `None` exactly where the choreography plays
 /// all its visible entries, and has ended where the section says so. Else the place is that of the
 /// first entry that isn't played, or of the last line.
-#[tactic(auto, using(crate::proofs::Played::not_played, crate::proofs::Played::stray_told, crate::proofs::Played::short_told))]
+#[tactic(auto, using(crate::proofs::Played::judging_rules))]
 pub(crate) fn of_trace(
     alloc: Global,
     bytes: &[u8],

@@ -10,7 +10,7 @@ use Rattle.flat_code.specs.declared.ops.Op.{Op}
 use Rattle.flat_code.specs.declared.ops.Op.TheVariants as op
 use Rattle.flat_code.specs.Layout.{inner, size, parts_at, EachPart, HasOp, IsLaid, Lies, AreAdded, IsAdded, IsPushed, TwoAreAdded}
 use Rattle.flat_code.specs.Places.{at, part_places, processes, Extends, IsProcessAt}
-use Rattle.flat_code.proofs.PlaceLemmas.{extends_longer, keeps_at, keeps_is_at, extends_push, push_is_at}
+use Rattle.flat_code.proofs.PlaceLemmas.{cut_back, extends_itself, extends_longer, extends_through, keeps_at, keeps_is_at, extends_push, push_is_at}
 
 -- what is so of each part
 module _ (F G : ℕ → ℕ → Process → Type 0) (keeps : (up b : ℕ) (P : Process) → F up b P → G up b P) where
@@ -193,3 +193,9 @@ two_added old mid new p q P Q first more second =
 pub added_laid : (ops : List Op) (start : ℕ) (P : Process) → IsAdded [] ops start P → IsLaid ops start
 added_laid ops start P h =
     subst (λ Q. (start ≡ inner Q) × Lies ops 0 Q) (sym h.stands.stands) (omega (arith, h.place_is), h.lies)
+
+-- by these a process is linked behind code
+pub ruleset linking_rules = (cut_back, extends_itself, laid_still)
+
+-- by these two parts are added
+pub ruleset adding_rules = (two_added, extends_through)

@@ -56,10 +56,12 @@ EachPart-prop F once b (Par P Q) =
     (×_prop (once (b + inner (Par P Q)) (b + size P) Q) (EachPart-prop F once (b + size P) Q))
 EachPart-prop F once b (IfLead i g others P Q) =
     ×_prop (×_prop (once (b + inner (IfLead i g others P Q)) b P) (EachPart-prop F once b P))
-    (×_prop (once (b + inner (IfLead i g others P Q)) (b + size P) Q) (EachPart-prop F once (b + size P) Q))
+    (×_prop (once (b + inner (IfLead i g others P Q)) (b + size P) Q)
+    (EachPart-prop F once (b + size P) Q))
 EachPart-prop F once b (IfFollow i leader P Q) =
     ×_prop (×_prop (once (b + inner (IfFollow i leader P Q)) b P) (EachPart-prop F once b P))
-    (×_prop (once (b + inner (IfFollow i leader P Q)) (b + size P) Q) (EachPart-prop F once (b + size P) Q))
+    (×_prop (once (b + inner (IfFollow i leader P Q)) (b + size P) Q)
+    (EachPart-prop F once (b + size P) Q))
 EachPart-prop F once b (WhileLead i g others P) =
     ×_prop (once (b + inner (WhileLead i g others P)) b P) (EachPart-prop F once b P)
 EachPart-prop F once b (WhileFollow i leader P) =

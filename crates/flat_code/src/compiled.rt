@@ -28,7 +28,7 @@ pub fn compile(alloc: Global, proc: &Proc) -> Result<Code, Memory>
 
 /// Appends the ops of a process to code, and gives the place at which the process stands. The code
 /// keeps its ops and its beginning; the error is want of memory, and then no op was added.
-#[tactic(auto, using(crate::proofs::PlaceLemmas::cut_back, crate::proofs::PlaceLemmas::extends_itself, crate::proofs::LayoutLemmas::laid_still))]
+#[tactic(auto, using(crate::proofs::LayoutLemmas::linking_rules))]
 pub fn link(alloc: Global, code: &mut Code, proc: &Proc) -> Result<usize, Memory>
     ensures appended { Extends code.old.ops.items code.new.ops.items }
     ensures start { code.new.start ≡ code.old.start }
@@ -87,7 +87,7 @@ fn add_parts(alloc: Global, proc: &Proc, ops: &mut Vec<Op>) -> Result<Op, Memory
 
 /// Appends the ops of the two parts of a process, one after the other, and gives their places.
 #[cycle(compiled)]
-#[tactic(auto, using(crate::proofs::LayoutLemmas::two_added, crate::proofs::PlaceLemmas::extends_through))]
+#[tactic(auto, using(crate::proofs::LayoutLemmas::adding_rules))]
 fn add_two(alloc: Global, whole: &Proc, ops: &mut Vec<Op>) -> Result<(usize, usize), Memory>
     requires two { has_two (process whole.now) ≡ true }
     requires placed { are_placed 0 ops.old.items ≡ true }

@@ -485,3 +485,6 @@ module _ (me : Role) (plan : Plan) (marks : List KeptMark) (place : ℕ) (k : Ke
 pub not_new : (k : KeptMark) → (k ≡ kept.Untouched → ⊥) → is_new k ≡ false
 not_new kept.Untouched h = absurd (h refl)
 not_new k h = refl
+
+-- by these all messages are told last
+pub ruleset telling_rules = (how_many_to, all_told)

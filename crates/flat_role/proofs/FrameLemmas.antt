@@ -265,3 +265,27 @@ replaced_same me a P c d {R} h same = single P refl (λ c. refl) h
     single P at is h =
         let part = under_test (is_offered a (offers me P)) h in
         is c ∙ subst (λ X. changed c X ≡ changed d X) (sym part) same ∙ sym (is d)
+
+-- by these a frame has ended
+pub ruleset ended_rules = (placed_at, ended_marked)
+
+-- by these acts are offered
+pub ruleset offer_rules = (placed_at, offers_marked, ended_marked, second_offered)
+
+-- by these a frame stands to an act as it is said
+pub ruleset stance_rules = (placed_at, acting_marked, ended_marked, acts_unended)
+
+-- by these the part that does an act is found
+pub ruleset finding_rules = (placed_at, acting_marked, ended_marked)
+
+-- by these a plain op does an act
+pub ruleset plain_rules = (plain_is_single, acting_plain)
+
+-- by these the part that does an act is changed
+pub ruleset change_rules = (marked_ended, ended_marked, acting_marked, replaced_plain)
+
+-- by these parts that have come are linked
+pub ruleset linking_rules = (linked_at, placed_longer, keeps_frame, longer_itself, longer_through)
+
+-- by these a frame is opened
+pub ruleset opening_rules = (placed_at, marked_again, ended_marked)

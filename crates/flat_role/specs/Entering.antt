@@ -41,7 +41,8 @@ is_nothing (More k l ms) = false
 -- no part runs at the place
 abbrev pub RunsAlone : Plan → List KeptMark → ℕ → Type 0
 RunsAlone plan marks place =
-    running_parts (get_or marks place kept.Untouched) (get_or plan.code.ops.items place op.Skip) ≡ []
+    running_parts (get_or marks place kept.Untouched) (get_or plan.code.ops.items place op.Skip)
+    ≡ []
 
 -- a mark that counts nothing
 abbrev pub is_other : KeptMark → Bool

@@ -85,4 +85,5 @@ meant me P (kept.Became update) = mark.Became (update_process update.value)
 
 -- the marks at the places of this code
 abbrev pub marks_of : Role → List Op → List KeptMark → Marks
-marks_of me ops marks place = meant me (at (processes ops) place) (get_or marks place kept.Untouched)
+marks_of me ops marks place =
+    meant me (at (processes ops) place) (get_or marks place kept.Untouched)

@@ -34,8 +34,8 @@ use dpoc_process::growth::Write;
 use dpoc_process::ready::{apply, split};
 use flat_code::Plan;
 
-/// Does the act for which this was made ready, with what comes with it. It takes no memory: there is
-/// room for one more variable.
+/// Does the act for which this was made ready, with what comes with it. It takes no memory: there
+/// is room for one more variable.
 pub(crate) fn advance(
     me: &Role,
     plan: &Plan,
@@ -63,8 +63,8 @@ pub(crate) fn advance(
     go_on(me, plan, progress, at, stop);
 }
 
-/// Does the act at the place, and writes its mark alone. The answer is whether nothing is left to do
-/// there.
+/// Does the act at the place, and writes its mark alone. The answer is whether nothing is left to
+/// do there.
 fn act_at(
     me: &Role,
     plan: &Plan,

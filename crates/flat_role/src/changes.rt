@@ -29,7 +29,7 @@ pub(crate) enum Change {
 /// both do it. A first part that is over is let go, and a part of a parallel that is over is marked
 /// so. The answer is whether nothing is left to do; where no part does the act there is none, and
 /// all stays as it was. A part that surely does the act isn't asked for it.
-#[tactic(auto, using(crate::proofs::FrameLemmas::marked_ended, crate::proofs::FrameLemmas::ended_marked, crate::proofs::FrameLemmas::acting_marked, crate::proofs::FrameLemmas::replaced_plain))]
+#[tactic(auto, using(crate::proofs::FrameLemmas::change_rules))]
 pub(crate) fn try_change(
     me: &Role,
     act: &Act,

@@ -176,7 +176,7 @@ fn last_to_take(op: &Op) -> usize
 }
 
 /// Whether so many are all messages that are told last.
-#[tactic(auto, using(crate::proofs::EnterLemmas::how_many_to, crate::proofs::EnterLemmas::all_told))]
+#[tactic(auto, using(crate::proofs::EnterLemmas::telling_rules))]
 fn are_last_told(op: &Op, told: usize) -> bool
     ensures { (me : Me) (done : List Process) →
         is_nothing (letters_from told (last_letters me (op_process done op.now))) ≡ result }

@@ -37,7 +37,7 @@ pub(crate) enum Frame {
 }
 
 /// Whether nothing is left to do. It doesn't look into what is over.
-#[tactic(auto, using(crate::proofs::FrameLemmas::placed_at, crate::proofs::FrameLemmas::ended_marked))]
+#[tactic(auto, using(crate::proofs::FrameLemmas::ended_rules))]
 pub(crate) fn is_ended(code: &LiveCode, frame: &Frame) -> bool
     requires { is_placed (length code.now.code.ops.items) frame.now ≡ true }
     ensures { result ≡ ended (frame_process (processes code.now.code.ops.items) frame.now) }

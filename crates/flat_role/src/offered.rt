@@ -31,7 +31,7 @@ pub(crate) enum Part<'a> {
 
 /// Adds the acts that a frame offers, from left to right. It doesn't look into what is known to be
 /// over. The answer is whether nothing is left to do.
-#[tactic(auto, using(crate::proofs::FrameLemmas::placed_at, crate::proofs::FrameLemmas::offers_marked, crate::proofs::FrameLemmas::ended_marked, crate::proofs::FrameLemmas::second_offered))]
+#[tactic(auto, using(crate::proofs::FrameLemmas::offer_rules))]
 pub(crate) fn add_offers(
     alloc: Global,
     me: &Role,
@@ -107,7 +107,7 @@ pub(crate) fn can_act(me: &Role, act: &Act, code: &LiveCode, frame: &Frame) -> b
 }
 
 /// What a frame is to an act. It doesn't look into what is known to be over.
-#[tactic(auto, using(crate::proofs::FrameLemmas::placed_at, crate::proofs::FrameLemmas::acting_marked, crate::proofs::FrameLemmas::ended_marked, crate::proofs::FrameLemmas::acts_unended))]
+#[tactic(auto, using(crate::proofs::FrameLemmas::stance_rules))]
 fn stance(me: &Role, act: &Act, code: &LiveCode, over: bool, frame: &Frame) -> Stance
     requires { is_placed (length code.now.code.ops.items) frame.now ≡ true }
     ensures over { says_over result
@@ -146,7 +146,7 @@ fn stance(me: &Role, act: &Act, code: &LiveCode, over: bool, frame: &Frame) -> S
 
 /// The part of an open frame that does the act; of a parallel that in the left part, where there is
 /// one.
-#[tactic(auto, using(crate::proofs::FrameLemmas::placed_at, crate::proofs::FrameLemmas::acting_marked, crate::proofs::FrameLemmas::ended_marked))]
+#[tactic(auto, using(crate::proofs::FrameLemmas::finding_rules))]
 pub(crate) fn find<'a>(me: &Role, act: &Act, code: &LiveCode, frame: &'a Frame) -> Option<Part<'a>>
     requires placed { is_placed (length code.now.code.ops.items) frame.now ≡ true }
     requires opened { is_open (processes code.now.code.ops.items) frame.now ≡ true }
@@ -185,7 +185,7 @@ pub(crate) fn find<'a>(me: &Role, act: &Act, code: &LiveCode, frame: &'a Frame) 
 }
 
 /// The plain op at a place, if it does the act.
-#[tactic(auto, using(crate::proofs::FrameLemmas::plain_is_single, crate::proofs::FrameLemmas::acting_plain))]
+#[tactic(auto, using(crate::proofs::FrameLemmas::plain_rules))]
 fn find_op<'a>(me: &Role, act: &Act, code: &LiveCode, place: usize) -> Option<Part<'a>>
     requires inside { place < length code.now.code.ops.items }
     requires plain { leaves_nothing (at (processes code.now.code.ops.items) place) ≡ true }

@@ -36,7 +36,7 @@ pub(crate) fn settle(alloc: Global, code: &mut LiveCode, frame: &mut Frame) -> R
 
 /// Appends each part that has come to the code, where the frame isn't over. After an error parts
 /// may be left that are not.
-#[tactic(auto, using(crate::proofs::FrameLemmas::linked_at, crate::proofs::FrameLemmas::placed_longer, crate::proofs::FrameLemmas::keeps_frame, crate::proofs::FrameLemmas::longer_itself, crate::proofs::FrameLemmas::longer_through))]
+#[tactic(auto, using(crate::proofs::FrameLemmas::linking_rules))]
 fn link_parts(
     alloc: Global,
     code: &mut LiveCode,
@@ -75,7 +75,7 @@ fn link_parts(
 /// Opens the sequences, parallels, tells and gathers of the code that may act, as frames, where the
 /// frame isn't over, and marks each part that is over. The answer is whether nothing is left to do;
 /// what is over isn't opened.
-#[tactic(auto, using(crate::proofs::FrameLemmas::placed_at, crate::proofs::FrameLemmas::marked_again, crate::proofs::FrameLemmas::ended_marked))]
+#[tactic(auto, using(crate::proofs::FrameLemmas::opening_rules))]
 fn open_live(alloc: Global, code: &LiveCode, over: bool, frame: &mut Frame) -> Result<bool, Memory>
     requires placed { is_placed (length code.now.code.ops.items) frame.old ≡ true }
     requires linked { (over || is_linked frame.old) ≡ true }

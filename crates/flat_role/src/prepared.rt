@@ -278,7 +278,8 @@ fn prepared_tell(
     value: &Value,
     messages: &Messages,
 ) -> Result<Prepared, PrepareFault>
-    ensures shown { IfOk result (IsPreparedFor me.now act.now value.now (Tell (letters messages.now))) }
+    ensures shown { IfOk result
+        (IsPreparedFor me.now act.now value.now (Tell (letters messages.now))) }
     ensures fault { IfErr result (λ fault. fault ≡ PrepareFault.Memory) }
 {
     let entry = tell_entry(alloc, me, value, messages)?;

@@ -9,7 +9,8 @@ ghost use Rattle.marked_laws.specs.Offers.{DistinctOffers};
 ghost use Rattle.marked_laws.specs.RunLaws.{Extensions};
 ghost use Rattle.marked_laws.specs.Versions.{RunsReadNoVersion};
 
-/// The laws of terms and of connectedness that hold of each sound bundle, together. It does nothing.
+/// The laws of terms and of connectedness that hold of each sound bundle, together. It does
+/// nothing.
 pub fn term_laws()
     ensures mentions { MentionsAreRoles }
     ensures casts { CastsAreRoles }

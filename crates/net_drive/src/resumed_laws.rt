@@ -29,8 +29,8 @@ pub fn resumed_runs()
 }
 
 /// A law: the net that `resume` gives of an accepted bundle has, once `run_seeded` has taken it to
-/// its end or to its limit, the history of the resumed run; so has the net that `resume` gives where
-/// there are more entries than the limit. Of both the headline holds. It does nothing.
+/// its end or to its limit, the history of the resumed run; so has the net that `resume` gives
+/// where there are more entries than the limit. Of both the headline holds. It does nothing.
 pub fn resumed_nets()
     ensures { ResumedNets }
 {

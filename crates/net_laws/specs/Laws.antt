@@ -18,8 +18,8 @@ use Rattle.network_steps.specs.Schedule.{moves, move_step, sched, sched_from, Is
 abbrev pub AcceptedIsSound : Type 0
 AcceptedIsSound = (b : PlainBundle) → IsAccepted b → IsSound b
 
--- Moves are steps: after any run each move can be done, and an act of a role is among them where the
--- network has not ended.
+-- Moves are steps: after any run each move can be done, and an act of a role is among them where
+-- the network has not ended.
 pub record MovesAreSteps : Type 0 where
   pub done : (b : PlainBundle) (H : List Entry) (N : Network) → IsAccepted b → network_run b H
       ≡ Some N → All (λ move. IsSome (move_step (setting b) N move)) (moves (setting b) N)

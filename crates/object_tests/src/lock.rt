@@ -1,5 +1,5 @@
-//! Two seats of a lock that take turns in two threads, a seat that is left out at the end, and seats
-//! that are handed in with the first one last.
+//! Two seats of a lock that take turns in two threads, a seat that is left out at the end, and
+//! seats that are handed in with the first one last.
 
 ghost use Rattle.std.specs.Prelude.{◌≡◌, ◌≤◌, ◌<◌, ◌^◌, [], ◌∷◌, ◌++◌, length, true, false};
 ghost use Rattle.std.specs.Bool.{OnTrue, OnFalse};

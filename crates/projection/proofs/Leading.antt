@@ -16,7 +16,7 @@ use Rattle.process_steps.specs.Steps.{ended}
 use Rattle.projection.specs.Leaders.{leads}
 use Rattle.projection.specs.Named.{flagged, named_in, names_itself, raised}
 use Rattle.projection.specs.Projection.{projected}
-use Rattle.projection.proofs.Flags.{choice_named, loop_named, others_flagged, roles_flagged, scope_named}
+use Rattle.projection.proofs.Flags.{both_named, choice_named, loop_named, others_flagged, roles_flagged, scope_named}
 use Rattle.projection.proofs.Lemmas.{outsiders-have_ended}
 
 -- follows where one of two has something to do
@@ -135,3 +135,6 @@ out_of_leaf cast (term.Par I J) r leaf named = cc
 out_of_leaf cast (term.If i q g I J) r leaf named = cc
 out_of_leaf cast (term.While i q g I) r leaf named = cc
 out_of_leaf cast (term.Scope i q I extra props level) r leaf named = cc
+
+-- by these a role follows a construct that it doesn't lead
+pub ruleset following_rules = (follows_choice, follows_loop, follows_scope, both_named)

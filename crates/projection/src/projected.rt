@@ -205,7 +205,7 @@ fn head(
 /// The process of a role that doesn't lead the construct. The flags are raised of the roles that
 /// stand inside.
 #[cycle(project)]
-#[tactic(auto, using(crate::proofs::Leading::follows_choice, crate::proofs::Leading::follows_loop, crate::proofs::Leading::follows_scope, crate::proofs::Flags::both_named))]
+#[tactic(auto, using(crate::proofs::Leading::following_rules))]
 fn follow(
     alloc: Global,
     whole: &Choreo,

@@ -113,3 +113,6 @@ none_shown (entry ∷ entries) none =
 
 pub none_at : (mail : Mail) → ((key : Key) → payload_at key mail ≡ None) → length (messages mail) ≡ 0
 none_at mail none = none_shown mail.pending.entries none
+
+-- by these a key is pending or free
+pub ruleset holding_rules = (holds_shown, free_shown)

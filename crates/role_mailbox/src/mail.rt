@@ -73,7 +73,7 @@ impl Mail {
     }
 
     /// Whether a message of that key is pending. It takes no memory.
-    #[tactic(auto, using(crate::proofs::MailLemmas::holds_shown, crate::proofs::MailLemmas::free_shown))]
+    #[tactic(auto, using(crate::proofs::MailLemmas::holding_rules))]
     pub fn holds(&self, key: &Key) -> bool
         ensures holds { result ≡ is_some (payload_at key.now self.now) }
         ensures free { OnFalse result (payload_at key.now self.now ≡ None) }

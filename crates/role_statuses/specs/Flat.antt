@@ -50,25 +50,32 @@ mark_of me x P = mark.Finished
 abbrev pub PartsStand : Role → Marks → ℕ → Status → Process → Type 0
 PartsStand me marks b Untouched P = IsFresh marks b (inner P)
 PartsStand me marks b (First x) (Seq P Q) =
-    ((marks (b + inner P) ≡ mark_of me x P) × PartsStand me marks b x P) × IsFresh marks (b + size P) (size Q)
+    ((marks (b + inner P) ≡ mark_of me x P) × PartsStand me marks b x P)
+    × IsFresh marks (b + size P) (size Q)
 PartsStand me marks b (Second x) (Seq P Q) =
     (marks (b + size P + inner Q) ≡ mark_of me x Q) × PartsStand me marks (b + size P) x Q
 PartsStand me marks b (Both x y) (Par P Q) =
     ((marks (b + inner P) ≡ mark_of me x P) × PartsStand me marks b x P)
     × ((marks (b + size P + inner Q) ≡ mark_of me y Q) × PartsStand me marks (b + size P) y Q)
 PartsStand me marks b (Telling f k l ms) (IfLead i g others P Q) = IsFresh marks b (size P + size Q)
-PartsStand me marks b (Branch true x) (IfLead i g others P Q) = (marks (b + inner P) ≡ mark_of me x P) × PartsStand me marks b x P
+PartsStand me marks b (Branch true x) (IfLead i g others P Q) =
+    (marks (b + inner P) ≡ mark_of me x P) × PartsStand me marks b x P
 PartsStand me marks b (Branch false x) (IfLead i g others P Q) =
     (marks (b + size P + inner Q) ≡ mark_of me x Q) × PartsStand me marks (b + size P) x Q
-PartsStand me marks b (Branch true x) (IfFollow i leader P Q) = (marks (b + inner P) ≡ mark_of me x P) × PartsStand me marks b x P
+PartsStand me marks b (Branch true x) (IfFollow i leader P Q) =
+    (marks (b + inner P) ≡ mark_of me x P) × PartsStand me marks b x P
 PartsStand me marks b (Branch false x) (IfFollow i leader P Q) =
     (marks (b + size P + inner Q) ≡ mark_of me x Q) × PartsStand me marks (b + size P) x Q
 PartsStand me marks b (Telling f k l ms) (WhileLead i g others P) = IsFresh marks b (size P)
-PartsStand me marks b (Body x) (WhileLead i g others P) = (marks (b + inner P) ≡ mark_of me x P) × PartsStand me marks b x P
-PartsStand me marks b (Body x) (WhileFollow i leader P) = (marks (b + inner P) ≡ mark_of me x P) × PartsStand me marks b x P
+PartsStand me marks b (Body x) (WhileLead i g others P) =
+    (marks (b + inner P) ≡ mark_of me x P) × PartsStand me marks b x P
+PartsStand me marks b (Body x) (WhileFollow i leader P) =
+    (marks (b + inner P) ≡ mark_of me x P) × PartsStand me marks b x P
 PartsStand me marks b (Telling f k l ms) (ScopeLead head others P) = IsFresh marks b (size P)
-PartsStand me marks b (Body x) (ScopeLead head others P) = (marks (b + inner P) ≡ mark_of me x P) × PartsStand me marks b x P
-PartsStand me marks b (Body x) (ScopeFollow i leader P) = (marks (b + inner P) ≡ mark_of me x P) × PartsStand me marks b x P
+PartsStand me marks b (Body x) (ScopeLead head others P) =
+    (marks (b + inner P) ≡ mark_of me x P) × PartsStand me marks b x P
+PartsStand me marks b (Body x) (ScopeFollow i leader P) =
+    (marks (b + inner P) ≡ mark_of me x P) × PartsStand me marks b x P
 PartsStand me marks b x P = Unit {0}
 
 -- the marks from this place on say this status

@@ -22,11 +22,14 @@ pub record IsMarkStep (me : Role) (a : Act) (marks : Marks) (W P : Process) : Ty
   pub becomes : running me after W ≡ P
 
 pub record MarksAreExact : Type 0 where
-  pub begins : (me : Role) (W : Process) → IsKept me (λ k. mark.Untouched) W × (running me (λ k. mark.Untouched) W ≡ W)
+  pub begins : (me : Role) (W : Process) → IsKept me (λ k. mark.Untouched) W
+      × (running me (λ k. mark.Untouched) W ≡ W)
   pub offered : (me : Role) (marks : Marks) (W : Process) → IsKept me marks W
       → acts_of (spots me 0 (kept marks 0 W) W) ≡ offers me (running me marks W)
-  pub over : (me : Role) (marks : Marks) (W : Process) → is_over me (kept marks 0 W) W ≡ ended (running me marks W)
+  pub over : (me : Role) (marks : Marks) (W : Process)
+      → is_over me (kept marks 0 W) W ≡ ended (running me marks W)
   pub steps : OffersAreSteps
-      → (me : Role) (s : Store) (a : Act) (given : Given) (marks : Marks) (W P : Process) (d : Deed) → IsKept me marks W
+      → (me : Role) (s : Store) (a : Act) (given : Given) (marks : Marks) (W P : Process) (d : Deed)
+      → IsKept me marks W
       → step me s (running me marks W) a given ≡ Does d P
       → IsMarkStep me a marks W P

@@ -26,10 +26,14 @@ marked (mark.Waiting k ks) x y = Waiting k ks
 marked (mark.Became R) x y = Became R
 
 abbrev pub kept : Marks → ℕ → Process → Status
-kept marks b (Seq P Q) = marked (marks (b + (size P + size Q))) (kept marks b P) (kept marks (b + size P) Q)
-kept marks b (Par P Q) = marked (marks (b + (size P + size Q))) (kept marks b P) (kept marks (b + size P) Q)
-kept marks b (IfLead i g others P Q) = marked (marks (b + (size P + size Q))) (kept marks b P) (kept marks (b + size P) Q)
-kept marks b (IfFollow i leader P Q) = marked (marks (b + (size P + size Q))) (kept marks b P) (kept marks (b + size P) Q)
+kept marks b (Seq P Q) =
+    marked (marks (b + (size P + size Q))) (kept marks b P) (kept marks (b + size P) Q)
+kept marks b (Par P Q) =
+    marked (marks (b + (size P + size Q))) (kept marks b P) (kept marks (b + size P) Q)
+kept marks b (IfLead i g others P Q) =
+    marked (marks (b + (size P + size Q))) (kept marks b P) (kept marks (b + size P) Q)
+kept marks b (IfFollow i leader P Q) =
+    marked (marks (b + (size P + size Q))) (kept marks b P) (kept marks (b + size P) Q)
 kept marks b (WhileLead i g others P) = marked (marks (b + size P)) (kept marks b P) Finished
 kept marks b (WhileFollow i leader P) = marked (marks (b + size P)) (kept marks b P) Finished
 kept marks b (ScopeLead head others P) = marked (marks (b + size P)) (kept marks b P) Finished

@@ -61,7 +61,8 @@ parts_say me marks b x P = true
 -- the marks of a whole
 abbrev pub is_kept : Role → Marks → Process → Bool
 is_kept me marks W =
-    (says_over me (marks (0 + inner W)) (kept marks 0 W) W && parts_say me marks 0 (kept marks 0 W) W)
+    (says_over me (marks (0 + inner W)) (kept marks 0 W) W
+    && parts_say me marks 0 (kept marks 0 W) W)
     && is_sound me (kept marks 0 W) W
 
 -- it is true exactly where they hang together

@@ -112,10 +112,13 @@ start me s (Send i o b e) a given = put_one (key me b i (Op o)) (Val (eval e s))
 start me s (Recv i o from x) a given =
     when (act_eq a (act.Take (key from me i (Op o))))
     (under (λ R. Finished) (take_value (key from me i (Op o)) x given))
-start me s (Assign i x e) a given = when (act_eq a (act.Set i)) (Does (Sets i me x (eval e s)) Finished)
-start me s (Read i x) a given = when (act_eq a (act.Input i)) (Does (Inputs i me x (next_input s)) Finished)
+start me s (Assign i x e) a given =
+    when (act_eq a (act.Set i)) (Does (Sets i me x (eval e s)) Finished)
+start me s (Read i x) a given =
+    when (act_eq a (act.Input i)) (Does (Inputs i me x (next_input s)) Finished)
 start me s (Seq P Q) a given =
-    if ended P then under Second (start me s Q a given) else under (behind me P) (start me s P a given)
+    if ended P then under Second (start me s Q a given)
+    else under (behind me P) (start me s P a given)
 start me s (Par P Q) a given =
     if is_offered a (offers me P) then under (λ x. Both x Untouched) (start me s P a given)
     else under (Both Untouched) (start me s Q a given)
@@ -197,7 +200,8 @@ move me s (Gathering k ks) (ScopeLead head others P) a given =
     take_one k (gathering_then (release me others head.index) ks) a given
 move me s (Left k l ms) (ScopeLead head others P) a given = put_one k l (leaving ms) a
 move me s (Body x) (ScopeFollow i leader P) a given =
-    if ended (read me x P) then put_one (key me leader i End) Done (Waiting (key leader me i Out) []) a
+    if ended (read me x P)
+    then put_one (key me leader i End) Done (Waiting (key leader me i Out) []) a
     else under (bodied me Ending P) (move me s x P a given)
 move me s Ending (ScopeFollow i leader P) a given =
     put_one (key me leader i End) Done (Waiting (key leader me i Out) []) a

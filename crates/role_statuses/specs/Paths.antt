@@ -80,7 +80,8 @@ top_status (h ∷ hs) P x = top_status hs (static_of h P) (status_of h P x)
 abbrev pub climb : Role → List Hole → Process → Status → Status
 climb me [] P x = x
 climb me (h ∷ hs) P x =
-    if is_over me x P then climb me hs (static_of h P) (rise me h P x) else top_status hs (static_of h P) (status_of h P x)
+    if is_over me x P then climb me hs (static_of h P) (rise me h P x)
+    else top_status hs (static_of h P) (status_of h P x)
 
 -- the acts of the parts on the left of the part, and on its right
 abbrev pub left_of : Role → Hole → List Act
@@ -95,7 +96,8 @@ right_of me h = []
 abbrev pub IsActing : Role → Act → List Hole → Process → Status → Type 0
 IsActing me a [] P x = Unit {0}
 IsActing me a (h ∷ hs) P x =
-    (is_over me x P ≡ false) × (is_offered a (left_of me h) ≡ false) × IsActing me a hs (static_of h P) (status_of h P x)
+    (is_over me x P ≡ false) × (is_offered a (left_of me h) ≡ false)
+    × IsActing me a hs (static_of h P) (status_of h P x)
 
 -- what a move of the part makes of a static process around it: each construct on the way is touched
 abbrev pub touch : Role → List Hole → Process → Status → Status
@@ -130,7 +132,8 @@ abbrev pub fresh : Role → Hole → Process → List Act
 fresh me (InFirst Q) P = offers me Q
 fresh me (InLeadTurn i g others) P = leaves me (next_turn me others i) (WhileLead i g others P)
 fresh me (InFollowTurn i leader) P = leaves me Ending (WhileFollow i leader P)
-fresh me (InLeadScope head others) P = leaves me (scope_end me others head.index) (ScopeLead head others P)
+fresh me (InLeadScope head others) P =
+    leaves me (scope_end me others head.index) (ScopeLead head others P)
 fresh me (InFollowScope i leader) P = leaves me Ending (ScopeFollow i leader P)
 fresh me h P = []
 
@@ -138,5 +141,7 @@ fresh me h P = []
 abbrev pub news : Role → List Hole → Process → Status → List Act
 news me [] P x = leaves me x P
 news me (h ∷ hs) P x =
-    if is_over me x P then if is_over me (rise me h P x) (static_of h P) then news me hs (static_of h P) (rise me h P x) else fresh me h P
+    if is_over me x P then
+    (if is_over me (rise me h P x) (static_of h P) then news me hs (static_of h P) (rise me h P x)
+    else fresh me h P)
     else leaves me x P

@@ -6,7 +6,8 @@ use Rattle.dioc_terms.specs.Processes.{Process, Seq, Par, IfLead, IfFollow, Whil
 use Rattle.process_steps.specs.Steps.{Deed}
 use Rattle.role_statuses.specs.Statuses.{Status, First, Second, Both, Branch, Body, is_over}
 
--- each status fits its construct, and the first part of a sequence and the body of a loop or a scope is left as soon as it has ended
+-- each status fits its construct, and the first part of a sequence and the body of a loop or a
+-- scope is left as soon as it has ended
 abbrev pub is_sound : Role → Status → Process → Bool
 is_sound me (First x) (Seq P Q) = not (is_over me x P) && is_sound me x P
 is_sound me (Second x) (Seq P Q) = is_sound me x Q

@@ -15,7 +15,8 @@ pub record Spot : Type 0 where
   pub acts : List Act
 
 abbrev pub spot_of : Role → ℕ → Status → Process → List Spot
-spot_of me b x P = if is_over me x P then [] else (record { place = b + inner P; acts = leaves me x P } ∷ [])
+spot_of me b x P =
+    if is_over me x P then [] else (record { place = b + inner P; acts = leaves me x P } ∷ [])
 
 -- those of a static process
 abbrev pub still : Role → ℕ → Process → List Spot
@@ -71,9 +72,11 @@ rights_spots me b (h ∷ hs) P =
 -- the places of what is next in a construct whose part has ended
 abbrev pub fresh_spots : Role → ℕ → Hole → Process → List Spot
 fresh_spots me c (InFirst Q) P = still me (c + size P) Q
-fresh_spots me c (InLeadTurn i g others) P = spots me c (next_turn me others i) (WhileLead i g others P)
+fresh_spots me c (InLeadTurn i g others) P =
+    spots me c (next_turn me others i) (WhileLead i g others P)
 fresh_spots me c (InFollowTurn i leader) P = spots me c Ending (WhileFollow i leader P)
-fresh_spots me c (InLeadScope head others) P = spots me c (scope_end me others head.index) (ScopeLead head others P)
+fresh_spots me c (InLeadScope head others) P =
+    spots me c (scope_end me others head.index) (ScopeLead head others P)
 fresh_spots me c (InFollowScope i leader) P = spots me c Ending (ScopeFollow i leader P)
 fresh_spots me c h P = []
 
@@ -81,5 +84,8 @@ fresh_spots me c h P = []
 abbrev pub news_spots : Role → ℕ → List Hole → Process → Status → List Spot
 news_spots me b [] P x = spots me b x P
 news_spots me b (h ∷ hs) P x =
-    if is_over me x P then if is_over me (rise me h P x) (static_of h P) then news_spots me (b - left_size h) hs (static_of h P) (rise me h P x)
-    else fresh_spots me (b - left_size h) h P else spots me b x P
+    if is_over me x P then
+    (if is_over me (rise me h P x) (static_of h P)
+    then news_spots me (b - left_size h) hs (static_of h P) (rise me h P x)
+    else fresh_spots me (b - left_size h) h P)
+    else spots me b x P

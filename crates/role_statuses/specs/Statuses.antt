@@ -134,7 +134,8 @@ leaves me (Branch b x) (IfLead i g others P Q) = leaves me x (if b then P else Q
 leaves me (Branch b x) (IfFollow i leader P Q) = leaves me x (if b then P else Q)
 leaves me (Telling b k l ms) (WhileLead i g others P) = act.Put k ∷ []
 leaves me (Body x) (WhileLead i g others P) =
-    if is_over me x P then offers me (lead_turn me others i (WhileLead i g others P)) else leaves me x P
+    if is_over me x P then offers me (lead_turn me others i (WhileLead i g others P))
+    else leaves me x P
 leaves me (Gathering k ks) (WhileLead i g others P) = act.Take k ∷ []
 leaves me (Left k l ms) (WhileLead i g others P) = act.Put k ∷ []
 leaves me (Body x) (WhileFollow i leader P) =

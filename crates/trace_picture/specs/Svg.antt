@@ -89,7 +89,8 @@ sign_mark sign.Keep x y wide = paper x y wide
 sign_mark sign.Replace x y wide = paper x y wide
 sign_mark _ x y wide = dot x y
 
--- a line from one place to another, whose tag goes on: with a tip, or with an open circle at its end
+-- a line from one place to another, whose tag goes on: with a tip, or with an open circle at its
+-- end
 unfoldable pub line_between : List ℕ → ℕ → ℕ → ℕ → ℕ → List ℕ
 line_between tag start top end low =
     end_to_end (tag ∷ attribute (codes "x1") start ∷ attribute (codes "y1") top ∷
