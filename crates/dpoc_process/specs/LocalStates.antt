@@ -1,5 +1,5 @@
 -- A role with what it does and what it holds: all of a run that is its own.
-use Rattle.std.specs.Prelude.{List}
+use Rattle.std.specs.Prelude.{◌≡◌, ℕ, List, ◌++◌, drop, take}
 use Rattle.dioc_terms.specs.declared.names.Role.{Role}
 use Rattle.dioc_terms.specs.declared.entries.Act.{Act}
 use Rattle.dioc_terms.specs.Attempts.{Attempt}
@@ -15,6 +15,10 @@ pub record LocalState : Type 0 where
 -- the acts that the role can do next
 abbrev pub offered : LocalState → List Act
 offered s = offers s.role s.process
+
+-- these acts are all of those but some, which stand one behind the other at this place
+abbrev pub LacksAt : ℕ → List Act → List Act → Type 0
+LacksAt at acts all = (news : List Act) × (all ≡ take at acts ++ (news ++ drop at acts))
 
 -- its step by an act
 abbrev pub step_at : LocalState → Act → Given → Attempt Deed Process

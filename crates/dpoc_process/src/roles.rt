@@ -1,12 +1,12 @@
 //! What a role that runs can be asked, whatever form its process is kept in.
 
-ghost use Rattle.std.specs.Prelude.{◌≡◌, ◌↔◌, false, IfOk, IsErrOf, OnErr, OnOk};
+ghost use Rattle.std.specs.Prelude.{◌≡◌, ◌≤◌, ◌↔◌, false, length, IfOk, IsErrOf, OnErr, OnOk};
 ghost use Rattle.dioc_terms.specs.declared.entries.Act.{Act as OneAct};
 ghost use Rattle.dioc_terms.specs.KeptStores.{store_of};
 ghost use Rattle.dioc_terms.specs.Processes.{process};
 ghost use Rattle.dpoc_process.specs.Handed.{handed, Brings, IsEnabled};
 ghost use Rattle.dpoc_process.specs.RoleSteps.{IsPrepared, IsStep};
-ghost use Rattle.dpoc_process.specs.LocalStates.{LocalState, offered};
+ghost use Rattle.dpoc_process.specs.LocalStates.{LacksAt, LocalState, offered};
 ghost use Rattle.process_steps.specs.Steps.{Given, ended, is_offered};
 
 use crate::runs::{Got, PrepareFault, Prepared};
@@ -30,6 +30,14 @@ pub trait Runs: Drop {
     /// Lists the acts that the process offers, as `acts` does, in a list from before: an act that
     /// stands there already may stay as it is. After `Memory` the list may have any acts.
     fn refresh_acts(&self, alloc: Global, acts: &mut Vec<Act>) -> Result<(), Memory>
+        ensures { OnOk result (acts.new.items ≡ offered (local self.now)) };
+
+    /// Lists the acts that the process offers, as `acts` does, in a list that has all of them but
+    /// some, which come one behind the other at the place `at`, counted from 0. After `Memory` the
+    /// list may have any acts.
+    fn fill_acts(&self, alloc: Global, acts: &mut Vec<Act>, at: usize) -> Result<(), Memory>
+        requires inside { at ≤ length acts.old.items }
+        requires lacks { LacksAt at acts.old.items (offered (local self.now)) }
         ensures { OnOk result (acts.new.items ≡ offered (local self.now)) };
 
     /// Makes the role ready for an act, and shows what is known of the act before it is done.

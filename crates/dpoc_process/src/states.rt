@@ -66,6 +66,10 @@ impl Runs for RoleState {
         Ok(())
     }
 
+    fn fill_acts(&self, alloc: Global, acts: &mut Vec<Act>, _at: usize) -> Result<(), Memory> {
+        self.refresh_acts(alloc, acts)
+    }
+
     fn prepare(&mut self, alloc: Global, act: &Act) -> Result<Prepared, PrepareFault> {
         clear(&mut self.ready);
         match make_ready(alloc, &self.role, &self.proc, &mut self.store, act) {
