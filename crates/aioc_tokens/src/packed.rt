@@ -9,6 +9,7 @@ ghost use Rattle.aioc_tokens.specs.Packed.{ArePacked, IsSortedToken, IsSymbolAt,
 
 use crate::kinds::TokenFault;
 use crate::scan::{begins_comment, is_space, line_length, name_length, number_length, text_length};
+use crate::sort_byte::SortByte;
 use crate::view::{name_sort, text_sort};
 use crate::words::{Punctuator, Sort, lone_punctuator, longest_symbol};
 use std::alloc::Global;
@@ -19,7 +20,7 @@ pub struct Packed {
     /// Where each token begins.
     pub starts: Vec<u32>,
     /// The sort of each token.
-    pub sorts: Vec<Sort>,
+    pub sorts: Vec<SortByte>,
 }
 
 /// What stands at the front of a text, and how many bytes it takes.
@@ -128,7 +129,7 @@ fn in_front(text: &[u8]) -> Front
     symbol_in_front(text)
 }
 
-/// The tokens of a text, packed, in one pass over its bytes: `tokens` with `sorts`, in 6 bytes a
+/// The tokens of a text, packed, in one pass over its bytes: `tokens` with `sorts`, in 5 bytes a
 /// token.
 ///
 /// `BadByte` comes exactly where some byte is in no token, space or comment, and names the first
@@ -153,7 +154,9 @@ pub fn packed_tokens(alloc: Global, bytes: &[u8]) -> Result<Packed, TokenFault>
             Front::Other => return Err(TokenFault::BadByte(at)),
         };
         starts.push(at as u32).map_err(|_| TokenFault::Memory)?;
-        sorts.push(sort).map_err(|_| TokenFault::Memory)?;
+        sorts
+            .push(SortByte::of(sort))
+            .map_err(|_| TokenFault::Memory)?;
         at += count;
     }
     Ok(Packed { starts, sorts })

@@ -7,7 +7,7 @@ ghost use Rattle.aioc_tokens.specs.Packed.{ArePacked};
 ghost use Rattle.bundle_layout.specs.Pieces.{HasPieces};
 ghost use Rattle.bundle_layout.specs.Parts.{pieces_of, LiesIn, goes_on};
 
-use aioc_tokens::{Kind, Sort, find_punctuator};
+use aioc_tokens::{Kind, Sort, SortByte, find_punctuator};
 use std::alloc::{AllocError, Global};
 
 /// What a part of a text is.
@@ -125,7 +125,7 @@ pub(crate) fn cut(
     alloc: Global,
     bytes: &[u8],
     starts: &[u32],
-    sorts: &[Sort],
+    sorts: &[SortByte],
 ) -> Result<Vec<Part>, AllocError>
     requires packed { ArePacked bytes.now starts.now sorts.now }
     requires short { length bytes.now ≤ 4294967295 }
