@@ -120,6 +120,14 @@ fn begins_at(starts: &[u32], next: usize, at: usize) -> bool
     }
 }
 
+/// The sort at a place of the list.
+fn sort_of(sorts: &[SortByte], next: usize) -> Sort {
+    match sorts.get(next) {
+        Some(sort) => sort.get(),
+        None => Sort::End,
+    }
+}
+
 /// The parts of a text whose tokens begin at these places and have these sorts, in order.
 pub(crate) fn cut(
     alloc: Global,
@@ -142,7 +150,7 @@ pub(crate) fn cut(
             let token_end = at + count;
             parts.push(Part {
                 kind: PartKind::Token(kind),
-                sort: sorts.get(next).copied().unwrap_or(Sort::End),
+                sort: sort_of(sorts, next),
                 start: at as u32,
                 end: token_end as u32,
             })?;
