@@ -24,12 +24,12 @@ pub struct Packed {
 }
 
 /// What stands at the front of a text, and how many bytes it takes.
-#[derive(Clone, Copy)]
+#[derive(Drop)]
 pub(crate) enum Front {
     /// A space or a comment.
     Blank(usize),
-    /// The longest token there, by its sort.
-    Token(Sort, usize),
+    /// The longest token there, by its sort, which is as the list keeps it.
+    Token(SortByte, usize),
     /// None of these.
     Other,
 }
@@ -40,7 +40,7 @@ fn name_in_front(text: &[u8]) -> Front
     ensures { StandsInFront text.now result }
 {
     let count = name_length(text);
-    Front::Token(name_sort(&text[..count]), count)
+    Front::Token(SortByte::of(name_sort(&text[..count])), count)
 }
 
 /// The number at the front, which begins with a digit.
@@ -48,7 +48,7 @@ fn number_in_front(text: &[u8]) -> Front
     requires { is_ascii_digit (slice_index text.now 0) ≡ true }
     ensures { StandsInFront text.now result }
 {
-    Front::Token(Sort::Number, number_length(text))
+    Front::Token(SortByte::of(Sort::Number), number_length(text))
 }
 
 /// The text in quotes at the front, if one ends. The first byte is its quote.
@@ -57,7 +57,7 @@ fn text_in_front(text: &[u8]) -> Front
     ensures { StandsInFront text.now result }
 {
     match text_length(text) {
-        Some(count) => Front::Token(text_sort(&text[..count]), count),
+        Some(count) => Front::Token(SortByte::of(text_sort(&text[..count])), count),
         None => Front::Other,
     }
 }
@@ -100,7 +100,7 @@ fn symbol_in_front(text: &[u8]) -> Front
     ensures { StandsInFront text.now result }
 {
     match symbol_at(text) {
-        Some((punctuator, count)) => Front::Token(Sort::Symbol(punctuator), count),
+        Some((punctuator, count)) => Front::Token(SortByte::of(Sort::Symbol(punctuator)), count),
         None => Front::Other,
     }
 }
@@ -154,9 +154,7 @@ pub fn packed_tokens(alloc: Global, bytes: &[u8]) -> Result<Packed, TokenFault>
             Front::Other => return Err(TokenFault::BadByte(at)),
         };
         starts.push(at as u32).map_err(|_| TokenFault::Memory)?;
-        sorts
-            .push(SortByte::of(sort))
-            .map_err(|_| TokenFault::Memory)?;
+        sorts.push(sort).map_err(|_| TokenFault::Memory)?;
         at += count;
     }
     Ok(Packed { starts, sorts })

@@ -41,7 +41,7 @@ loop-at-preserved c =
     let starts = chosen _ _ _ _ c.push.ensures.items (sym c.map_err.ensures.variant ∙ ap is_ok c.in_ok-map_err.was) in
     let sorts = chosen _ _ _ _ c.push-in-loop-at.ensures.items (sym c.map_err-in-loop-at.ensures.variant ∙ ap is_ok c.in_ok-map_err-2.was) in
     subst (λ starts. PacksBefore bytes starts c.push-in-loop-at.new.self.items (at + found.count)) (sym starts)
-    (subst (λ sorts. PacksBefore bytes (c.loop-at.starts.items ++ at ∷ []) sorts (at + found.count)) (sym (sorts ∙ ap (λ sort. c.loop-at.sorts.items ++ sort ∷ []) c.of.ensures))
+    (subst (λ sorts. PacksBefore bytes (c.loop-at.starts.items ++ at ∷ []) sorts (at + found.count)) (sym sorts)
     (packs_token bytes c.loop-at.starts.items c.loop-at.sorts.items at c.loop-at.invariant found.sort found.count token))
 
 pub returns-clause-found : goal.returns-clause-found
