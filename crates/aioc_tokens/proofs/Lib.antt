@@ -14,3 +14,4 @@ pub mod Written
 pub mod Every
 pub mod Readings
 pub mod Places
+pub mod SortPlaces

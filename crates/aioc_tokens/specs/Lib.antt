@@ -1,4 +1,5 @@
 pub mod Words
+pub mod SortBytes
 pub mod Tokens
 pub mod Lexing
 pub mod Lexemes

@@ -10,11 +10,13 @@ mod kinds;
 pub mod laws;
 mod packed;
 mod scan;
+mod sort_byte;
 mod view;
 mod words;
 
 pub use kinds::{Kind, Token, TokenFault};
 pub use packed::{Packed, packed_tokens};
 pub use scan::tokens;
+pub use sort_byte::SortByte;
 pub use view::{Lexed, place, sorts};
 pub use words::{Punctuator, Sort, Word, find_punctuator, find_word};

@@ -9,6 +9,7 @@ ghost use Rattle.aioc_tokens.specs.Packed.{ArePacked, IsSortedToken, IsSymbolAt,
 
 use crate::kinds::TokenFault;
 use crate::scan::{begins_comment, is_space, line_length, name_length, number_length, text_length};
+use crate::sort_byte::SortByte;
 use crate::view::{name_sort, text_sort};
 use crate::words::{Punctuator, Sort, lone_punctuator, longest_symbol};
 use std::alloc::Global;
@@ -19,16 +20,16 @@ pub struct Packed {
     /// Where each token begins.
     pub starts: Vec<u32>,
     /// The sort of each token.
-    pub sorts: Vec<Sort>,
+    pub sorts: Vec<SortByte>,
 }
 
 /// What stands at the front of a text, and how many bytes it takes.
-#[derive(Clone, Copy)]
+#[derive(Drop)]
 pub(crate) enum Front {
     /// A space or a comment.
     Blank(usize),
-    /// The longest token there, by its sort.
-    Token(Sort, usize),
+    /// The longest token there, by its sort, which is as the list keeps it.
+    Token(SortByte, usize),
     /// None of these.
     Other,
 }
@@ -39,7 +40,7 @@ fn name_in_front(text: &[u8]) -> Front
     ensures { StandsInFront text.now result }
 {
     let count = name_length(text);
-    Front::Token(name_sort(&text[..count]), count)
+    Front::Token(SortByte::of(name_sort(&text[..count])), count)
 }
 
 /// The number at the front, which begins with a digit.
@@ -47,7 +48,7 @@ fn number_in_front(text: &[u8]) -> Front
     requires { is_ascii_digit (slice_index text.now 0) ≡ true }
     ensures { StandsInFront text.now result }
 {
-    Front::Token(Sort::Number, number_length(text))
+    Front::Token(SortByte::of(Sort::Number), number_length(text))
 }
 
 /// The text in quotes at the front, if one ends. The first byte is its quote.
@@ -56,7 +57,7 @@ fn text_in_front(text: &[u8]) -> Front
     ensures { StandsInFront text.now result }
 {
     match text_length(text) {
-        Some(count) => Front::Token(text_sort(&text[..count]), count),
+        Some(count) => Front::Token(SortByte::of(text_sort(&text[..count])), count),
         None => Front::Other,
     }
 }
@@ -99,7 +100,7 @@ fn symbol_in_front(text: &[u8]) -> Front
     ensures { StandsInFront text.now result }
 {
     match symbol_at(text) {
-        Some((punctuator, count)) => Front::Token(Sort::Symbol(punctuator), count),
+        Some((punctuator, count)) => Front::Token(SortByte::of(Sort::Symbol(punctuator)), count),
         None => Front::Other,
     }
 }
@@ -128,7 +129,7 @@ fn in_front(text: &[u8]) -> Front
     symbol_in_front(text)
 }
 
-/// The tokens of a text, packed, in one pass over its bytes: `tokens` with `sorts`, in 6 bytes a
+/// The tokens of a text, packed, in one pass over its bytes: `tokens` with `sorts`, in 5 bytes a
 /// token.
 ///
 /// `BadByte` comes exactly where some byte is in no token, space or comment, and names the first

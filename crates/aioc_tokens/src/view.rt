@@ -5,13 +5,14 @@ ghost use Rattle.aioc_tokens.specs.declared.kinds.Kind.{Kind};
 ghost use Rattle.aioc_tokens.specs.declared.kinds.Token.{Token};
 ghost use Rattle.aioc_tokens.specs.Tokens.{Spells, IsLongestToken};
 ghost use Rattle.aioc_tokens.specs.Lexing.{Lexes, IsTokenOf, bytes_of, place_of};
-ghost use Rattle.aioc_tokens.specs.Lexemes.{lexeme, lexemes, sort_of, all_sorts, value_of, unescaped, Begins, HasLexemes, HasSpelling};
+ghost use Rattle.aioc_tokens.specs.Lexemes.{lexeme, lexemes, sort_of, all_sorts, value_of, unescaped, AreKnown, Begins, HasLexemes, HasSpelling};
 ghost use Rattle.aioc_tokens.specs.Packed.{front_name, front_number, front_text, ArePacked};
 ghost use Rattle.limits.specs.Limits.{most_text_bytes};
 
 use crate::kinds::{Kind, Token};
 use crate::packed::Packed;
 use crate::scan::{name_length, number_length, text_length};
+use crate::sort_byte::SortByte;
 use crate::words::{Sort, find_punctuator, find_word, lone_word};
 use limits::{MOST_NAME_BYTES, MOST_TEXT_BYTES};
 use std::alloc::{AllocError, Global};
@@ -168,6 +169,27 @@ fn found_sort(bytes: &[u8], tokens: &[Token], at: usize) -> Sort
     }
 }
 
+/// The sort of the token at this place of the list, of which the first sorts may be listed.
+fn listed_sort(bytes: &[u8], tokens: &[Token], listed: &[Sort], at: usize) -> Sort
+    requires lexes { at < length tokens.now → Lexes 0 bytes.now tokens.now }
+    requires known { AreKnown listed.now (lexemes bytes.now tokens.now) }
+    ensures { result ≡ sort_of (drop at (lexemes bytes.now tokens.now)) }
+{
+    match listed.get(at) {
+        Some(sort) => *sort,
+        None => found_sort(bytes, tokens, at),
+    }
+}
+
+/// Whether `listed_sort` is this sort.
+fn lists(bytes: &[u8], tokens: &[Token], listed: &[Sort], at: usize, sort: Sort) -> bool
+    requires lexes { at < length tokens.now → Lexes 0 bytes.now tokens.now }
+    requires known { AreKnown listed.now (lexemes bytes.now tokens.now) }
+    ensures { IsTrue result ↔ (sort_of (drop at (lexemes bytes.now tokens.now)) ≡ sort) }
+{
+    listed_sort(bytes, tokens, listed, at) == sort
+}
+
 /// The bytes of the token at this place of the list.
 fn token_bytes<'a>(bytes: &'a [u8], tokens: &[Token], at: usize) -> &'a [u8]
     requires within { at < length tokens.now }
@@ -222,29 +244,32 @@ pub struct Lexed<'a> {
     bytes: &'a [u8],
     /// Where each token begins, if the tokens are packed, or none.
     starts: &'a [u32],
-    /// The sorts of all packed tokens. Of others the sorts of the first ones, or none: those of the
-    /// rest are found when they are asked for.
-    known: &'a [Sort],
+    /// The sorts of all packed tokens.
+    known: &'a [SortByte],
     /// The tokens that are not packed.
     tokens: &'a [Token],
+    /// The sorts of the first of these, or none: those of the rest are found when they are asked
+    /// for.
+    listed: &'a [Sort],
 }
 
 const NO_STARTS: [u32; 0] = [];
 
-const NONE_KNOWN: [Sort; 0] = [];
-
 const NO_TOKENS: [Token; 0] = [];
+
+const NONE_LISTED: [Sort; 0] = [];
 
 impl<'a> Model for Lexed<'a> {
     ghost use Rattle.std.specs.Prelude.{List};
-    ghost use Rattle.aioc_tokens.specs.Lexemes.{Lexeme};
+    ghost use Rattle.aioc_tokens.specs.Lexemes.{Lexeme, lexemes, AreKnown};
     ghost use Rattle.aioc_tokens.specs.Packed.{shown_by, IsSourceOf};
 
     ghost Value = { List Lexeme };
 
     ghost view = { λ s. shown_by s.bytes.now s.starts.now s.known.now s.tokens.now };
 
-    ghost invariant = { λ s. IsSourceOf s.bytes.now s.starts.now s.known.now s.tokens.now };
+    ghost invariant = { λ s. IsSourceOf s.bytes.now s.starts.now s.known.now s.tokens.now
+        × AreKnown s.listed.now (lexemes s.bytes.now s.tokens.now) };
 }
 
 impl<'a> Lexed<'a> {
@@ -255,11 +280,13 @@ impl<'a> Lexed<'a> {
         requires { Lexes 0 bytes.now tokens.now }
         ensures { result ≡ lexemes bytes.now tokens.now }
     {
+        let known: &[SortByte] = &[];
         Lexed {
             bytes,
             starts: NO_STARTS.as_slice(),
-            known: NONE_KNOWN.as_slice(),
+            known,
             tokens,
+            listed: NONE_LISTED.as_slice(),
         }
     }
 
@@ -269,11 +296,13 @@ impl<'a> Lexed<'a> {
         requires sorts { sorts.now ≡ all_sorts (lexemes bytes.now tokens.now) }
         ensures { result ≡ lexemes bytes.now tokens.now }
     {
+        let known: &[SortByte] = &[];
         Lexed {
             bytes,
             starts: NO_STARTS.as_slice(),
-            known: sorts,
+            known,
             tokens,
+            listed: sorts,
         }
     }
 
@@ -288,6 +317,7 @@ impl<'a> Lexed<'a> {
             starts: packed.starts.as_slice(),
             known: packed.sorts.as_slice(),
             tokens: NO_TOKENS.as_slice(),
+            listed: NONE_LISTED.as_slice(),
         }
     }
 
@@ -315,8 +345,8 @@ impl<'a> Lexed<'a> {
     {
         let _few = self.len();
         match self.known.get(at) {
-            Some(sort) => *sort,
-            None => found_sort(self.bytes, self.tokens, at),
+            Some(sort) => sort.get(),
+            None => listed_sort(self.bytes, self.tokens, self.listed, at),
         }
     }
 
@@ -325,7 +355,11 @@ impl<'a> Lexed<'a> {
         ensures value { IsTrue result ↔ (sort_of (drop at self.now) ≡ sort) }
         ensures small { length self.now < 2 ^ 63 }
     {
-        self.sort(at) == sort
+        let _few = self.len();
+        match self.known.get(at) {
+            Some(known) => known.is(sort),
+            None => lists(self.bytes, self.tokens, self.listed, at, sort),
+        }
     }
 
     /// Whether the lexemes from this place on are of these sorts, one after the other.

@@ -7,7 +7,7 @@ ghost use Rattle.aioc_tokens.specs.Packed.{ArePacked};
 ghost use Rattle.bundle_layout.specs.Pieces.{HasPieces};
 ghost use Rattle.bundle_layout.specs.Parts.{pieces_of, LiesIn, goes_on};
 
-use aioc_tokens::{Kind, Sort, find_punctuator};
+use aioc_tokens::{Kind, Sort, SortByte, find_punctuator};
 use std::alloc::{AllocError, Global};
 
 /// What a part of a text is.
@@ -120,12 +120,20 @@ fn begins_at(starts: &[u32], next: usize, at: usize) -> bool
     }
 }
 
+/// The sort at a place of the list.
+fn sort_of(sorts: &[SortByte], next: usize) -> Sort {
+    match sorts.get(next) {
+        Some(sort) => sort.get(),
+        None => Sort::End,
+    }
+}
+
 /// The parts of a text whose tokens begin at these places and have these sorts, in order.
 pub(crate) fn cut(
     alloc: Global,
     bytes: &[u8],
     starts: &[u32],
-    sorts: &[Sort],
+    sorts: &[SortByte],
 ) -> Result<Vec<Part>, AllocError>
     requires packed { ArePacked bytes.now starts.now sorts.now }
     requires short { length bytes.now ≤ 4294967295 }
@@ -142,7 +150,7 @@ pub(crate) fn cut(
             let token_end = at + count;
             parts.push(Part {
                 kind: PartKind::Token(kind),
-                sort: sorts.get(next).copied().unwrap_or(Sort::End),
+                sort: sort_of(sorts, next),
                 start: at as u32,
                 end: token_end as u32,
             })?;

@@ -1,4 +1,4 @@
-use Rattle.std.proofs.Common.{sym, subst}
+use Rattle.std.proofs.Common.{sym, ◌∙◌, subst}
 use Rattle.aioc_tokens.specs.declared.kinds.Kind.TheVariants.{Name}
 use Rattle.aioc_tokens.specs.Tokens.{IsLongestToken}
 use Rattle.aioc_tokens.proofs.Runs.{name_longest}
@@ -8,5 +8,5 @@ pub returns : goal.returns
 returns c = record {
   kind = Name;
   token = subst (IsLongestToken c.args.text.now Name) (sym c.name_length-count.ensures) (name_longest c.args.text.now c.requires);
-  sort_is = c.name_sort.ensures;
+  sort_is = c.of.ensures ∙ c.name_sort.ensures;
 }

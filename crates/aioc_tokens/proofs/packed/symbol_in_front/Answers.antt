@@ -1,4 +1,4 @@
-use Rattle.std.proofs.Common.{[], ◌∷◌, ap, sym, get_or}
+use Rattle.std.proofs.Common.{[], ◌∷◌, ◌∙◌, ap, sym, get_or}
 use Rattle.std.specs.Option.{option_map_or}
 use Rattle.aioc_tokens.specs.declared.kinds.Kind.TheVariants as kinds
 use Rattle.aioc_tokens.specs.Lexemes.{Long, Symbol, sort_of}
@@ -10,7 +10,7 @@ pub returns-in-Some : goal.returns-in-Some
 returns-in-Some c = record {
   kind = kinds.Symbol;
   token = c.in-Some.ensures.token;
-  sort_is = ap (λ found. sort_of (option_map_or Symbol found Long ∷ [])) (sym c.in-Some.ensures.known);
+  sort_is = c.of.ensures ∙ ap (λ found. sort_of (option_map_or Symbol found Long ∷ [])) (sym c.in-Some.ensures.known);
 }
 
 pub returns-in-None : goal.returns-in-None

@@ -1,4 +1,4 @@
-use Rattle.std.proofs.Common.{ap, arith}
+use Rattle.std.proofs.Common.{◌∙◌, ap, arith}
 use Rattle.aioc_tokens.specs.declared.kinds.Kind.TheVariants.{Text}
 use Rattle.aioc_tokens.specs.Tokens.{is_space}
 use Rattle.aioc_tokens.proofs.Blanks.{no_blank}
@@ -10,7 +10,7 @@ pub text_sort-requires : goal.text_sort-requires
 text_sort-requires c = c.in-Some.ensures.front.spells
 
 pub returns-in-Some : goal.returns-in-Some
-returns-in-Some c = record { kind = Text; token = c.in-Some.ensures; sort_is = c.text_sort.ensures }
+returns-in-Some c = record { kind = Text; token = c.in-Some.ensures; sort_is = c.of.ensures ∙ c.text_sort.ensures }
 
 pub returns-in-None : goal.returns-in-None
 returns-in-None c =

@@ -37,7 +37,7 @@ loop-at-preserved-then-begins_at c =
     let found = c.begins_at.ensures.0 c.if-begins_at.true in
     let longest = subst (λ text. IsLongestToken text kind count) (take_rest bytes at) c.token_length-kind.ensures in
     subst (λ parts. IsCutBy bytes c.args.starts.now (c.loop-at.next + 1) parts (at + count)) (sym c.in_ok-push.ensures.items)
-    (token_added bytes c.args.starts.now c.loop-at.next c.loop-at.parts.items at c.loop-at.invariant kind count c.unwrap_or.result found longest)
+    (token_added bytes c.args.starts.now c.loop-at.next c.loop-at.parts.items at c.loop-at.invariant kind count c.sort_of.result found longest)
 
 pub loop-at-preserved-then-begins_comment : goal.loop-at-preserved-then-begins_comment
 loop-at-preserved-then-begins_comment c =

@@ -13,7 +13,7 @@ bytes_from-requires c =
     let inside = c.self.inside in
     let found = c.in-Some.ensures.lookup.3 in
     subst (λ start. start ≤ length inside.bytes.now) (sym (found.1 0))
-    (start_shown inside.bytes.now inside.tokens.now c.args.self.now c.args.at inside.starts.now inside.known.now c.self.invariant c.self.view_is found.0)
+    (start_shown inside.bytes.now inside.tokens.now c.args.self.now c.args.at inside.starts.now inside.known.now c.self.invariant.0 c.self.view_is found.0)
 
 pub returns-in-Some-clause-value : goal.returns-in-Some-clause-value
 returns-in-Some-clause-value c =
@@ -21,7 +21,7 @@ returns-in-Some-clause-value c =
     let found = c.in-Some.ensures.lookup.3 in
     let same = c.front_number.ensures ∙ ap front_number (c.bytes_from.ensures ∙ ap (λ start. drop start inside.bytes.now) (found.1 0)) in
     subst (λ bytes. drop c.args.at c.args.self.now ≡ Number bytes ∷ drop (c.args.at + 1) c.args.self.now) (sym same)
-    (number_packed inside.bytes.now inside.tokens.now c.args.self.now c.args.at inside.starts.now inside.known.now c.self.invariant c.self.view_is found.0 c.requires).value
+    (number_packed inside.bytes.now inside.tokens.now c.args.self.now c.args.at inside.starts.now inside.known.now c.self.invariant.0 c.self.view_is found.0 c.requires).value
 
 pub returns-in-Some-clause-valid : goal.returns-in-Some-clause-valid
 returns-in-Some-clause-valid c =
@@ -29,24 +29,24 @@ returns-in-Some-clause-valid c =
     let found = c.in-Some.ensures.lookup.3 in
     let same = c.front_number.ensures ∙ ap front_number (c.bytes_from.ensures ∙ ap (λ start. drop start inside.bytes.now) (found.1 0)) in
     subst (λ bytes. HasSpelling (Number bytes)) (sym same)
-    (number_packed inside.bytes.now inside.tokens.now c.args.self.now c.args.at inside.starts.now inside.known.now c.self.invariant c.self.view_is found.0 c.requires).valid
+    (number_packed inside.bytes.now inside.tokens.now c.args.self.now c.args.at inside.starts.now inside.known.now c.self.invariant.0 c.self.view_is found.0 c.requires).valid
 
 pub token_bytes-requires-clause-within : goal.token_bytes-requires-clause-within
 token_bytes-requires-clause-within c =
     let inside = c.self.inside in
-    let lexes = lexes_shown inside.bytes.now inside.tokens.now c.args.self.now c.args.at sorts.Number c.requires (λ same. cc) inside.starts.now inside.known.now c.self.invariant c.self.view_is c.in-None.ensures.lookup.3 in
+    let lexes = lexes_shown inside.bytes.now inside.tokens.now c.args.self.now c.args.at sorts.Number c.requires (λ same. cc) inside.starts.now inside.known.now c.self.invariant.0 c.self.view_is c.in-None.ensures.lookup.3 in
     token_inside inside.bytes.now inside.tokens.now lexes.0 c.args.at sorts.Number (ap (λ all. sort_of (drop c.args.at all)) lexes.1 ∙ c.requires) (λ same. cc)
 
 pub token_bytes-requires-clause-lexes : goal.token_bytes-requires-clause-lexes
 token_bytes-requires-clause-lexes c =
     let inside = c.self.inside in
-    (lexes_shown inside.bytes.now inside.tokens.now c.args.self.now c.args.at sorts.Number c.requires (λ same. cc) inside.starts.now inside.known.now c.self.invariant c.self.view_is c.in-None.ensures.lookup.3).0
+    (lexes_shown inside.bytes.now inside.tokens.now c.args.self.now c.args.at sorts.Number c.requires (λ same. cc) inside.starts.now inside.known.now c.self.invariant.0 c.self.view_is c.in-None.ensures.lookup.3).0
 
 pub returns-in-None-clause-value : goal.returns-in-None-clause-value
 returns-in-None-clause-value c =
     let inside = c.self.inside in
     let other : Token = record { kind = kinds.Name; start = 0; end = 0 } in
-    let lexes = lexes_shown inside.bytes.now inside.tokens.now c.args.self.now c.args.at sorts.Number c.requires (λ same. cc) inside.starts.now inside.known.now c.self.invariant c.self.view_is c.in-None.ensures.lookup.3 in
+    let lexes = lexes_shown inside.bytes.now inside.tokens.now c.args.self.now c.args.at sorts.Number c.requires (λ same. cc) inside.starts.now inside.known.now c.self.invariant.0 c.self.view_is c.in-None.ensures.lookup.3 in
     subst (λ bytes. drop c.args.at c.args.self.now ≡ Number bytes ∷ drop (c.args.at + 1) c.args.self.now) (sym (c.token_bytes.ensures.value other))
     (number_shown inside.bytes.now inside.tokens.now lexes.0 c.args.at other c.args.self.now lexes.1 c.requires).first
 
@@ -54,6 +54,6 @@ pub returns-in-None-clause-valid : goal.returns-in-None-clause-valid
 returns-in-None-clause-valid c =
     let inside = c.self.inside in
     let other : Token = record { kind = kinds.Name; start = 0; end = 0 } in
-    let lexes = lexes_shown inside.bytes.now inside.tokens.now c.args.self.now c.args.at sorts.Number c.requires (λ same. cc) inside.starts.now inside.known.now c.self.invariant c.self.view_is c.in-None.ensures.lookup.3 in
+    let lexes = lexes_shown inside.bytes.now inside.tokens.now c.args.self.now c.args.at sorts.Number c.requires (λ same. cc) inside.starts.now inside.known.now c.self.invariant.0 c.self.view_is c.in-None.ensures.lookup.3 in
     subst (λ bytes. HasSpelling (Number bytes)) (sym (c.token_bytes.ensures.value other))
     (number_shown inside.bytes.now inside.tokens.now lexes.0 c.args.at other c.args.self.now lexes.1 c.requires).formed

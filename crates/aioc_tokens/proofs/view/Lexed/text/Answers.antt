@@ -14,14 +14,14 @@ bytes_from-requires c =
     let inside = c.self.inside in
     let found = c.in-Some.ensures.lookup.3 in
     subst (λ start. start ≤ length inside.bytes.now) (sym (found.1 0))
-    (start_shown inside.bytes.now inside.tokens.now c.args.self.now c.args.at inside.starts.now inside.known.now c.self.invariant c.self.view_is found.0)
+    (start_shown inside.bytes.now inside.tokens.now c.args.self.now c.args.at inside.starts.now inside.known.now c.self.invariant.0 c.self.view_is found.0)
 
 pub front_text-requires : goal.front_text-requires
 front_text-requires c =
     let inside = c.self.inside in
     let found = c.in-Some.ensures.lookup.3 in
     subst (λ from. (count : ℕ) × IsLongestToken from kinds.Text count) (sym (c.bytes_from.ensures ∙ ap (λ start. drop start inside.bytes.now) (found.1 0)))
-    (quote_packed inside.bytes.now inside.tokens.now c.args.self.now c.args.at inside.starts.now inside.known.now c.self.invariant c.self.view_is found.0 c.requires)
+    (quote_packed inside.bytes.now inside.tokens.now c.args.self.now c.args.at inside.starts.now inside.known.now c.self.invariant.0 c.self.view_is found.0 c.requires)
 
 pub returns-in-Some-clause-value : goal.returns-in-Some-clause-value
 returns-in-Some-clause-value c =
@@ -30,7 +30,7 @@ returns-in-Some-clause-value c =
     let same = c.front_text.ensures.value ∙ ap front_text (c.bytes_from.ensures ∙ ap (λ start. drop start inside.bytes.now) (found.1 0)) in
     text_copied c.copied_value.result c.front_text.result.now (drop c.args.at c.args.self.now) (drop (c.args.at + 1) c.args.self.now) c.copied_value.ensures
     (subst (λ bytes. drop c.args.at c.args.self.now ≡ Text (value_of bytes) ∷ drop (c.args.at + 1) c.args.self.now) (sym same)
-    (text_packed inside.bytes.now inside.tokens.now c.args.self.now c.args.at inside.starts.now inside.known.now c.self.invariant c.self.view_is found.0 c.requires).value)
+    (text_packed inside.bytes.now inside.tokens.now c.args.self.now c.args.at inside.starts.now inside.known.now c.self.invariant.0 c.self.view_is found.0 c.requires).value)
 
 pub returns-in-Some-clause-valid : goal.returns-in-Some-clause-valid
 returns-in-Some-clause-valid c =
@@ -39,24 +39,24 @@ returns-in-Some-clause-valid c =
     let same = c.front_text.ensures.value ∙ ap front_text (c.bytes_from.ensures ∙ ap (λ start. drop start inside.bytes.now) (found.1 0)) in
     text_copied_formed c.copied_value.result c.front_text.result.now c.copied_value.ensures
     (subst (λ bytes. HasSpelling (Text (value_of bytes))) (sym same)
-    (text_packed inside.bytes.now inside.tokens.now c.args.self.now c.args.at inside.starts.now inside.known.now c.self.invariant c.self.view_is found.0 c.requires).valid)
+    (text_packed inside.bytes.now inside.tokens.now c.args.self.now c.args.at inside.starts.now inside.known.now c.self.invariant.0 c.self.view_is found.0 c.requires).valid)
 
 pub token_bytes-requires-clause-within : goal.token_bytes-requires-clause-within
 token_bytes-requires-clause-within c =
     let inside = c.self.inside in
-    let lexes = lexes_shown inside.bytes.now inside.tokens.now c.args.self.now c.args.at sorts.Text c.requires (λ same. cc) inside.starts.now inside.known.now c.self.invariant c.self.view_is c.in-None.ensures.lookup.3 in
+    let lexes = lexes_shown inside.bytes.now inside.tokens.now c.args.self.now c.args.at sorts.Text c.requires (λ same. cc) inside.starts.now inside.known.now c.self.invariant.0 c.self.view_is c.in-None.ensures.lookup.3 in
     token_inside inside.bytes.now inside.tokens.now lexes.0 c.args.at sorts.Text (ap (λ all. sort_of (drop c.args.at all)) lexes.1 ∙ c.requires) (λ same. cc)
 
 pub token_bytes-requires-clause-lexes : goal.token_bytes-requires-clause-lexes
 token_bytes-requires-clause-lexes c =
     let inside = c.self.inside in
-    (lexes_shown inside.bytes.now inside.tokens.now c.args.self.now c.args.at sorts.Text c.requires (λ same. cc) inside.starts.now inside.known.now c.self.invariant c.self.view_is c.in-None.ensures.lookup.3).0
+    (lexes_shown inside.bytes.now inside.tokens.now c.args.self.now c.args.at sorts.Text c.requires (λ same. cc) inside.starts.now inside.known.now c.self.invariant.0 c.self.view_is c.in-None.ensures.lookup.3).0
 
 pub copied_value-requires-in-None : goal.copied_value-requires-in-None
 copied_value-requires-in-None c =
     let inside = c.self.inside in
     let other : Token = record { kind = kinds.Name; start = 0; end = 0 } in
-    let lexes = lexes_shown inside.bytes.now inside.tokens.now c.args.self.now c.args.at sorts.Text c.requires (λ same. cc) inside.starts.now inside.known.now c.self.invariant c.self.view_is c.in-None.ensures.lookup.3 in
+    let lexes = lexes_shown inside.bytes.now inside.tokens.now c.args.self.now c.args.at sorts.Text c.requires (λ same. cc) inside.starts.now inside.known.now c.self.invariant.0 c.self.view_is c.in-None.ensures.lookup.3 in
     let shown = text_shown inside.bytes.now inside.tokens.now lexes.0 c.args.at other c.args.self.now lexes.1 c.requires in
     subst (λ kind. Spells kind c.token_bytes.result.now) shown.0 (c.token_bytes.ensures.spells other)
 
@@ -64,7 +64,7 @@ pub returns-in-None-clause-value : goal.returns-in-None-clause-value
 returns-in-None-clause-value c =
     let inside = c.self.inside in
     let other : Token = record { kind = kinds.Name; start = 0; end = 0 } in
-    let lexes = lexes_shown inside.bytes.now inside.tokens.now c.args.self.now c.args.at sorts.Text c.requires (λ same. cc) inside.starts.now inside.known.now c.self.invariant c.self.view_is c.in-None.ensures.lookup.3 in
+    let lexes = lexes_shown inside.bytes.now inside.tokens.now c.args.self.now c.args.at sorts.Text c.requires (λ same. cc) inside.starts.now inside.known.now c.self.invariant.0 c.self.view_is c.in-None.ensures.lookup.3 in
     let shown = text_shown inside.bytes.now inside.tokens.now lexes.0 c.args.at other c.args.self.now lexes.1 c.requires in
     text_copied c.copied_value-in-None.result c.token_bytes.result.now (drop c.args.at c.args.self.now) (drop (c.args.at + 1) c.args.self.now) c.copied_value-in-None.ensures
     (subst (λ bytes. drop c.args.at c.args.self.now ≡ Text (value_of bytes) ∷ drop (c.args.at + 1) c.args.self.now) (sym (c.token_bytes.ensures.value other)) shown.1.first)
@@ -73,7 +73,7 @@ pub returns-in-None-clause-valid : goal.returns-in-None-clause-valid
 returns-in-None-clause-valid c =
     let inside = c.self.inside in
     let other : Token = record { kind = kinds.Name; start = 0; end = 0 } in
-    let lexes = lexes_shown inside.bytes.now inside.tokens.now c.args.self.now c.args.at sorts.Text c.requires (λ same. cc) inside.starts.now inside.known.now c.self.invariant c.self.view_is c.in-None.ensures.lookup.3 in
+    let lexes = lexes_shown inside.bytes.now inside.tokens.now c.args.self.now c.args.at sorts.Text c.requires (λ same. cc) inside.starts.now inside.known.now c.self.invariant.0 c.self.view_is c.in-None.ensures.lookup.3 in
     let shown = text_shown inside.bytes.now inside.tokens.now lexes.0 c.args.at other c.args.self.now lexes.1 c.requires in
     text_copied_formed c.copied_value-in-None.result c.token_bytes.result.now c.copied_value-in-None.ensures
     (subst (λ bytes. HasSpelling (Text (value_of bytes))) (sym (c.token_bytes.ensures.value other)) shown.1.formed)
