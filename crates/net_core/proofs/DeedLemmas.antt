@@ -1,5 +1,5 @@
 -- What is shown of an act before it is done, and what its deed then is.
-use Rattle.std.proofs.Common.{◌≡◌, ℕ, List, [], ◌∷◌, ◌++◌, true, false, Option, Some, None, IsSome, refl, sym, ap, ◌∙◌, subst}
+use Rattle.std.proofs.Common.{◌≡◌, ℕ, List, [], ◌∷◌, ◌++◌, true, false, Option, Some, None, is_some, IsSome, refl, sym, ap, ◌∙◌, subst}
 use Rattle.dioc_terms.specs.declared.entries.Act.{Act}
 use Rattle.dioc_terms.specs.declared.entries.Act.TheVariants as act
 use Rattle.dioc_terms.specs.declared.entries.Entry.{Entry}
@@ -23,7 +23,7 @@ use Rattle.role_mailbox.specs.declared.mail.Mail.{Mail}
 use Rattle.role_mailbox.specs.Pending.{payload_at}
 use Rattle.marked_laws.proofs.Shapes.{none_some, some_same}
 use Rattle.net_core.specs.Acts.{given_from_mail, put_with, taken_with, TakenBy, PutBy}
-use Rattle.net_core.specs.Deeds.{given_to, asks_scope, pending_with, MailAfter, IsDone}
+use Rattle.net_core.specs.Deeds.{given_to, asks_scope, is_there, pending_with, MailAfter, IsDone}
 
 -- what is done where something is done
 pub deed_there : (m : Attempt Deed Process) → is_done m ≡ true → (d : Deed) × (P : Process) × (m ≡ Does d P)
@@ -74,6 +74,11 @@ given_plain cast rules mail book count s (act.Scope i) h = cc
 given_plain cast rules mail book count s (act.Take k) h = refl
 given_plain cast rules mail book count s _ h = refl
 
+-- what a scope's act needs is there
+pub scope_there : (a : Act) (mail : Mail) → asks_scope a ≡ true → is_there a mail ≡ true
+scope_there (act.Scope i) mail h = refl
+scope_there _ mail h = cc
+
 sends_of_put : (payload : Option Payload) (d : Deed) (k : Key) → option_map load payload ≡ sent d → act_of (entry_of d) ≡ Some (act.Put k) → IsSome payload
 sends_of_put (Some p) d k same is = refl
 sends_of_put None (Puts j l) k same is = absurd (none_some same)
@@ -86,6 +91,12 @@ sends_of_put None (Chooses i r c) k same is = cc
 module _ (shows : StepsShowTheirActs) (s : LocalState) (a : Act) (p : Prepared) (prepared : IsPrepared s a p) where
   act_shown : (given : Given) (d : Deed) (P : Process) → step_at s a given ≡ Does d P → act_of (entry_of d) ≡ Some a
   act_shown given d P does = shows s.role s.store s.process a given d P does
+
+  -- what isn't a scope's has an entry before it is done
+  pub has_entry : (given : Given) → is_done (step_at s a given) ≡ true → asks_scope a ≡ false → IsSome p.entry
+  has_entry given can plain =
+      let did = deed_there (step_at s a given) can in
+      ap is_some (prepared.entry given did.0 did.1 did.2 ∙ entry_known did.0 a (act_shown given did.0 did.1 did.2) plain)
 
   -- what is put has a message
   pub put_sends : (given : Given) → is_done (step_at s a given) ≡ true → (k : Key) → p.act ≡ act.Put k → IsSome p.payload

@@ -1,7 +1,7 @@
 //! The parts of a step: where a role is, the room that a step needs, and what it does to a role,
 //! the mail and the history.
 
-ghost use Rattle.std.specs.Prelude.{◌≡◌, ◌<◌, ◌≤◌, ℕ, List, true, false, Option, None, Some, IsSome, IfErr, OnErr, OnOk, length, map};
+ghost use Rattle.std.specs.Prelude.{◌≡◌, ◌<◌, ◌≤◌, ℕ, List, true, false, Option, None, Some, IsSome, IfErr, IfNone, IfSome, OnErr, OnOk, is_some, length, map};
 ghost use Rattle.std.specs.Option.{option_map};
 ghost use Rattle.std.specs.List.{list_all, position};
 ghost use Rattle.dioc_terms.specs.declared.entries.Act.TheVariants as acts;
@@ -80,19 +80,22 @@ pub(crate) fn is_there(mail: &Mail, act: &Act) -> bool
     }
 }
 
-/// Takes the message of a take out of the mail.
-fn take_in(mail: &mut Mail, act: &Act) -> Got
+/// Takes the message of a take out of the mail. What comes of it is `None` exactly where the
+/// message isn't there, and then the mail has the messages that it had.
+fn take_in(mail: &mut Mail, act: &Act) -> Option<Got>
     requires plain { asks_scope act.now ≡ false }
-    requires there { is_there act.now mail.old ≡ true }
-    ensures like { given_like (handed result) ≡ given_from_mail act.now mail.old }
-    ensures stands { (me : OneRole) (lead : Option Lead) →
-        StandsFor me lead (handed result) (given_from_mail act.now mail.old) }
-    ensures taken { TakenBy act.now mail.old mail.new }
+    ensures there { is_some result ≡ is_there act.now mail.old }
+    ensures like { IfSome result
+        (λ got. given_like (handed got) ≡ given_from_mail act.now mail.old) }
+    ensures stands { (me : OneRole) (lead : Option Lead) → IfSome result
+        (λ got. StandsFor me lead (handed got) (given_from_mail act.now mail.old)) }
+    ensures taken { IfSome result (λ got. TakenBy act.now mail.old mail.new) }
+    ensures same { IfNone result (messages mail.new ≡ messages mail.old) }
     ensures keeps_room { room mail.old ≤ room mail.new }
 {
     match act {
-        Act::Take(key) => Got::Payload(mail.take(key).unwrap()),
-        _ => Got::Nothing,
+        Act::Take(key) => Some(Got::Payload(mail.take(key)?)),
+        _ => Some(Got::Nothing),
     }
 }
 
@@ -109,28 +112,37 @@ fn put_out(mail: &mut Mail, act: Act, payload: Option<Payload>)
     }
 }
 
-/// The step of a role that is ready for an act that isn't a scope's. It takes no memory.
+/// The step of a role that is ready for an act that isn't a scope's, and whether it was made: it
+/// isn't exactly where the act's message isn't there, and then all is as it was. It takes no
+/// memory.
 pub(crate) fn commit<R: Runs>(
     state: &mut R,
     mail: &mut Mail,
     history: &mut History,
     act: &Act,
     prepared: Prepared,
-)
+) -> bool
     requires ready { R.is_ready state.old act.now }
     requires shown { IsPrepared (R.local state.old) act.now prepared }
     requires plain { asks_scope act.now ≡ false }
-    requires there { is_there act.now mail.old ≡ true }
-    requires can { is_done (step_at (R.local state.old) act.now (given_from_mail act.now mail.old))
-        ≡ true }
+    requires can { is_there act.now mail.old ≡ true
+        → is_done (step_at (R.local state.old) act.now (given_from_mail act.now mail.old)) ≡ true }
     requires free { (k : OneKey) → act.now ≡ acts.Put k → payload_at k mail.old ≡ None }
     requires mail_room { 0 < room mail.old }
     requires history_room { 0 < history.old.room }
-    ensures { (count : ℕ)
+    ensures there { result ≡ is_there act.now mail.old }
+    ensures done { result ≡ true → (count : ℕ)
         → IsDone act.now (given_from_mail act.now mail.old) (R.local state.old) mail.old
         count history.old.entries (R.local state.new) mail.new count history.new.entries }
+    ensures same_local { result ≡ false → R.local state.new ≡ R.local state.old }
+    ensures same_mail { result ≡ false → messages mail.new ≡ messages mail.old }
+    ensures same_history { result ≡ false → history.new ≡ history.old }
 {
     process_steps::steps_show_their_acts();
+    let Some(got) = take_in(mail, act) else {
+        drop(prepared);
+        return false;
+    };
     let Prepared {
         act: own,
         entry,
@@ -139,9 +151,9 @@ pub(crate) fn commit<R: Runs>(
     } = prepared;
     drop(head);
     history.push(entry.unwrap());
-    let got = take_in(mail, act);
     state.advance(act, got);
     put_out(mail, own, payload);
+    true
 }
 
 /// Whether the act begins a scope.
@@ -177,23 +189,23 @@ fn do_act<R: Runs>(
         (R.local state.new) mail.new updates.new history.new.entries) }
     ensures refused { IfErr result (ReadyFault (R.local state.old) mail.old act.now) }
     ensures same_local { OnErr result (R.local state.new ≡ R.local state.old) }
-    ensures same_mail { OnErr result (mail.new ≡ mail.old) }
+    ensures same_mail { OnErr result (messages mail.new ≡ messages mail.old) }
     ensures same_updates { OnErr result (updates.new ≡ updates.old) }
     ensures same_history { OnErr result (history.new ≡ history.old) }
 {
     match state.prepare(fixed.alloc, act) {
         Ok(prepared) => {
-            if !is_there(mail, act) {
-                return Err(StepFault::NotYet);
-            }
             if is_scope(act) {
                 return match begin_scope(fixed, state, updates, history, act, prepared) {
                     Ok(()) => Ok(()),
                     Err(_) => Err(StepFault::Memory),
                 };
             }
-            commit(state, mail, history, act, prepared);
-            Ok(())
+            if commit(state, mail, history, act, prepared) {
+                Ok(())
+            } else {
+                Err(StepFault::NotYet)
+            }
         }
         Err(PrepareFault::NoAct) => Err(StepFault::NoAct),
         Err(PrepareFault::Memory) => Err(StepFault::Memory),
