@@ -13,13 +13,15 @@ pub returns-in-Became : goal.returns-in-Became
 returns-in-Became c = λ me plan.
     let marks : List Mark = c.args.marks.now in
     let mark : Mark = c.index-marks-place.result in
-    let read : mark ≡ get_or marks c.args.place kept.Untouched = c.index-marks-place.is ∙ get_or_default marks c.args.place mark kept.Untouched c.requires in
+    let read : mark ≡ get_or marks c.args.place kept.Untouched =
+    c.index-marks-place.is ∙ get_or_default marks c.args.place mark kept.Untouched c.requires in
     ap (λ m. is_became (meant me (static_at plan c.args.place) m)) (sym c.in-Became.is ∙ read)
 
 pub returns-in_default : goal.returns-in_default
 returns-in_default c = λ me plan.
     let marks : List Mark = c.args.marks.now in
     let mark : Mark = c.index-marks-place.result in
-    let read : mark ≡ get_or marks c.args.place kept.Untouched = c.index-marks-place.is ∙ get_or_default marks c.args.place mark kept.Untouched c.requires in
+    let read : mark ≡ get_or marks c.args.place kept.Untouched =
+    c.index-marks-place.is ∙ get_or_default marks c.args.place mark kept.Untouched c.requires in
     sym (not_became me (static_at plan c.args.place) mark c.in_default.not-Became)
     ∙ ap (λ m. is_became (meant me (static_at plan c.args.place) m)) read

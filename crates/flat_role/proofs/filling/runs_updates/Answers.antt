@@ -32,6 +32,10 @@ loop-at-preserved c =
     let here : c.loop-at.at < length ps = omega arith in
     let at : c.index-place.result.now ≡ get_or ps c.loop-at.at 0 =
     c.index-place.ensures ∙ get_or_default ps c.loop-at.at c.index-place.result.now 0 here in
-    with_this (λ i. is_became (marks_by me plan progress (get_or ps i 0)) ≡ false) c.loop-at.at c.loop-at.invariant
-    (sym (ap₂ (λ (ms : List Mark) (p : ℕ). is_became (plan_marks me plan ms p)) c.as_slice-marks.ensures.value at)
-    ∙ sym (c.is_update.ensures me plan) ∙ c.if-is_update.false)
+    let slice : List Mark = c.as_slice-marks.result.now in
+    let own : is_became (plan_marks me plan slice c.index-place.result.now) ≡ false =
+    sym (c.is_update.ensures me plan) ∙ c.if-is_update.false in
+    let read = ap₂ (λ (ms : List Mark) (p : ℕ). is_became (plan_marks me plan ms p))
+    c.as_slice-marks.ensures.value at in
+    with_this (λ i. is_became (marks_by me plan progress (get_or ps i 0)) ≡ false) c.loop-at.at
+    c.loop-at.invariant (sym read ∙ own)
