@@ -5,6 +5,7 @@ pub mod CountLemmas
 pub mod Crossing
 pub mod Edited
 pub mod EnterLemmas
+pub mod FillLemmas
 pub mod FlatLemmas
 pub mod FoundLemmas
 pub mod FrameLemmas

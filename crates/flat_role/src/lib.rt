@@ -6,6 +6,7 @@ mod advancing;
 mod changes;
 mod climbing;
 mod entering;
+mod filling;
 mod frames;
 mod growth;
 mod leaves;

@@ -9,6 +9,7 @@ ghost use Rattle.role_statuses.specs.KeptTests.{is_kept};
 ghost use Rattle.role_statuses.specs.ListLaws.{active};
 
 use crate::advancing::advance;
+use crate::filling::fill_acts;
 use crate::progress::Progress;
 use crate::readying::make_ready;
 use crate::relisting::refresh_acts;
@@ -101,6 +102,10 @@ impl Runs for FlatRole {
 
     fn refresh_acts(&self, alloc: Global, acts: &mut Vec<Act>) -> Result<(), Memory> {
         refresh_acts(&self.progress, alloc, &self.role, &self.plan, acts)
+    }
+
+    fn fill_acts(&self, alloc: Global, acts: &mut Vec<Act>, at: usize) -> Result<(), Memory> {
+        fill_acts(&self.progress, alloc, &self.role, &self.plan, acts, at)
     }
 
     fn prepare(&mut self, alloc: Global, act: &Act) -> Result<Prepared, PrepareFault> {
