@@ -7,10 +7,11 @@ use Rattle.std.proofs.lemmas.List.{append_assoc, length-append, length-take-le, 
 use Rattle.dioc_terms.specs.declared.entries.Act.{Act}
 use Rattle.dioc_terms.specs.declared.names.Role.{Role}
 use Rattle.dioc_terms.specs.Plain.{PlainBundle}
-use Rattle.dpoc_process.specs.LocalStates.{offered}
+use Rattle.dpoc_process.specs.LocalStates.{LocalState, offered}
 use Rattle.network_steps.specs.Network.{Network}
 use Rattle.network_steps.specs.Schedule.{is_ready}
 use Rattle.net_core.proofs.NetLemmas.{local_is, network_is, ready_is}
+use Rattle.net_core.specs.Deeds.{IsAt, is_there}
 use Rattle.net_core.specs.MovesIn.{chosen}
 use Rattle.net_core.specs.Nets.{network_at}
 use Rattle.net_core.specs.Places.{ListedAt, offers_of, places_from, places_of}
@@ -63,16 +64,20 @@ chosen_behind p pre (a ∷ acts) =
 pub chosen_places : (p : Act → Bool) (acts : List Act) → chosen (places_of p acts) acts ≡ filter p acts
 chosen_places p acts = chosen_behind p [] acts
 
-module _ (b : PlainBundle) (limit : ℕ) (parts : Parts) (is : HoldsRun b limit parts) (q : Role) (acts : List Act) (places : List ℕ)
-    (at : ListedAt parts.cast parts.locals parts.mail q acts places) where
+module _ (b : PlainBundle) (limit : ℕ) (parts : Parts) (is : HoldsRun b limit parts) where
   -- what a role offers, by its local
-  pub acts_are : acts ≡ offers_of (network_at b parts.history) q
-  acts_are =
-      at.offers ∙ ap offered (local_is b limit parts is at.is_at.place q at.local at.is_at.at at.is_at.here)
+  pub offered_is : (q : Role) (local : LocalState) → IsAt parts.cast parts.locals q local → offered local ≡ offers_of (network_at b parts.history) q
+  offered_is q local at =
+      ap offered (local_is b limit parts is at.place q local at.at at.here)
       ∙ ap (λ (N : Network). offers_of N q) (sym (network_is b parts.history is.network is.runs))
 
-  -- and the places of what it can do now, by the mail
-  pub places_are : places ≡ places_of (is_ready (network_at b parts.history)) acts
-  places_are =
-      at.ready ∙ (λ j. places_of (λ a. ready_is b limit parts is a j) acts)
-      ∙ ap (λ (N : Network). places_of (is_ready N) acts) (sym (network_is b parts.history is.network is.runs))
+  -- and whether what an act needs is there, by the mail
+  pub there_is : (a : Act) → is_there a parts.mail ≡ is_ready (network_at b parts.history) a
+  there_is a = ready_is b limit parts is a ∙ ap (λ (N : Network). is_ready N a) (sym (network_is b parts.history is.network is.runs))
+
+  module _ (q : Role) (acts : List Act) (places : List ℕ) (at : ListedAt parts.cast parts.locals parts.mail q acts places) where
+    pub acts_are : acts ≡ offers_of (network_at b parts.history) q
+    acts_are = at.offers ∙ offered_is q at.local at.is_at
+
+    pub places_are : places ≡ places_of (is_ready (network_at b parts.history)) acts
+    places_are = at.ready ∙ (λ j. places_of (λ a. there_is a j) acts)

@@ -29,3 +29,10 @@ pub record ListedAt (cast : List Role) (locals : List LocalState) (mail : Mail) 
   pub is_at : IsAt cast locals q local
   pub offers : acts ≡ offered local
   pub ready : places ≡ places_of (λ a. is_there a mail) acts
+
+-- the role is at a place, and these are all acts that it offers
+pub record OffersAt (cast : List Role) (locals : List LocalState) (q : Role)
+    (acts : List Act) : Type 0 where
+  pub local : LocalState
+  pub is_at : IsAt cast locals q local
+  pub offers : acts ≡ offered local

@@ -3,6 +3,7 @@
 ghost use Rattle.std.specs.Prelude.{◌≡◌, ◌≢◌, ◌<◌, ◌≤◌, true, false, ◌&&◌, not, IfErr, IfOk, OnErr, OnOk, length, nat_le};
 ghost use Rattle.dioc_terms.specs.Equality.{member};
 ghost use Rattle.dioc_terms.specs.Plain.{setting};
+ghost use Rattle.dpoc_process.specs.LocalStates.{LacksAt};
 ghost use Rattle.network_steps.specs.Network.{network_ended};
 ghost use Rattle.network_steps.specs.Schedule.{change_due, is_ready, moves};
 ghost use Rattle.process_steps.specs.Steps.{ended};
@@ -16,8 +17,8 @@ use crate::bodies::{Coming, RuleBody};
 use crate::changing::make_change;
 use crate::faults::ChangeFault;
 use crate::laws::steps_run;
-use crate::listing::{is_first_due, list_moves, ready_at, refresh_at};
-use crate::parts::{all_done, is_done_at, step_role};
+use crate::listing::{fill_at, is_first_due, list_moves, ready_at, refresh_at};
+use crate::parts::{all_done, is_done_at, is_there, step_role};
 use crate::scopes::Fixed;
 use crate::starting::{keep_bodies, keep_script, role_states};
 use dioc_terms::{Act, Bundle, Items, Memory, Role, Roles};
@@ -181,6 +182,30 @@ impl<R: Runs> Net<R> {
             Ok(()) => Ok(()),
             Err(fault) => Err(fault),
         }
+    }
+
+    /// Lists the acts that the process of a role of the cast offers, in a list that has all of them
+    /// but some, which come one behind the other at the place `at`, counted from 0. After `Memory`
+    /// the list may have any acts.
+    pub fn fill_acts(&self, role: &Role, acts: &mut Vec<Act>, at: usize) -> Result<(), Memory>
+        requires member { member role.now self.now.bundle.cast ≡ true }
+        requires inside { at ≤ length acts.old.items }
+        requires lacks { LacksAt at acts.old.items (offers_of (network_of self.now) role.now) }
+        ensures { OnOk result (acts.new.items ≡ offers_of (network_of self.now) role.now) }
+    {
+        let cast = self.cast.as_slice();
+        match fill_at(self.alloc, cast, self.roles.as_slice(), role, acts, at) {
+            Ok(()) => Ok(()),
+            Err(fault) => Err(fault),
+        }
+    }
+
+    /// Whether what an act needs is there: of every act but a take whose message isn't pending. It
+    /// takes no memory.
+    pub fn is_ready(&self, act: &Act) -> bool
+        ensures { result ≡ is_ready (network_of self.now) act.now }
+    {
+        is_there(&self.mail, act)
     }
 
     /// How many updates were made.
