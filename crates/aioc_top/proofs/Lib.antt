@@ -12,3 +12,4 @@ pub mod Resuming
 pub mod Projected
 pub mod Serving
 pub mod Table
+pub mod Texts

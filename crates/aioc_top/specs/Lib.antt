@@ -9,5 +9,6 @@ pub mod Replies
 pub mod Serve
 pub mod Spelled
 pub mod Status
+pub mod Texts
 pub mod Verdicts
 pub mod Words

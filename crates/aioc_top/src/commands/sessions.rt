@@ -1,10 +1,11 @@
 //! `sessions`: many bundles on a pool of workers.
 
-ghost use Rattle.std.specs.Prelude.{◌≡◌, ◌≤◌, ◌++◌, All, length, map, IfOk, OnOk};
+ghost use Rattle.std.specs.Prelude.{◌≡◌, ◌+◌, ◌^◌, ◌<◌, ◌≤◌, ◌++◌, All, length, map, IfOk, OnOk};
 ghost use Rattle.dioc_terms.specs.Bundles.{IsFormed};
 ghost use Rattle.dioc_terms.specs.Plain.{plain};
 ghost use Rattle.session_pool.specs.Answers.{answer_seen};
 ghost use Rattle.aioc_top.specs.Replies.{answer_text, reply_of, session_text, sessions_from, sessions_reply};
+ghost use Rattle.aioc_top.specs.Texts.{IsJoined};
 ghost use Rattle.aioc_top.specs.Words.{IsShort};
 ghost use Rattle.command_words.specs.declared.commands.Command.TheVariants as command;
 
@@ -15,7 +16,7 @@ use dioc_terms::{Bundle, Memory};
 use session_pool::{Answer, OpenWatch, run_sessions};
 use std::alloc::Global;
 use std::sync::Wait;
-use std::thread::Threads;
+use std::thread::{self, Threads};
 use text_pieces::{write_bytes, write_number};
 use trace_text::write_text;
 
@@ -44,25 +45,66 @@ pub fn sessions<R: Threads + Wait + Sync>(
         options.steps,
         &OpenWatch,
     )?;
-    let mut text = Vec::new(alloc);
-    write_sessions(alloc, answers.as_slice(), &mut text)?;
+    let text = write_sessions(rt, alloc, answers.as_slice(), options.workers as usize)?;
     Ok(Written {
         end: End::Done,
         text,
     })
 }
 
-// Appends the sessions that have these answers.
-fn write_sessions(alloc: Global, answers: &[Answer], out: &mut Vec<u8>) -> Result<(), Memory>
-    ensures { OnOk result
-        (out.new.items ≡ out.old.items ++ sessions_from 0 (map answer_seen answers.now)) }
+// The text of the sessions that have these answers. It is written by at most so many threads, each
+// of which writes a run of neighbours, and all runs but the last have as many of them.
+fn write_sessions<R: Threads + Sync>(
+    rt: &R,
+    alloc: Global,
+    answers: &[Answer],
+    workers: usize,
+) -> Result<Vec<u8>, Memory>
+    requires some { 0 < workers }
+    ensures { IfOk result (λ text.
+        text.items ≡ sessions_from 0 (map answer_seen answers.now)) }
 {
-    let mut number: u64 = 0;
+    let size = answers.len().div_ceil(workers).max(1);
+    let texts = thread::map_chunks(
+        rt,
+        alloc,
+        answers,
+        size,
+        &|first, part| write_part(alloc, first as u64, part),
+    )?;
+    join_texts(alloc, texts)
+}
+
+// The text of sessions that have these answers, and of which the first has this number.
+fn write_part(alloc: Global, first: u64, answers: &[Answer]) -> Result<Vec<u8>, Memory>
+    requires room { first + length answers.now < 2 ^ 64 }
+    ensures { IfOk result (λ text.
+        text.items ≡ sessions_from first (map answer_seen answers.now)) }
+{
+    let mut text = Vec::new(alloc);
+    let mut number = first;
     for answer in answers {
-        write_session(alloc, number, answer, out)?;
+        write_session(alloc, number, answer, &mut text)?;
         number += 1;
     }
-    Ok(())
+    Ok(text)
+}
+
+// The texts one behind another, where all were written. The first isn't copied, so that one worker
+// writes as without threads.
+fn join_texts(alloc: Global, texts: Vec<Result<Vec<u8>, Memory>>) -> Result<Vec<u8>, Memory>
+    ensures { IfOk result (λ text. IsJoined texts.items text.items) }
+{
+    let mut joined = Vec::new(alloc);
+    for text in texts {
+        let mut text = text?;
+        if joined.is_empty() {
+            joined = text;
+        } else {
+            joined.append(&mut text)?;
+        }
+    }
+    Ok(joined)
 }
 
 // Appends the session of this number.
