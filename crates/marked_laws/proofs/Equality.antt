@@ -27,10 +27,10 @@ pub record KeyParts (a b : Key) : Type 0 where
 
 pub key_parts : (a b : Key) → key_eq a b ≡ true → KeyParts a b
 key_parts a b h =
-    let last = and_parts ((role_eq a.from b.from && role_eq a.to b.to) && index_eq a.index b.index) (tag_eq a.tag b.tag) h in
-    let third = and_parts (role_eq a.from b.from && role_eq a.to b.to) (index_eq a.index b.index) last.0 in
-    let ends = and_parts (role_eq a.from b.from) (role_eq a.to b.to) third.0 in
-    record { from = ends.0; to = ends.1; index = third.1; tag = last.1 }
+    let last = and_parts ((index_eq a.index b.index && tag_eq a.tag b.tag) && role_eq a.from b.from) (role_eq a.to b.to) h in
+    let third = and_parts (index_eq a.index b.index && tag_eq a.tag b.tag) (role_eq a.from b.from) last.0 in
+    let what = and_parts (index_eq a.index b.index) (tag_eq a.tag b.tag) third.0 in
+    record { from = third.1; to = last.1; index = what.0; tag = what.1 }
 
 pub key_same : (a b : Key) → key_eq a b ≡ true → a ≡ b
 key_same a b h = (key_eq-decides a b).0 h
