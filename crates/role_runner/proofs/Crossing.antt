@@ -1,7 +1,4 @@
 -- A job may go to another thread, and a bundle and the sign may be borrowed by several. They are shown a field at a time, since so many fields are too much for one search.
-use mir.Syntax.{Lifetime}
-use base.Fml.{Lft}
-use denote.RattleType.{RattleType}
 use denote.Param.Send.{IsSend, IsSync, sendable}
 use denote.Param.SendFields.{declared_send, declared_sync}
 use Rattle.std.proofs.Crossing.{crosses}
@@ -13,8 +10,7 @@ use Rattle.dioc_terms.proofs.names.Role.TheSendSync as role_sends
 use Rattle.dioc_terms.specs.contracts.bundles.Bundle as bundle
 use Rattle.flat_role.proofs.Crossing.{flat_sends}
 use Rattle.turn_lock.proofs.turns.Seat.TheSendSync as seat_sends
-use Rattle.stage.proofs.Crossing.{home_sends, stage_syncs}
-use Rattle.role_runner.specs.contracts.actors.Shared as shared
+use Rattle.stage.proofs.Crossing.{home_sends}
 use Rattle.role_runner.specs.contracts.sign.Sign as sign
 use Rattle.role_runner.specs.contracts.threads.Job as job
 
@@ -51,19 +47,6 @@ bundle_syncs = declared_sync bundle.the_type (
           ),
         ),
       ),
-    ),
-  ),
-)
-
--- What the threads of a run share may be borrowed by all of them, where the gate may. The lifetime is in its two parts, since a search finds them so.
-pub shared_syncs : (ℓ : Lifetime) (κ : Lft) (G : RattleType) → IsSync G → IsSync (shared.the_row (record { mir = ℓ; lft = κ }) G)
-shared_syncs ℓ κ G gate = declared_sync (shared.the_type (record { mir = ℓ; lft = κ }) G) (
-  search (crosses, sendable) depth 60 fits 20000,
-  (
-    search (stage_syncs, crosses, sendable) depth 60 fits 20000,
-    (
-      search (bundle_syncs, crosses, sendable) depth 60 fits 20000,
-      (search (gate, crosses, sendable) depth 60 fits 20000, (search (sign_syncs, crosses, sendable) depth 60 fits 20000, tt)),
     ),
   ),
 )

@@ -1,31 +1,8 @@
-//! What the threads of a run share, and a role in its thread.
+//! A role in its thread.
 
-use crate::sign::Sign;
 use dioc_terms::{Bundle, Role};
 use stage::Stage;
 use std::alloc::Global;
-
-/// What the threads of a run share.
-pub(crate) struct Shared<'a, G> {
-    pub alloc: Global,
-    pub stage: &'a Stage,
-    pub bundle: &'a Bundle,
-    pub gate: &'a G,
-    /// For which they wait before they begin.
-    pub sign: &'a Sign,
-}
-
-impl<G> Drop for Shared<'_, G> {
-    fn drop(self) {
-        let Shared {
-            alloc: _,
-            stage: _,
-            bundle: _,
-            gate: _,
-            sign: _,
-        } = self;
-    }
-}
 
 /// A role that runs in a thread, and what it needs of the run.
 pub(crate) struct Actor<'a, G> {

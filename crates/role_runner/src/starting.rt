@@ -1,21 +1,23 @@
 //! The start of the threads of a run. None does anything before all are started, and where one
 //! can't be started all the others go home: a role waits for no thread that isn't there.
 
-ghost use Rattle.std.specs.Prelude.{◌≡◌, ◌≤◌, [], length};
+ghost use Rattle.std.specs.Prelude.{◌≡◌, ◌≤◌, ℕ, [], IfSome, length, slice_get};
 ghost use Rattle.dioc_terms.specs.Plain.{plain};
 ghost use Rattle.marked_laws.specs.Laws.{IsSound};
-ghost use Rattle.role_runner.specs.Jobs.{CanOpen, EachAt, EndsJob, OpensJob};
+ghost use Rattle.role_runner.specs.Jobs.{EachAt, EndsJob, OpensJob};
 ghost use Rattle.role_runner.specs.Starts.{Gives, IsStarted};
 ghost use Rattle.stage.specs.Stages.{IsSeatIn};
 ghost use Rattle.turn_lock.specs.Words.{view};
 
-use crate::actors::{Actor, Shared};
+use crate::actors::Actor;
 use crate::feeding::feed;
 use crate::gates::Gate;
 use crate::playing::play;
+use crate::sign::Sign;
 use crate::threads::Job;
 use dioc_terms::Bundle;
 use stage::{Home, Stage};
+use std::alloc::Global;
 use std::snapshot::Snapshot;
 use std::sync::Wait;
 use std::thread::{self, Promise, PromisedHandle, Scope, Threads};
@@ -46,31 +48,43 @@ pub(crate) enum Started {
 /// started: else each went home. There is room for all of them.
 pub(crate) fn run_jobs<R: Threads + Wait + Sync, G: Gate + Sync>(
     rt: &R,
-    shared: &Shared<'_, G>,
+    alloc: Global,
+    stage: &Stage,
+    bundle: &Bundle,
+    gate: &G,
     seats: Vec<Seat<Home>>,
     started: Vec<Started>,
     jobs: Vec<Job>,
 ) -> (Vec<Job>, bool)
-    requires opens { CanOpen shared.now.stage.now shared.now.bundle.now seats.items }
+    requires sound { IsSound (plain bundle.now) }
+    requires few { length bundle.now.cast ≤ 4294967295 }
+    requires opens { (i : ℕ) → IfSome (slice_get seats.items i)
+        (OpensJob stage.now (plain bundle.now) i) }
     requires started { (started.items ≡ []) × (length seats.items ≤ started.cap) }
     requires jobs { (jobs.items ≡ []) × (length seats.items ≤ jobs.cap) }
     ensures all { length result.0.items ≡ length seats.items }
-    ensures ends { EachAt (EndsJob shared.now.stage.now (plain shared.now.bundle.now)) seats.items
-        result.0.items }
+    ensures ends { EachAt (EndsJob stage.now (plain bundle.now)) seats.items result.0.items }
 {
+    let sign = Sign::new();
+    let sign = &sign;
     thread::scope(
         thread::scope_env(),
         rt,
         move |scope| -> (Vec<Job>, bool)
-            requires opens { CanOpen shared.now.stage.now shared.now.bundle.now seats.items }
+            requires sound { IsSound (plain bundle.now) }
+            requires few { length bundle.now.cast ≤ 4294967295 }
+            requires opens { (i : ℕ) → IfSome (slice_get seats.items i)
+                (OpensJob stage.now (plain bundle.now) i) }
             requires started { (started.items ≡ []) × (length seats.items ≤ started.cap) }
             requires jobs { (jobs.items ≡ []) × (length seats.items ≤ jobs.cap) }
             ensures all { length result.0.items ≡ length seats.items }
-            ensures ends { EachAt (EndsJob shared.entry.now.stage.now
-                (plain shared.entry.now.bundle.now)) seats.items result.0.items }
+            ensures ends { EachAt (EndsJob stage.entry.now (plain bundle.entry.now)) seats.items
+                result.0.items }
         {
-            let (started, are_whole) = start_all(scope, rt, shared, seats, started);
-            shared.sign.give(rt, true);
+            let (started, are_whole) = start_all(
+                scope, rt, alloc, stage, bundle, gate, sign, seats, started,
+            );
+            sign.give(rt, true);
             (join_all(rt, started, jobs), are_whole)
         },
     )
@@ -81,21 +95,27 @@ pub(crate) fn run_jobs<R: Threads + Wait + Sync, G: Gate + Sync>(
 fn start_all<'s, E, R: Threads + Wait + Sync, G: Gate + Sync>(
     scope: &Scope<'s, E>,
     rt: &'s R,
-    shared: &'s Shared<'s, G>,
+    alloc: Global,
+    stage: &'s Stage,
+    bundle: &'s Bundle,
+    gate: &'s G,
+    sign: &'s Sign,
     seats: Vec<Seat<Home>>,
     started: Vec<Started>,
 ) -> (Vec<Started>, bool)
-    requires opens { CanOpen shared.now.stage.now shared.now.bundle.now seats.items }
+    requires sound { IsSound (plain bundle.now) }
+    requires few { length bundle.now.cast ≤ 4294967295 }
+    requires opens { (i : ℕ) → IfSome (slice_get seats.items i)
+        (OpensJob stage.now (plain bundle.now) i) }
     requires started { (started.items ≡ []) × (length seats.items ≤ started.cap) }
     ensures all { length result.0.items ≡ length seats.items }
-    ensures starts { EachAt (IsStarted shared.now.stage.now (plain shared.now.bundle.now))
-        seats.items result.0.items }
+    ensures starts { EachAt (IsStarted stage.now (plain bundle.now)) seats.items result.0.items }
 {
     let mut started = started;
     let mut are_whole = true;
     for seat in seats {
         let place = started.len();
-        let one = start(scope, rt, shared, place, seat);
+        let one = start(scope, rt, alloc, stage, bundle, gate, sign, place, seat);
         are_whole = are_whole && one.is_there();
         started.push_reserved(one);
     }
@@ -107,26 +127,30 @@ fn start_all<'s, E, R: Threads + Wait + Sync, G: Gate + Sync>(
 fn start<'s, E, R: Threads + Wait + Sync, G: Gate + Sync>(
     scope: &Scope<'s, E>,
     rt: &'s R,
-    shared: &'s Shared<'s, G>,
+    alloc: Global,
+    stage: &'s Stage,
+    bundle: &'s Bundle,
+    gate: &'s G,
+    sign: &'s Sign,
     place: usize,
     seat: Seat<Home>,
 ) -> Started
-    requires sound { IsSound (plain shared.now.bundle.now) }
-    requires few { length shared.now.bundle.now.cast ≤ 4294967295 }
-    requires opens { OpensJob shared.now.stage.now (plain shared.now.bundle.now) place seat }
-    ensures { IsStarted shared.now.stage.now (plain shared.now.bundle.now) place seat result }
+    requires sound { IsSound (plain bundle.now) }
+    requires few { length bundle.now.cast ≤ 4294967295 }
+    requires opens { OpensJob stage.now (plain bundle.now) place seat }
+    ensures { IsStarted stage.now (plain bundle.now) place seat result }
 {
     let leaves = Leaves {
-        stage: Snapshot::of(shared.stage),
-        bundle: Snapshot::of(shared.bundle),
+        stage: Snapshot::of(stage),
+        bundle: Snapshot::of(bundle),
         place,
         seat: Snapshot::of(&seat),
     };
-    let job = move || run_place(rt, shared, place, seat);
+    let job = move || run_place(rt, alloc, stage, bundle, gate, sign, place, seat);
     match scope.spawn_with(leaves, job) {
         Ok(handle) => Started::There(handle),
         Err(refused) => {
-            shared.sign.give(rt, false);
+            sign.give(rt, false);
             Started::Refused((refused.value)())
         }
     }
@@ -166,26 +190,30 @@ fn join<R: Threads>(rt: &R, one: Started) -> Job
 /// changes of the script. Where the sign is to go home the seat comes back as it was.
 fn run_place<R: Wait, G: Gate>(
     rt: &R,
-    shared: &Shared<'_, G>,
+    alloc: Global,
+    stage: &Stage,
+    bundle: &Bundle,
+    gate: &G,
+    sign: &Sign,
     place: usize,
     seat: Seat<Home>,
 ) -> Job
-    requires sound { IsSound (plain shared.now.bundle.now) }
-    requires few { length shared.now.bundle.now.cast ≤ 4294967295 }
-    requires opens { OpensJob shared.now.stage.now (plain shared.now.bundle.now) place seat }
-    ensures ends { EndsJob shared.now.stage.now (plain shared.now.bundle.now) place seat result }
+    requires sound { IsSound (plain bundle.now) }
+    requires few { length bundle.now.cast ≤ 4294967295 }
+    requires opens { OpensJob stage.now (plain bundle.now) place seat }
+    ensures ends { EndsJob stage.now (plain bundle.now) place seat result }
 {
     dioc_terms::casts_are_roles();
-    if !shared.sign.begins(rt) {
+    if !sign.begins(rt) {
         return Job { seat, state: None };
     }
-    match shared.bundle.cast.as_slice().get(place) {
+    match bundle.cast.as_slice().get(place) {
         Some(role) => {
             let actor = Actor {
-                alloc: shared.alloc,
-                stage: shared.stage,
-                bundle: shared.bundle,
-                gate: shared.gate,
+                alloc,
+                stage,
+                bundle,
+                gate,
                 role,
                 place: place as u32,
             };
@@ -193,7 +221,7 @@ fn run_place<R: Wait, G: Gate>(
             Job { seat, state }
         }
         None => {
-            let (seat, _fault) = feed(rt, shared.stage, shared.gate, place, seat);
+            let (seat, _fault) = feed(rt, stage, gate, place, seat);
             Job { seat, state: None }
         }
     }

@@ -19,7 +19,7 @@ returns-then-not-begins g c = record {
 
 pub play-seat-requires-clause-seated : goal.play-seat-requires-clause-seated
 play-seat-requires-clause-seated g c =
-    let bundle = plain c.args.shared.now.bundle.now in
+    let bundle = plain c.args.bundle.now in
     let found = c.in-Some.ensures.lookup in
     let cast = c.as_slice.result.now in
     let at : slice_get bundle.cast c.args.place ≡ Some c.in-Some.role.now =
@@ -28,7 +28,7 @@ play-seat-requires-clause-seated g c =
 
 pub returns-in-Some : goal.returns-in-Some
 returns-in-Some g c =
-    let bundle = plain c.args.shared.now.bundle.now in
+    let bundle = plain c.args.bundle.now in
     let found = c.in-Some.ensures.lookup in
     let cast = c.as_slice.result.now in
     let at : slice_get bundle.cast c.args.place ≡ Some c.in-Some.role.now =

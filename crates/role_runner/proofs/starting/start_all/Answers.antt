@@ -11,8 +11,8 @@ use Rattle.role_runner.proofs.starting.start_all.Goals as goal
 
 pub loop-seat-preserved : goal.loop-seat-preserved
 loop-seat-preserved g c =
-    let stage = c.args.shared.now.stage.now in
-    let bundle = plain c.args.shared.now.bundle.now in
+    let stage = c.args.stage.now in
+    let bundle = plain c.args.bundle.now in
     let kept = c.loop-seat.invariant in
     let seat = c.in-Some.seat in
     let one = c.start-one.result in
@@ -39,4 +39,4 @@ returns-clause-starts g c =
     let end = YieldsList-end (YieldsList-from_vec {s = c.into_iter-seat-iterator.result} c.args.seats.items (search rules) (search rules))
     c.loop-seat.yielded c.loop-seat.seat-iterator c.loop-seat.yielded_by c.next.result c.next.new.self c.in-None.is c.next.ensures.steps in
     let all : c.loop-seat.yielded ≡ c.args.seats.items = sym (map-id c.loop-seat.yielded) ∙ end.0 in
-    subst (λ l. EachAt (IsStarted c.args.shared.now.stage.now (plain c.args.shared.now.bundle.now)) l c.loop-seat.started.items) all c.loop-seat.invariant.starts
+    subst (λ l. EachAt (IsStarted c.args.stage.now (plain c.args.bundle.now)) l c.loop-seat.started.items) all c.loop-seat.invariant.starts

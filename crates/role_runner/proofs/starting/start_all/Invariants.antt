@@ -9,6 +9,6 @@ abbrev pub invariant-loop-seat : goal.invariant-loop-seat
 invariant-loop-seat g l = record {
   all : length l.started.items ≡ length l.yielded;
   room : length l.started.items + length l.seat-iterator.rest.items ≤ l.started.cap;
-  opens : (j : ℕ) → IfSome (slice_get l.seat-iterator.rest.items j) (OpensJob l.shared.stage.now (plain l.shared.bundle.now) (length l.started.items + j));
-  starts : EachAt (IsStarted l.shared.stage.now (plain l.shared.bundle.now)) l.yielded l.started.items;
+  opens : (j : ℕ) → IfSome (slice_get l.seat-iterator.rest.items j) (OpensJob l.stage (plain l.bundle) (length l.started.items + j));
+  starts : EachAt (IsStarted l.stage (plain l.bundle)) l.yielded l.started.items;
 }

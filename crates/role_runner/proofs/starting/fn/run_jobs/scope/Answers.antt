@@ -7,6 +7,6 @@ use Rattle.role_runner.proofs.starting.fn.run_jobs.scope.Goals as goal
 pub returns : goal.returns
 returns g c = record {
   all = c.join_all.ensures.all ∙ c.start_all-started.ensures.all;
-  ends = all_end c.captures.shared.now.stage.now (plain c.captures.shared.now.bundle.now) c.captures.seats.items c.start_all-started.result.0.items c.join_all.result.items c.start_all-started.ensures.all c.start_all-started.ensures.starts
+  ends = all_end c.captures.stage.now (plain c.captures.bundle.now) c.captures.seats.items c.start_all-started.result.0.items c.join_all.result.items c.start_all-started.ensures.all c.start_all-started.ensures.starts
       c.join_all.ensures.gives;
 }
