@@ -1,9 +1,12 @@
 -- The parts of a text as the code holds them, and what may stand behind one.
-use Rattle.std.specs.Prelude.{◌≡◌, ℕ, ◌<◌, ◌≤◌, Bool, false, not, ◌||◌, ◌==◌, List, [], ◌∷◌, ◌++◌, length, map, slice_range, IsTrue}
+use Rattle.std.specs.Prelude.{◌≡◌, ℕ, ◌+◌, ◌<◌, ◌≤◌, Bool, false, not, ◌||◌, ◌==◌, List, [], ◌∷◌, ◌++◌, drop, length, map, slice_range, IsTrue}
 use Rattle.std.specs.Char.{is_ascii_digit}
 use Rattle.std.specs.List.{list_all}
 use Rattle.aioc_tokens.specs.declared.kinds.Kind.TheVariants.{Name, Number, Text, Symbol}
-use Rattle.aioc_tokens.specs.Tokens.{is_name_byte, BeginsComment, Spells}
+use Rattle.aioc_tokens.specs.declared.kinds.Kind.{Kind}
+use Rattle.aioc_tokens.specs.declared.words.Sort.{Sort}
+use Rattle.aioc_tokens.specs.declared.words.Sort.TheVariants.{End}
+use Rattle.aioc_tokens.specs.Tokens.{is_name_byte, BeginsComment, IsLongestToken, Spells}
 use Rattle.bundle_layout.specs.declared.parts.PartKind.{PartKind}
 use Rattle.bundle_layout.specs.declared.parts.PartKind.TheVariants.{Token, Comment}
 use Rattle.bundle_layout.specs.declared.parts.Part.{Part}
@@ -28,6 +31,22 @@ pub record LiesIn (text : List ℕ) (part : Part) : Type 0 where
   pub some : part.start < part.end
   pub within : part.end ≤ length text
   pub spelled : IsSpelled part.kind (bytes_of text part)
+
+-- a token of this kind
+abbrev pub token_part : Kind → Sort → ℕ → ℕ → Part
+token_part kind sort start end =
+    record { kind = Token kind; sort = sort; start = start; end = end }
+
+-- a comment
+abbrev pub comment_part : ℕ → ℕ → Part
+comment_part start end = record { kind = Comment; sort = End; start = start; end = end }
+
+-- the part is the token that begins at this place
+pub record IsTokenAt (text : List ℕ) (at : ℕ) (sort : Sort) (part : Part) : Type 0 where
+  pub kind : Kind
+  pub count : ℕ
+  pub is : part ≡ token_part kind sort at (at + count)
+  pub longest : IsLongestToken (drop at text) kind count
 
 -- directly behind a part of this kind the byte would belong to it, or make another symbol or a
 -- comment of it

@@ -1,11 +1,11 @@
 //! Cutting a text into its tokens and its comments.
 
-ghost use Rattle.std.specs.Prelude.{◌≡◌, ℕ, ◌<◌, ◌≤◌, ◌↔◌, length, IfOk, IsTrue, slice_get, Some};
+ghost use Rattle.std.specs.Prelude.{◌≡◌, ℕ, ◌+◌, ◌<◌, ◌≤◌, ◌↔◌, drop, length, IfOk, IsTrue, slice_get, Some};
 ghost use Rattle.std.specs.List.{All, prefix_len};
-ghost use Rattle.aioc_tokens.specs.Tokens.{BeginsComment, IsLongestToken};
+ghost use Rattle.aioc_tokens.specs.Tokens.{BeginsComment, IsLongestToken, line_length};
 ghost use Rattle.aioc_tokens.specs.Packed.{ArePacked};
 ghost use Rattle.bundle_layout.specs.Pieces.{HasPieces};
-ghost use Rattle.bundle_layout.specs.Parts.{pieces_of, LiesIn, goes_on};
+ghost use Rattle.bundle_layout.specs.Parts.{IsTokenAt, LiesIn, comment_part, goes_on, pieces_of};
 
 use aioc_tokens::{Kind, Sort, SortByte, find_punctuator};
 use std::alloc::{AllocError, Global};
@@ -128,6 +128,38 @@ fn sort_of(sorts: &[SortByte], next: usize) -> Sort {
     }
 }
 
+/// The token that begins at this place of the text.
+fn token_at(text: &[u8], at: usize, sort: Sort) -> Part
+    requires short { length text.now ≤ 4294967295 }
+    requires within { at ≤ length text.now }
+    requires begins { (kind : Kind) × (count : ℕ) × IsLongestToken (drop at text.now) kind count }
+    ensures { IsTokenAt text.now at sort result }
+{
+    let (kind, count) = token_length(&text[at..]);
+    let end = at + count;
+    Part {
+        kind: PartKind::Token(kind),
+        sort,
+        start: at as u32,
+        end: end as u32,
+    }
+}
+
+/// The comment that begins at this place of the text.
+fn comment_at(text: &[u8], at: usize) -> Part
+    requires short { length text.now ≤ 4294967295 }
+    requires within { at ≤ length text.now }
+    ensures { result ≡ comment_part at (at + line_length (drop at text.now)) }
+{
+    let end = at + run_length(PartKind::Comment, &text[at..]);
+    Part {
+        kind: PartKind::Comment,
+        sort: Sort::End,
+        start: at as u32,
+        end: end as u32,
+    }
+}
+
 /// The parts of a text whose tokens begin at these places and have these sorts, in order.
 pub(crate) fn cut(
     alloc: Global,
@@ -144,29 +176,17 @@ pub(crate) fn cut(
     let mut at = 0;
     let mut next = 0;
     while at < bytes.len() {
-        let rest = &bytes[at..];
         if begins_at(starts, next, at) {
-            let (kind, count) = token_length(rest);
-            let token_end = at + count;
-            parts.push(Part {
-                kind: PartKind::Token(kind),
-                sort: sort_of(sorts, next),
-                start: at as u32,
-                end: token_end as u32,
-            })?;
-            at = token_end;
+            let token = token_at(bytes, at, sort_of(sorts, next));
+            parts.push(token)?;
+            at = token.end as usize;
             next += 1;
             continue;
         }
-        if begins_comment(rest) {
-            let end = at + run_length(PartKind::Comment, rest);
-            parts.push(Part {
-                kind: PartKind::Comment,
-                sort: Sort::End,
-                start: at as u32,
-                end: end as u32,
-            })?;
-            at = end;
+        if begins_comment(&bytes[at..]) {
+            let comment = comment_at(bytes, at);
+            parts.push(comment)?;
+            at = comment.end as usize;
             continue;
         }
         at += 1;

@@ -210,36 +210,44 @@ impl<'a> Standing<'a> {
                 self.add_part(alloc, first, epoch, out)?;
                 self.add_part(alloc, second, epoch, out)
             }
+            Choreo::If { yes, no, .. } => {
+                self.add_lead(alloc, choreo, epoch, out)?;
+                self.add_part(alloc, yes, epoch, out)?;
+                self.add_part(alloc, no, epoch, out)
+            }
+            Choreo::While { body, .. } | Choreo::Scope { body, .. } => {
+                self.add_lead(alloc, choreo, epoch, out)?;
+                self.add_part(alloc, body, epoch, out)
+            }
+            step => self.add_step(alloc, step, epoch, out),
+        }
+    }
+
+    /// Adds what the leader of a choice, a loop or a scope can make there.
+    fn add_lead(
+        &self,
+        alloc: Global,
+        construct: &Choreo,
+        epoch: u32,
+        out: &mut Vec<Entry>,
+    ) -> Result<(), Memory> {
+        match construct {
             Choreo::If {
                 index,
                 leader,
                 guard,
-                yes,
-                no,
-            } => {
-                self.add_pick(alloc, at(epoch, index), leader, guard, out)?;
-                self.add_part(alloc, yes, epoch, out)?;
-                self.add_part(alloc, no, epoch, out)
+                ..
             }
-            Choreo::While {
+            | Choreo::While {
                 index,
                 leader,
                 guard,
-                body,
-            } => {
-                self.add_pick(alloc, at(epoch, index), leader, guard, out)?;
-                self.add_part(alloc, body, epoch, out)
-            }
-            Choreo::Scope {
-                index,
-                leader,
-                body,
                 ..
-            } => {
-                self.add_choices(alloc, at(epoch, index), leader, out)?;
-                self.add_part(alloc, body, epoch, out)
+            } => self.add_pick(alloc, at(epoch, index), leader, guard, out),
+            Choreo::Scope { index, leader, .. } => {
+                self.add_choices(alloc, at(epoch, index), leader, out)
             }
-            step => self.add_step(alloc, step, epoch, out),
+            _ => Ok(()),
         }
     }
 
@@ -261,36 +269,19 @@ impl<'a> Standing<'a> {
                 var,
             } => {
                 let key = key_of(alloc, at(epoch, index), op, from, to)?;
-                self.add_message(alloc, key, expr, var, out)?;
+                self.add_message(alloc, key, expr, var, out)
             }
             Choreo::Set {
                 index,
                 var,
                 role,
                 expr,
-            } => {
-                if let Some(store) = self.store(role) {
-                    out.push(Entry::Set {
-                        index: at(epoch, index),
-                        role: role.copy(alloc)?,
-                        var: var.copy(alloc)?,
-                        value: eval(alloc, expr, store)?,
-                    })?;
-                }
-            }
+            } => self.add_setting(alloc, at(epoch, index), var, role, expr, out),
             Choreo::Input { index, var, role } => {
-                if let Some(store) = self.store(role) {
-                    out.push(Entry::Input {
-                        index: at(epoch, index),
-                        role: role.copy(alloc)?,
-                        var: var.copy(alloc)?,
-                        value: store.copy_of_next_input(alloc)?,
-                    })?;
-                }
+                self.add_input(alloc, at(epoch, index), var, role, out)
             }
-            _ => {}
+            _ => Ok(()),
         }
-        Ok(())
     }
 
     /// Adds that a message is sent, and that it is taken.
@@ -313,6 +304,47 @@ impl<'a> Standing<'a> {
             key,
             var: Some(var.copy(alloc)?),
         })?;
+        Ok(())
+    }
+
+    /// Adds that a role sets a variable.
+    fn add_setting(
+        &self,
+        alloc: Global,
+        index: Index,
+        var: &Name,
+        role: &Role,
+        expr: &Expr,
+        out: &mut Vec<Entry>,
+    ) -> Result<(), Memory> {
+        if let Some(store) = self.store(role) {
+            out.push(Entry::Set {
+                index,
+                role: role.copy(alloc)?,
+                var: var.copy(alloc)?,
+                value: eval(alloc, expr, store)?,
+            })?;
+        }
+        Ok(())
+    }
+
+    /// Adds that a role reads its next input.
+    fn add_input(
+        &self,
+        alloc: Global,
+        index: Index,
+        var: &Name,
+        role: &Role,
+        out: &mut Vec<Entry>,
+    ) -> Result<(), Memory> {
+        if let Some(store) = self.store(role) {
+            out.push(Entry::Input {
+                index,
+                role: role.copy(alloc)?,
+                var: var.copy(alloc)?,
+                value: store.copy_of_next_input(alloc)?,
+            })?;
+        }
         Ok(())
     }
 

@@ -50,6 +50,11 @@ plays_itself (kept.Bar' scope _ G) = false
 plays_itself (kept.Again' turn _ G) = ended (running G)
 plays_itself _ = true
 
+-- the first, and then the second
+abbrev pub is_sequence : KeptRunning → Bool
+is_sequence (kept.Seq' _ G _ H) = true
+is_sequence _ = false
+
 -- a choice, a loop or a scope
 abbrev pub is_branching : Term → Bool
 is_branching (If i r g I J) = true

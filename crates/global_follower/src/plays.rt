@@ -6,7 +6,7 @@ ghost use Rattle.dioc_terms.specs.Expressions.{expression};
 ghost use Rattle.dioc_terms.specs.Terms.{term, roles_in, is_in};
 ghost use Rattle.global_follower.specs.declared.effects.Effect.TheVariants as effects;
 ghost use Rattle.global_follower.specs.KeptRunning.{flying, marked, part_term, running};
-ghost use Rattle.global_follower.specs.Playing.{attempt_if, attempt_of, beside, is_branching, is_whole, plays_in, plays_itself};
+ghost use Rattle.global_follower.specs.Playing.{attempt_if, attempt_of, beside, is_branching, is_sequence, is_whole, plays_in, plays_itself};
 ghost use Rattle.global_steps.specs.Follow.{is_doer_due};
 ghost use Rattle.global_steps.specs.Running.{light, started};
 ghost use Rattle.global_steps.specs.Running as runs;
@@ -55,7 +55,7 @@ pub(crate) enum Stand {
 
 /// Plays the entry, where what is left plays it, and says whether it does: then `effect` is what
 /// the entry does. Otherwise, and after want of memory, what is left stays as it was.
-#[tactic(auto, using(crate::proofs::PlayLemmas::seq_waits, crate::proofs::PlayLemmas::seq_goes_on))]
+#[cycle(playing)]
 pub(crate) fn play<'a>(
     alloc: Global,
     left: &mut Running<'a>,
@@ -71,21 +71,7 @@ pub(crate) fn play<'a>(
     match left {
         Running::Skip => Ok(false),
         Running::Still(_) | Running::Fly(_) => play_here(alloc, left, scene, effect),
-        Running::Seq(first, _) => {
-            let first: &mut Running<'a> = first;
-            if !is_skip(first) {
-                if play(alloc, first, scene, effect)? {
-                    return Ok(true);
-                }
-                if !lets_on(first, scene.entry) {
-                    return Ok(false);
-                }
-            }
-            match left {
-                Running::Seq(_, second) => play(alloc, second, scene, effect),
-                _ => unreachable!(),
-            }
-        }
+        Running::Seq(..) => play_sequence(alloc, left, scene, effect),
         Running::Par(one, _) => {
             if play(alloc, one, scene, effect)? {
                 return Ok(true);
@@ -106,6 +92,43 @@ pub(crate) fn play<'a>(
             }
             play_here(alloc, left, scene, effect)
         }
+    }
+}
+
+/// Plays the entry in a sequence, as `play` does: the second part waits until nothing is left of
+/// the first one but messages in flight, none of them for the role of the entry.
+#[cycle(playing)]
+#[tactic(auto, using(crate::proofs::PlayLemmas::seq_waits, crate::proofs::PlayLemmas::seq_goes_on))]
+fn play_sequence<'a>(
+    alloc: Global,
+    left: &mut Running<'a>,
+    scene: &Scene<'a, '_>,
+    effect: &mut Effect,
+) -> Result<bool, Memory>
+    requires { is_sequence left.old ≡ true }
+    ensures played { IfOk result (λ is_played. attempt_if is_played effect.new (running left.new)
+        ≡ plays_in scene.now (running left.old)) }
+    ensures stays { IfOk result (λ is_played. is_played ≡ false
+        → running left.new ≡ running left.old) }
+    ensures same { OnErr result (running left.new ≡ running left.old) }
+{
+    match left {
+        Running::Seq(first, _) => {
+            let first: &mut Running<'a> = first;
+            if !is_skip(first) {
+                if play(alloc, first, scene, effect)? {
+                    return Ok(true);
+                }
+                if !lets_on(first, scene.entry) {
+                    return Ok(false);
+                }
+            }
+            match left {
+                Running::Seq(_, second) => play(alloc, second, scene, effect),
+                _ => unreachable!(),
+            }
+        }
+        _ => unreachable!(),
     }
 }
 
@@ -258,15 +281,9 @@ fn play_branching<'a>(
             no,
         } => {
             let index = marks.of(*index);
-            play_choice(
-                alloc,
-                index,
-                leader,
-                guard,
-                marks.inside(yes),
-                marks.inside(no),
-                scene,
-            )
+            let yes = marks.inside(yes);
+            let no = marks.inside(no);
+            play_choice(alloc, index, leader, guard, yes, no, scene)
         }
         Choreo::While {
             index,

@@ -6,6 +6,7 @@ pub mod ScopeLemmas
 pub mod EndLemmas
 pub mod RunLemmas
 pub mod JobLemmas
+pub mod PlayLemmas
 pub mod CloseLemmas
 pub mod AloneLemmas
 pub mod Crossing

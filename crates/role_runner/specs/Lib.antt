@@ -2,4 +2,5 @@ pub mod Acts
 pub mod Ties
 pub mod Endings
 pub mod Jobs
+pub mod Plays
 pub mod Starts

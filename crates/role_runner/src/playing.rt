@@ -1,6 +1,6 @@
 //! A role that runs in its thread.
 
-ghost use Rattle.std.specs.Prelude.{◌≡◌, ◌<◌, [], All, false, true, None, IfSome, length};
+ghost use Rattle.std.specs.Prelude.{◌≡◌, ◌<◌, [], false, true, None, IfSome, length};
 ghost use Rattle.dioc_terms.specs.Equality.{member};
 ghost use Rattle.dioc_terms.specs.Plain.{plain};
 ghost use Rattle.dpoc_process.specs.LocalStates.{offered};
@@ -8,8 +8,8 @@ ghost use Rattle.dpoc_process.specs.RoleSteps.{IsPrepared};
 ghost use Rattle.flat_role.specs.FlatStates.{local_of, IsReady};
 ghost use Rattle.marked_laws.specs.Laws.{IsSound};
 ghost use Rattle.process_steps.specs.Steps.{is_offered};
-ghost use Rattle.role_runner.specs.Ties.{IfRefused, IsRefusedTry, IsSeated, IsTied, Leaves, RefusedIn, WentOn, is_not_yet};
-ghost use Rattle.stage.specs.Faults.{act_fault};
+ghost use Rattle.role_runner.specs.Plays.{AllNotYet, CanPlay, Left};
+ghost use Rattle.role_runner.specs.Ties.{IfRefused, IsRefusedTry, IsSeated, IsTied, WentOn, is_not_yet};
 ghost use Rattle.stage.specs.Owners.{cast_place};
 ghost use Rattle.stage.specs.Seats.{HasMet, LookedOn};
 ghost use Rattle.stage.specs.Stages.{IsSeatIn};
@@ -61,10 +61,7 @@ fn play_on<R: Wait, G: Gate>(
     seat: Seat<Home>,
     state: FlatRole,
 ) -> (Seat<Home>, Option<FlatRole>)
-    requires sound { IsSound (plain actor.now.bundle.now) }
-    requires of { IsSeatIn actor.now.stage.now seat }
-    requires tied { IsTied (plain actor.now.bundle.now) actor.now.role.now (view seat)
-        (local_of state) }
+    requires can { CanPlay actor.now seat state }
     ensures of { IsSeatIn actor.now.stage.now result.0 }
     ensures went { WentOn (view seat) (view result.0) }
     ensures tied { IfSome result.1
@@ -122,16 +119,10 @@ fn take_turn<R: Wait, G: Gate>(
     state: &mut FlatRole,
     acts: &mut Vec<Act>,
 ) -> (Seat<Home>, Tried)
-    requires sound { IsSound (plain actor.now.bundle.now) }
-    requires of { IsSeatIn actor.now.stage.now seat }
-    requires tied { IsTied (plain actor.now.bundle.now) actor.now.role.now (view seat)
-        (local_of state.old) }
-    ensures of { IsSeatIn actor.now.stage.now result.0 }
-    ensures leaves { Leaves (plain actor.now.bundle.now) actor.now.role.now (view seat)
-        (view result.0) result.1 (local_of state.new) }
-    ensures tried { is_not_yet result.1 ≡ true → All
-        (λ act. RefusedIn (act_fault act) (view seat) (view result.0) CommitFault.NotYet)
-        (offered (local_of state.old)) }
+    requires can { CanPlay actor.now seat state.old }
+    ensures left { Left actor.now seat result.0 result.1 state.new }
+    ensures tried { is_not_yet result.1 ≡ true
+        → AllNotYet (offered (local_of state.old)) seat result.0 }
 {
     let Ok(()) = state.refresh_acts(actor.alloc, acts) else {
         return (seat, Tried::Refused(CommitFault::Memory));
@@ -151,17 +142,10 @@ fn try_offered<R: Wait, G: Gate>(
     state: &mut FlatRole,
     acts: &[Act],
 ) -> (Seat<Home>, Tried)
-    requires sound { IsSound (plain actor.now.bundle.now) }
-    requires of { IsSeatIn actor.now.stage.now seat }
-    requires tied { IsTied (plain actor.now.bundle.now) actor.now.role.now (view seat)
-        (local_of state.old) }
+    requires can { CanPlay actor.now seat state.old }
     requires all { acts.now ≡ offered (local_of state.old) }
-    ensures of { IsSeatIn actor.now.stage.now result.0 }
-    ensures leaves { Leaves (plain actor.now.bundle.now) actor.now.role.now (view seat)
-        (view result.0) result.1 (local_of state.new) }
-    ensures tried { is_not_yet result.1 ≡ true → All
-        (λ act. RefusedIn (act_fault act) (view seat) (view result.0) CommitFault.NotYet)
-        acts.now }
+    ensures left { Left actor.now seat result.0 result.1 state.new }
+    ensures tried { is_not_yet result.1 ≡ true → AllNotYet acts.now seat result.0 }
 {
     if asks_first(acts) {
         return try_first(rt, actor, seat, state, acts);
@@ -194,17 +178,10 @@ fn try_first<R: Wait, G: Gate>(
     state: &mut FlatRole,
     acts: &[Act],
 ) -> (Seat<Home>, Tried)
-    requires sound { IsSound (plain actor.now.bundle.now) }
-    requires of { IsSeatIn actor.now.stage.now seat }
-    requires tied { IsTied (plain actor.now.bundle.now) actor.now.role.now (view seat)
-        (local_of state.old) }
+    requires can { CanPlay actor.now seat state.old }
     requires all { acts.now ≡ offered (local_of state.old) }
-    ensures of { IsSeatIn actor.now.stage.now result.0 }
-    ensures leaves { Leaves (plain actor.now.bundle.now) actor.now.role.now (view seat)
-        (view result.0) result.1 (local_of state.new) }
-    ensures tried { is_not_yet result.1 ≡ true → All
-        (λ act. RefusedIn (act_fault act) (view seat) (view result.0) CommitFault.NotYet)
-        acts.now }
+    ensures left { Left actor.now seat result.0 result.1 state.new }
+    ensures tried { is_not_yet result.1 ≡ true → AllNotYet acts.now seat result.0 }
 {
     let mut seat = seat;
     for _ in rt.forever() {
@@ -236,13 +213,8 @@ fn go_round<R: Wait, G: Gate>(
     state: &mut FlatRole,
     acts: &[Act],
 ) -> (Seat<Home>, Tried)
-    requires sound { IsSound (plain actor.now.bundle.now) }
-    requires of { IsSeatIn actor.now.stage.now seat }
-    requires tied { IsTied (plain actor.now.bundle.now) actor.now.role.now (view seat)
-        (local_of state.old) }
-    ensures of { IsSeatIn actor.now.stage.now result.0 }
-    ensures leaves { Leaves (plain actor.now.bundle.now) actor.now.role.now (view seat)
-        (view result.0) result.1 (local_of state.new) }
+    requires can { CanPlay actor.now seat state.old }
+    ensures left { Left actor.now seat result.0 result.1 state.new }
     ensures over { is_not_yet result.1 ≡ false }
 {
     let mut seat = seat;
@@ -310,14 +282,9 @@ fn try_act<R: Wait, G: Gate>(
     state: &mut FlatRole,
     act: &Act,
 ) -> (Seat<Home>, Tried)
-    requires sound { IsSound (plain actor.now.bundle.now) }
-    requires of { IsSeatIn actor.now.stage.now seat }
-    requires tied { IsTied (plain actor.now.bundle.now) actor.now.role.now (view seat)
-        (local_of state.old) }
+    requires can { CanPlay actor.now seat state.old }
     requires offered { is_offered act.now (offered (local_of state.old)) ≡ true }
-    ensures of { IsSeatIn actor.now.stage.now result.0 }
-    ensures leaves { Leaves (plain actor.now.bundle.now) actor.now.role.now (view seat)
-        (view result.0) result.1 (local_of state.new) }
+    ensures left { Left actor.now seat result.0 result.1 state.new }
     ensures refused { IfRefused result.1 (IsRefusedTry act.now (view seat) (view result.0)
         (local_of state.old) (local_of state.new)) }
 {
@@ -336,13 +303,8 @@ fn try_listed<R: Wait, G: Gate>(
     state: &mut FlatRole,
     act: &Act,
 ) -> (Seat<Home>, Tried)
-    requires sound { IsSound (plain actor.now.bundle.now) }
-    requires of { IsSeatIn actor.now.stage.now seat }
-    requires tied { IsTied (plain actor.now.bundle.now) actor.now.role.now (view seat)
-        (local_of state.old) }
-    ensures of { IsSeatIn actor.now.stage.now result.0 }
-    ensures leaves { Leaves (plain actor.now.bundle.now) actor.now.role.now (view seat)
-        (view result.0) result.1 (local_of state.new) }
+    requires can { CanPlay actor.now seat state.old }
+    ensures left { Left actor.now seat result.0 result.1 state.new }
 {
     match state.prepare(actor.alloc, act) {
         Ok(prepared) => try_prepared(rt, actor, seat, state, act, prepared),
@@ -360,15 +322,10 @@ fn try_prepared<R: Wait, G: Gate>(
     act: &Act,
     prepared: Prepared,
 ) -> (Seat<Home>, Tried)
-    requires sound { IsSound (plain actor.now.bundle.now) }
-    requires of { IsSeatIn actor.now.stage.now seat }
-    requires tied { IsTied (plain actor.now.bundle.now) actor.now.role.now (view seat)
-        (local_of state.old) }
+    requires can { CanPlay actor.now seat state.old }
     requires shown { IsPrepared (local_of state.old) act.now prepared }
     requires ready { IsReady state.old act.now }
-    ensures of { IsSeatIn actor.now.stage.now result.0 }
-    ensures leaves { Leaves (plain actor.now.bundle.now) actor.now.role.now (view seat)
-        (view result.0) result.1 (local_of state.new) }
+    ensures left { Left actor.now seat result.0 result.1 state.new }
     ensures refused { IfRefused result.1 (IsRefusedTry act.now (view seat) (view result.0)
         (local_of state.old) (local_of state.new)) }
 {

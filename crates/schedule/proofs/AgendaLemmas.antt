@@ -3,7 +3,7 @@ use Rattle.std.proofs.Common.{◌≡◌, ◌<◌, ◌≤◌, ◌+◌, ◌-◌, �
 use Rattle.std.specs.Prelude.{◌||◌, flat_map, if◌then◌else◌, slice_set, vec_len}
 use Rattle.std.specs.List.{between, list_all}
 use Rattle.std.proofs.lemmas.Bool.{and_from, both_ways, cond-false, or_left, or_right}
-use Rattle.std.proofs.lemmas.List.{append-nil, drop_more, get_or-map, get_or_at, length-append, length-map, length-take, map-set, take_more}
+use Rattle.std.proofs.lemmas.List.{append-nil, drop_more, get_or-map, get_or_at, length-append, length-map, length-take, map-set, take_all, take_more}
 use Rattle.std.proofs.lemmas.List.Edits.{map_over_more}
 use Rattle.std.proofs.lemmas.List.Folds.{flat_map-map, list_all_at}
 use Rattle.std.proofs.lemmas.Option.{slice_get_read}
@@ -15,7 +15,7 @@ use Rattle.dioc_terms.specs.declared.processes.Key.{Key}
 use Rattle.dioc_terms.specs.Equality.{member, role_eq}
 use Rattle.dioc_terms.specs.Plain.{PlainBundle, setting}
 use Rattle.network_steps.specs.Network.{Network}
-use Rattle.marked_laws.proofs.Equality.{role_itself}
+use Rattle.marked_laws.proofs.Equality.{role_itself, role_same}
 use Rattle.marked_laws.proofs.Premise.{Known}
 use Rattle.marked_laws.proofs.Shapes.{some_same}
 use Rattle.network_steps.specs.declared.moves.Move.{Move}
@@ -27,8 +27,8 @@ use Rattle.net_core.proofs.Choosing.{chosen_long}
 use Rattle.net_core.proofs.PlacesLemmas.{chosen_places}
 use Rattle.net_core.specs.MovesIn.{chosen}
 use Rattle.net_core.specs.Places.{offers_of, places_of}
-use Rattle.schedule.proofs.TouchLemmas.{follows, untouched_by_change}
-use Rattle.schedule.specs.Agendas.{Follows, IsStale, Shown, SparesRest, WasAgenda, WasListed, agenda_of, moves_of, puts_to, ready_in, ready_seen, refreshed, spared, takes}
+use Rattle.schedule.proofs.TouchLemmas.{acted, follows, untouched_by_change}
+use Rattle.schedule.specs.Agendas.{Acted, Follows, IsStale, Shown, WasAgenda, WasListed, WasOwn, agenda_of, moves_of, puts_to, ready_in, ready_seen, refreshed, takes}
 use Rattle.schedule.specs.Turns.{IsMoveOf, IsScheduled, has_ended}
 
 -- whether a change is listed
@@ -80,11 +80,6 @@ pub got_later : (xs : List Move) (place : ℕ) (m : Move) → (place ≡ 0 → �
 got_later xs zero m some h = absurd (some refl)
 got_later xs (suc place) m some h = ap (slice_get xs) (omega arith) ∙ h
 
--- an agenda with acts has a role
-pub some_role : (agenda : List ReadyRole) (place : ℕ) → place < length (flat_map moves_of (map ready_seen agenda)) → 0 < length agenda
-some_role [] place within = absurd (omega (arith, within))
-some_role (ready ∷ later) place within = omega arith
-
 -- a move among the first of two lists, and among the second
 got_front : (xs ys : List Move) (place : ℕ) (m : Move) → slice_get xs place ≡ Some m → slice_get (xs ++ ys) place ≡ Some m
 got_front [] ys place m got = cc
@@ -123,40 +118,28 @@ count_more agenda i ready inside is =
     ∙ ap (λ (r : ReadyRole). length (flat_map moves_of (map ready_seen (take i agenda ++ r ∷ [])))) (sym is)
     ∙ count_append (take i agenda) ready
 
--- an act of the first role of an agenda, and of the others
-pub got_first : (agenda : List ReadyRole) (ready : ReadyRole) (place : ℕ) (m : Move) → 0 < length agenda
-    → slice_get (moves_of (ready_seen (get_or agenda 0 ready))) place ≡ Some m → slice_get (flat_map moves_of (map ready_seen agenda)) place ≡ Some m
-got_first [] ready place m some got = absurd (omega (arith, some))
-got_first (first ∷ later) ready place m some got = got_front (moves_of (ready_seen first)) (flat_map moves_of (map ready_seen later)) place m got
-
-pub got_behind : (agenda : List ReadyRole) (count place : ℕ) (m : Move) → 0 < length agenda
-    → ((ready : ReadyRole) → count ≡ vec_len (get_or agenda 0 ready).ready) → count ≤ place → slice_get (flat_map moves_of (map ready_seen (between 1 (length agenda) agenda))) (place - count) ≡ Some m
+-- an act of a role of an agenda
+pub got_in : (agenda : List ReadyRole) (i : ℕ) (ready : ReadyRole) (left place : ℕ) (m : Move) → i < length agenda → ready ≡ get_or agenda i ready
+    → place ≡ left + length (flat_map moves_of (map ready_seen (take i agenda))) → slice_get (moves_of (ready_seen ready)) left ≡ Some m
     → slice_get (flat_map moves_of (map ready_seen agenda)) place ≡ Some m
-got_behind [] count place m some all past got = absurd (omega (arith, some))
-got_behind (first ∷ later) count place m some all past got =
-    let acts : count ≡ length (moves_of (ready_seen first)) = all first ∙ ready_long first in
-    let rest : List Move = flat_map moves_of (map ready_seen later) in
-    let behind : slice_get rest (place - count) ≡ Some m =
-    ap (λ (l : List ReadyRole). slice_get (flat_map moves_of (map ready_seen l)) (place - count)) (sym (between_to_end (first ∷ later) 1 (length (first ∷ later)) (omega arith))) ∙ got in
-    got_back (moves_of (ready_seen first)) rest place m (omega (arith, acts, past)) (ap (λ n. slice_get rest (place - n)) (sym acts) ∙ behind)
+got_in [] i ready left place m inside is at got = absurd (omega (arith, inside))
+got_in (first ∷ later) zero ready left place m inside is at got =
+    got_front (moves_of (ready_seen first)) (flat_map moves_of (map ready_seen later)) place m
+    (ap₂ (λ (r : ReadyRole) n. slice_get (moves_of (ready_seen r)) n) (sym is) (omega (arith, at)) ∙ got)
+got_in (first ∷ later) (suc i) ready left place m inside is at got =
+    let acts : List Move = moves_of (ready_seen first) in
+    let before : List Move = flat_map moves_of (map ready_seen (take i later)) in
+    let long : length (acts ++ before) ≡ length acts + length before = length-append acts before in
+    got_back acts (flat_map moves_of (map ready_seen later)) place m (omega (arith, at, long))
+    (got_in later i ready left (place - length acts) m (omega (arith, inside)) is (omega (arith, at, long)) got)
 
--- a move that is none of the first role is one of the others
-pub rest_long : (agenda : List ReadyRole) (count place : ℕ) → ((ready : ReadyRole) → count ≡ vec_len (get_or agenda 0 ready).ready) → count ≤ place
-    → place < length (flat_map moves_of (map ready_seen agenda)) → place - count < length (flat_map moves_of (map ready_seen (between 1 (length agenda) agenda)))
-rest_long [] count place all past within = absurd (omega (arith, within))
-rest_long (first ∷ later) count place all past within =
-    let acts : count ≡ length (moves_of (ready_seen first)) = all first ∙ ready_long first in
-    let rest : List Move = flat_map moves_of (map ready_seen later) in
-    let long : length (moves_of (ready_seen first) ++ rest) ≡ length (moves_of (ready_seen first)) + length rest = length-append (moves_of (ready_seen first)) rest in
-    let left : place - count < length rest = omega (arith, acts, long, past, within) in
-    subst (λ (l : List ReadyRole). place - count < length (flat_map moves_of (map ready_seen l))) (sym (between_to_end (first ∷ later) 1 (length (first ∷ later)) (omega arith))) left
-
--- the others are one less
-pub fewer_roles : (agenda : List ReadyRole) → 0 < length agenda → length (between 1 (length agenda) agenda) < length agenda
-fewer_roles [] some = absurd (omega (arith, some))
-fewer_roles (first ∷ later) some =
-    let rest : length (between 1 (length (first ∷ later)) (first ∷ later)) ≡ length later = ap length (between_to_end (first ∷ later) 1 (length (first ∷ later)) (omega arith)) in
-    omega (arith, rest)
+-- there are no more acts than those of all roles
+pub none_left : (agenda : List ReadyRole) (i left place : ℕ) → length agenda ≤ i
+    → place ≡ left + length (flat_map moves_of (map ready_seen (take i agenda))) → place < length (flat_map moves_of (map ready_seen agenda)) → ⊥
+none_left agenda i left place past at within =
+    let all : place ≡ left + length (flat_map moves_of (map ready_seen agenda)) =
+    at ∙ ap (λ (l : List ReadyRole). left + length (flat_map moves_of (map ready_seen l))) (take_all i agenda past) in
+    omega (arith, all, within)
 
 -- a role that stands in the cast
 member_got : (cast : List Role) (i : ℕ) (q : Role) → slice_get cast i ≡ Some q → member q cast ≡ true
@@ -178,31 +161,12 @@ stale_after known old new move.Change agenda run made is =
     ∙ ap (λ (b : PlainBundle). map (ready_in (network_of new)) b.cast) (sym made.goes.bundle)
 stale_after known old new (move.Act q a) agenda run made is = record {
   before = network_of old;
-  listed = ap (map (spared q)) (is ∙ ap (λ (b : PlainBundle). map (ready_in (network_of old)) b.cast) (sym made.goes.bundle));
+  listed = is ∙ ap (λ (b : PlainBundle). map (ready_in (network_of old)) b.cast) (sym made.goes.bundle);
+  acted = subst (λ M. Acted (network_of old) M a q) (sym made.goes.network)
+      (acted known old.bundle old.history (network_of old) run.sound run.runs q a made.outcome made.steps);
   follows = λ r other. subst (λ M. Follows (network_of old) M a r) (sym made.goes.network)
       (follows known old.bundle old.history (network_of old) run.sound run.runs q a made.outcome made.steps r other);
 }
-
--- so is one that differs from it in nothing but what is listed of the role that moves
-pub stale_spared : (new : NetState) (m : Move) (before after : List Shown) → SparesRest m before after → IsStale new (Some m) before → IsStale new (Some m) after
-stale_spared new move.Change before after spares stale = spares ∙ stale
-stale_spared new (move.Act q a) before after spares stale = record {
-  before = stale.before;
-  listed = spares ∙ stale.listed;
-  follows = stale.follows;
-}
-
--- what is listed of a role keeps that it is of the role
-spared_role : (q : Role) (ready : Shown) → (spared q ready).0 ≡ ready.0
-spared_role q ready = by_test (role_eq ready.0 q)
-  where
-    by_test : (t : Bool) → (if t then (ready.0, [], [], []) else ready).0 ≡ ready.0
-    by_test true = refl
-    by_test false = refl
-
-roles_stay : (q : Role) (agenda : List Shown) → map (λ (ready : Shown). ready.0) (map (spared q) agenda) ≡ map (λ (ready : Shown). ready.0) agenda
-roles_stay q [] = refl
-roles_stay q (ready ∷ rest) = ap₂ (λ r rs. r ∷ rs) (spared_role q ready) (roles_stay q rest)
 
 all_by_roles : (f : Role → Bool) (agenda : List Shown) → list_all f (map (λ (ready : Shown). ready.0) agenda) ≡ list_all (λ (ready : Shown). f ready.0) agenda
 all_by_roles f [] = refl
@@ -225,9 +189,7 @@ all_among cast (q ∷ qs) among =
 -- an agenda that is to be brought up to date
 module _ (cast : List Role) (N : Network) (q : Role) (a : Act) (agenda : List Shown) (was : WasAgenda cast N q a agenda) where
   roles_are : map (λ (ready : Shown). ready.0) agenda ≡ cast
-  roles_are =
-      sym (roles_stay q agenda) ∙ ap (map (λ (ready : Shown). ready.0)) was.listed
-      ∙ roles_stay q (map (ready_in was.before) cast) ∙ roles_listed was.before cast
+  roles_are = ap (map (λ (ready : Shown). ready.0)) was.listed ∙ roles_listed was.before cast
 
   -- has the roles of the cast
   pub roles_of_cast : list_all (λ (ready : Shown). member ready.0 cast) agenda ≡ true
@@ -237,19 +199,11 @@ module _ (cast : List Role) (N : Network) (q : Role) (a : Act) (agenda : List Sh
   pub all_refreshed : refreshed N agenda ≡ map (ready_in N) cast
   all_refreshed = listed_by_roles N agenda ∙ ap (map (ready_in N)) roles_are
 
--- what it lists of a role that didn't act is what it could before
-was_at : (q : Role) (M : Network) (agenda : List Shown) (cast : List Role) (i : ℕ) (x : Shown) → map (spared q) agenda ≡ map (spared q) (map (ready_in M) cast)
-    → i < length agenda → x ≡ get_or agenda i x → role_eq x.0 q ≡ false → x ≡ ready_in M x.0
-was_at q M [] cast i x same inside is other = absurd (omega (arith, inside))
-was_at q M (y ∷ ys) [] i x same inside is other = cc
-was_at q M (y ∷ ys) (c ∷ cs) zero x same inside is other =
-    let head : spared q x ≡ spared q (ready_in M c) = ap (spared q) is ∙ ap (λ l. get_or l 0 x) same in
-    let role : x.0 ≡ c = sym (spared_role q x) ∙ ap (λ (z : Shown). z.0) head ∙ spared_role q (ready_in M c) in
-    sym (cond-false (role_eq x.0 q) (x.0, [], [], []) x other) ∙ head
-    ∙ cond-false (role_eq c q) (c, [], [], []) (ready_in M c) (ap (λ r. role_eq r q) (sym role) ∙ other)
-    ∙ ap (ready_in M) (sym role)
-was_at q M (y ∷ ys) (c ∷ cs) (suc i) x same inside is other =
-    was_at q M ys cs i x (ap (drop 1) same) (omega (arith, inside)) is other
+-- what it lists of a role is what is to be listed of it before
+was_at : (M : Network) (cast : List Role) (i : ℕ) (x : Shown) → i < length (map (ready_in M) cast) → x ≡ get_or (map (ready_in M) cast) i x → x ≡ ready_in M x.0
+was_at M [] i x inside is = absurd (omega (arith, inside))
+was_at M (c ∷ cs) zero x inside is = is ∙ ap (ready_in M) (sym (ap (λ (z : Shown). z.0) is))
+was_at M (c ∷ cs) (suc i) x inside is = was_at M cs i x (omega (arith, inside)) is
 
 -- a role that an agenda lists at a place
 module _ (f : Shown → Shown) (old : List Shown) (now : List ReadyRole) (i : ℕ) (ready : ReadyRole) (lt : i < length old) (lt' : i < length now)
@@ -264,13 +218,21 @@ module _ (f : Shown → Shown) (old : List Shown) (now : List ReadyRole) (i : �
       let parts : map ready_seen now ≡ front ++ get_or old i (ready_seen ready) ∷ drop (i + 1) old = so_far ∙ ap (λ l. front ++ l) (drop_more old i (ready_seen ready) lt) in
       here_now ∙ ap (λ l. get_or l i (ready_seen ready)) parts ∙ get_or_at front (get_or old i (ready_seen ready)) (drop (i + 1) old) (ready_seen ready) i long
 
-  -- is as it was before the act, unless it did the act
-  pub was_listed : (cast : List Role) (N : Network) (q : Role) (a : Act) → WasAgenda cast N q a old → role_eq ready.role q ≡ false → WasListed N a (ready_seen ready)
-  was_listed cast N q a was other = record {
-    before = was.before;
-    listed = was_at q was.before old cast i (ready_seen ready) was.listed lt here_before other;
-    follows = was.follows ready.role other;
-  }
+  module _ (cast : List Role) (N : Network) (q : Role) (a : Act) (was : WasAgenda cast N q a old) where
+    -- is as it was before the act
+    listed_before : ready_seen ready ≡ ready_in was.before ready.role
+    listed_before = was_at was.before cast i (ready_seen ready) (subst (λ (l : List Shown). i < length l) was.listed lt)
+        (here_before ∙ ap (λ l. get_or l i (ready_seen ready)) was.listed)
+
+    pub was_listed : role_eq ready.role q ≡ false → WasListed N a (ready_seen ready)
+    was_listed other = record { before = was.before; listed = listed_before; follows = was.follows ready.role other }
+
+    pub was_own : role_eq ready.role q ≡ true → WasOwn N a (ready_seen ready)
+    was_own own = record {
+      before = was.before;
+      listed = listed_before;
+      acted = subst (Acted was.before N a) (sym (role_same ready.role q own)) was.acted;
+    }
 
   -- stands in the cast where all of them do
   pub listed_at : (p : Role → Bool) → list_all (λ r. p r.0) old ≡ true → p ready.role ≡ true
@@ -292,7 +254,7 @@ pub member_at : (cast : List Role) (i : ℕ) (q : Role) → i < length cast → 
 member_at cast i q lt is = member_got cast i q (slice_get_read cast (length cast) i q refl lt is)
 
 -- what is listed of a role with all its acts and the right places is what is to be
-listed_so : (N : Network) (r : Role) (acts : List Act) (places : List ℕ) → acts ≡ offers_of N r → places ≡ places_of (is_ready N) (offers_of N r)
+pub listed_so : (N : Network) (r : Role) (acts : List Act) (places : List ℕ) → acts ≡ offers_of N r → places ≡ places_of (is_ready N) (offers_of N r)
     → (r, chosen places acts, acts, places) ≡ ready_in N r
 listed_so N r acts places all here =
     ap₂ (λ (xs : List Act) (ps : List ℕ). (r, chosen ps xs, xs, ps)) all here

@@ -97,7 +97,7 @@ module _ (n : ℕ) where
       by_tests false t rest = rest
 
   -- behind the places of acts that stand before it
-  with_front : (f : Act → Bool) (j : ℕ) (front : List Act) (ms : List ℕ) → j + length front ≤ n
+  pub with_front : (f : Act → Bool) (j : ℕ) (front : List Act) (ms : List ℕ) → j + length front ≤ n
       → with_place n (places_from f j front ++ ms) ≡ places_from f j front ++ with_place n ms
   with_front f j [] ms h = refl
   with_front f j (a ∷ front) ms h = by_test (f a) (with_front f (j + 1) front ms (omega (arith, h)))
@@ -109,7 +109,7 @@ module _ (n : ℕ) where
       by_test false rest = rest
 
   -- before those of acts that stand behind it, and at its own act
-  with_later : (f : Act → Bool) (j : ℕ) (acts : List Act) → n < j → with_place n (places_from f j acts) ≡ n ∷ places_from f j acts
+  pub with_later : (f : Act → Bool) (j : ℕ) (acts : List Act) → n < j → with_place n (places_from f j acts) ≡ n ∷ places_from f j acts
   with_later f j [] h = refl
   with_later f j (a ∷ acts) h = by_test (f a) (with_later f (j + 1) acts (omega (arith, h)))
     where

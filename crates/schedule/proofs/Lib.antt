@@ -1,7 +1,10 @@
 pub mod AgendaLemmas
 pub mod ComeLemmas
+pub mod FillLemmas
 pub mod MoveLemmas
+pub mod OwnActLemmas
 pub mod OwnLemmas
+pub mod PartLemmas
 pub mod PromptLemmas
 pub mod RunLemmas
 pub mod TouchLemmas

@@ -1,7 +1,9 @@
 -- What a role can do changes by its own act and by a message that is put to it, and by nothing else.
-use Rattle.std.proofs.Common.{◌≡◌, List, [], ◌∷◌, ◌++◌, ℕ, ◌+◌, Bool, true, false, Option, Some, None, slice_get, refl, sym, ap, ap₂, ◌∙◌, subst}
+use Rattle.std.proofs.Common.{◌≡◌, List, [], ◌∷◌, ◌++◌, ℕ, ◌+◌, Bool, true, false, Option, Some, None, length, slice_get, refl, sym, ap, ap₂, ◌∙◌, subst, ⊎_elim}
 use Rattle.std.specs.Prelude.{◌||◌, filter, if◌then◌else◌, is_some, nat_le}
-use Rattle.std.proofs.lemmas.Bool.{both_ways, cond-false, cond-true, false_from_ne_true, or_left, or_right}
+use Rattle.std.specs.List.{list_any}
+use Rattle.std.proofs.lemmas.Bool.{both_ways, cond-false, cond-true, false_from_ne_true, or_cases, or_left, or_right}
+use Rattle.std.proofs.lemmas.List.Folds.{list_any-append}
 use Rattle.dioc_terms.specs.declared.bundles.Timed.{Timed}
 use Rattle.dioc_terms.specs.declared.entries.Act.{Act}
 use Rattle.dioc_terms.specs.declared.entries.Act.TheVariants as act
@@ -16,18 +18,19 @@ use Rattle.dioc_terms.specs.Processes.{Load, Process}
 use Rattle.global_steps.specs.Follow.{change_entry}
 use Rattle.marked_laws.specs.Laws.{IsSound}
 use Rattle.network_steps.specs.Network.{Network, NextNetwork, act_step, change_step, given_at, network_run, pending_after, pending_at, without}
-use Rattle.marked_laws.proofs.Equality.{act_itself, key_same, role_itself}
+use Rattle.marked_laws.proofs.Equality.{act_itself, act_same, key_same, role_itself}
 use Rattle.marked_laws.proofs.Networks.{after_change, after_deed, deed_outcome, entry_outcome, script_outcome}
 use Rattle.marked_laws.proofs.Plays.{entry_doer}
 use Rattle.marked_laws.proofs.Premise.{Known}
 use Rattle.marked_laws.proofs.Shapes.{if_some, none_some, some_same}
 use Rattle.network_steps.specs.Schedule.{is_ready}
 use Rattle.net_laws.proofs.MoveLemmas.{deed_of, reached}
-use Rattle.process_steps.specs.Steps.{Chooses, Deed, Inputs, Picks, Puts, Sets, Takes, entry_of, is_offered, offers, step}
+use Rattle.process_steps.specs.Steps.{Chooses, Deed, Given, Inputs, Picks, Puts, Sets, Takes, entry_of, is_offered, offers, step}
 use Rattle.net_core.specs.MovesIn.{ready_of}
 use Rattle.net_core.specs.Places.{offers_of, places_from, places_of}
+use Rattle.schedule.proofs.FillLemmas.{makes_way}
 use Rattle.schedule.proofs.OwnLemmas.{own_takes}
-use Rattle.schedule.specs.Agendas.{Follows, brings, puts_to, ready_in}
+use Rattle.schedule.specs.Agendas.{Acted, Follows, MakesWay, brings, parted, puts_to, ready_in, takes, disturbs}
 
 -- a put under another key
 pending_put : (j k : Key) (l : Load) (pending : List (Key × Load)) → key_eq j k ≡ false → pending_at j (pending ++ (k, l) ∷ []) ≡ pending_at j pending
@@ -87,16 +90,18 @@ module _ (N M : Network) (r : Role) (same : M.processes r ≡ N.processes r)
 
 -- what a role did, and whose and what its entry is
 record Did (N : Network) (q : Role) (a : Act) (outcome : NextNetwork) : Type 0 where
+  given : Given
   deed : Deed
   process : Process
+  does : step q (N.stores q) (N.processes q) a given ≡ Does deed process
   network : outcome.network ≡ after_deed N q deed process
   who : doer (entry_of deed) ≡ Some q
   acts : act_of (entry_of deed) ≡ Some a
 
 outcome_deed : (N : Network) (q : Role) (m : Attempt Deed Process) (outcome : NextNetwork) → deed_outcome N q m ≡ Some outcome
-    → (d : Deed) × (P : Process) × (outcome.entry ≡ entry_of d) × (outcome.network ≡ after_deed N q d P)
+    → (d : Deed) × (P : Process) × (outcome.entry ≡ entry_of d) × (outcome.network ≡ after_deed N q d P) × (m ≡ Does d P)
 outcome_deed N q Stuck outcome h = absurd (none_some h)
-outcome_deed N q (Does d P) outcome h = (d, P, ap (λ (o : NextNetwork). o.entry) (sym (some_same h)), ap (λ (o : NextNetwork). o.network) (sym (some_same h)))
+outcome_deed N q (Does d P) outcome h = (d, P, ap (λ (o : NextNetwork). o.entry) (sym (some_same h)), ap (λ (o : NextNetwork). o.network) (sym (some_same h)), refl)
 
 did : Known → (b : PlainBundle) (H : List Entry) (N : Network) → IsSound b → network_run b H ≡ Some N → (q : Role) (a : Act) (outcome : NextNetwork)
     → act_step (setting b) N q a ≡ Some outcome → Did N q a outcome
@@ -105,8 +110,10 @@ did known b H N sound run q a outcome h =
     let is = deed_of known b sound N at.0 at.1 q a outcome h in
     let parts = outcome_deed N q (step q (N.stores q) (N.processes q) a (given_at (setting b) N q a)) outcome h in
     record {
+      given = given_at (setting b) N q a;
       deed = parts.0;
       process = parts.1;
+      does = parts.4;
       network = parts.3;
       who = ap doer (sym parts.2 ∙ is.entry) ∙ entry_doer is.deed ∙ ap Some is.who;
       acts = ap act_of (sym parts.2 ∙ is.entry) ∙ is.act;
@@ -194,6 +201,72 @@ follows known b H N sound run q a outcome h r other =
     stay done own none (act.Input j) k = refl
     stay done own none (act.Pick j) k = refl
     stay done own none (act.Scope j) k = refl
+
+-- an act that is offered has no property that none of them has
+any_none : (f : Act → Bool) (c : Act) (acts : List Act) → is_offered c acts ≡ true → list_any f acts ≡ false → f c ≡ false
+any_none f c [] h nowhere = absurd (both_ways false refl h)
+any_none f c (x ∷ xs) h nowhere = ⊎_elim
+    (λ here. false_from_ne_true (f c) (λ yes. both_ways (f x || list_any f xs) nowhere (or_left (f x) (list_any f xs) (subst (λ z. f z ≡ true) (act_same c x here) yes))))
+    (λ there. any_none f c xs there (false_from_ne_true (list_any f xs) (λ yes. both_ways (f x || list_any f xs) nowhere (or_right (f x) (list_any f xs) yes))))
+    (or_cases (act_eq c x) (is_offered c xs) h)
+
+-- a message that the role itself takes, where its act disturbs none of these
+module _ (q : Role) (a : Act) (others : List Act) (none : disturbs q a others ≡ false) where
+  of_own : (j : Key) → j.to ≡ q → is_offered (act.Take j) others ≡ true → (d : Deed) → act_of (entry_of d) ≡ Some a → Apart j d
+  of_own j own offered (Puts k l) acts =
+      let free : role_eq k.to q ≡ false = ap (λ x. disturbs q x others) (some_same acts) ∙ none in
+      false_from_ne_true (key_eq j k) (λ same.
+      both_ways (role_eq k.to q) free
+      (subst (λ x. role_eq x q ≡ true) (sym own ∙ ap (λ (i : Key). i.to) (key_same j k same)) (role_itself q)))
+  of_own j own offered (Takes k x l) acts =
+      let free : list_any (takes k) others ≡ false = ap (λ x. disturbs q x others) (some_same acts) ∙ none in
+      any_none (takes k) (act.Take j) others offered free
+  of_own j own offered (Sets i s x v) acts = tt
+  of_own j own offered (Inputs i s x v) acts = tt
+  of_own j own offered (Picks i s t) acts = tt
+  of_own j own offered (Chooses i s c) acts = tt
+
+-- what a role offers that acted is what it did before, with others in place of its act
+acted_way : (N : Network) (q : Role) (a : Act) (outcome : NextNetwork) (done : Did N q a outcome)
+    → MakesWay a (offers_of N q) (offers_of (after_deed N q done.deed done.process) q)
+acted_way N q a outcome done =
+    subst (λ (P : Process). MakesWay a (offers_of N q) (offers q P)) (sym (cond-true (role_eq q q) done.process (N.processes q) (role_itself q)))
+    (makes_way q (N.stores q) a done.given (N.processes q) done.deed done.process done.does)
+
+-- and of what stays it can do what it could
+module _ (N : Network) (q : Role) (a : Act) (outcome : NextNetwork) (done : Did N q a outcome) (own : Owns N q) (way : MakesWay a (offers_of N q) (offers_of (after_deed N q done.deed done.process) q))
+    (none : disturbs q a (way.front ++ way.back) ≡ false) where
+  one : (c : Act) → is_offered c (way.front ++ way.back) ≡ true → is_offered c (way.front ++ a ∷ way.back) ≡ true → is_ready (after_deed N q done.deed done.process) c ≡ is_ready N c
+  one (act.Take j) k l =
+      ap is_some (still_pending j done.deed N.pending
+      (of_own q a (way.front ++ way.back) none j (own j (subst (λ acts. is_offered (act.Take j) acts ≡ true) (sym way.was) l)) k done.deed done.acts))
+  one (act.Put j) k l = refl
+  one (act.Set j) k l = refl
+  one (act.Input j) k l = refl
+  one (act.Pick j) k l = refl
+  one (act.Scope j) k l = refl
+
+  in_front : (c : Act) (more : List Act) → is_offered c way.front ≡ true → is_offered c (way.front ++ more) ≡ true
+  in_front c more k = list_any-append (act_eq c) way.front more ∙ or_left (is_offered c way.front) (is_offered c more) k
+
+  in_back : (c : Act) (more : List Act) → is_offered c more ≡ true → is_offered c (way.front ++ more) ≡ true
+  in_back c more k = list_any-append (act_eq c) way.front more ∙ or_right (is_offered c way.front) (is_offered c more) k
+
+  acted_stays : parted (is_ready (after_deed N q done.deed done.process)) (length way.front + 1) way.front way.back ≡ parted (is_ready N) (length way.front + 1) way.front way.back
+  acted_stays = ap₂ (λ (xs : List ℕ) ys. xs ++ ys)
+      (places_same (is_ready (after_deed N q done.deed done.process)) (is_ready N) 0 way.front
+      (λ c k. one c (in_front c way.back k) (in_front c (a ∷ way.back) k)))
+      (places_same (is_ready (after_deed N q done.deed done.process)) (is_ready N) (length way.front + 1) way.back
+      (λ c k. one c (in_back c way.back k) (in_back c (a ∷ way.back) (or_right (act_eq c a) (is_offered c way.back) k))))
+
+-- what a role can do that acted is what it could before, but for what stands in place of its act
+pub acted : Known → (b : PlainBundle) (H : List Entry) (N : Network) → IsSound b → network_run b H ≡ Some N → (q : Role) (a : Act) (outcome : NextNetwork)
+    → act_step (setting b) N q a ≡ Some outcome → Acted N outcome.network a q
+acted known b H N sound run q a outcome h =
+    let done = did known b H N sound run q a outcome h in
+    let way = acted_way N q a outcome done in
+    subst (λ M. Acted N M a q) (sym done.network)
+    (record { way = way; stays = λ none. acted_stays N q a outcome done (own_takes known b H N sound run q) way none })
 
 outcome_entry : (b : Setting) (N : Network) (timed : Timed) (o : Option Entry) (outcome : NextNetwork) → entry_outcome b N timed o ≡ Some outcome
     → outcome.network ≡ after_change b N timed

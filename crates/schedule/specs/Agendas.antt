@@ -1,5 +1,6 @@
 -- The agenda of a net: what each role can do now, and what of it an act may change.
-use Rattle.std.specs.Prelude.{◌≡◌, ℕ, List, [], map, Bool, false, ◌∷◌, ◌||◌, nat_le, Option, Some, None, if◌then◌else◌}
+use Rattle.std.specs.Prelude.{◌≡◌, ◌+◌, ◌-◌, ℕ, List, [], length, map, Bool, false, ◌∷◌, ◌++◌, ◌||◌, nat_le, nat_lt, Option, Some, None, if◌then◌else◌}
+use Rattle.std.specs.List.{list_any}
 use Rattle.dioc_terms.specs.declared.entries.Act.{Act}
 use Rattle.dioc_terms.specs.declared.entries.Act.TheVariants as act
 use Rattle.dioc_terms.specs.declared.names.Role.{Role}
@@ -11,7 +12,8 @@ use Rattle.network_steps.specs.declared.moves.Move.{Move}
 use Rattle.network_steps.specs.declared.moves.Move.TheVariants as move
 use Rattle.net_core.specs.MovesIn.{chosen, ready_of}
 use Rattle.net_core.specs.Nets.{NetState, network_of}
-use Rattle.net_core.specs.Places.{offers_of, places_of}
+use Rattle.net_core.specs.Places.{offers_of, places_from, places_of}
+use Rattle.process_steps.specs.Steps.{is_offered}
 use Rattle.schedule.specs.declared.roles.ReadyRole.{ReadyRole}
 
 -- a role, the acts that it can do, all acts that its process offers, and the places among them of
@@ -60,14 +62,29 @@ with_place n (m ∷ ms) =
 abbrev pub refreshed : Network → List Shown → List Shown
 refreshed N agenda = map (λ (ready : Shown). ready_in N ready.0) agenda
 
--- what is listed of a role, where it isn't this one
-abbrev pub spared : Role → Shown → Shown
-spared q ready = if role_eq ready.0 q then (ready.0, [], [], []) else ready
+-- the places of some acts, and of others behind them of which the first has this place
+abbrev pub parted : (Act → Bool) → ℕ → List Act → List Act → List ℕ
+parted p n front back = places_of p front ++ places_from p n back
 
--- two agendas that differ in nothing but what is listed of the role that makes the move
-abbrev pub SparesRest : Move → List Shown → List Shown → Type 0
-SparesRest move.Change old new = new ≡ old
-SparesRest (move.Act q a) old new = map (spared q) new ≡ map (spared q) old
+-- where a place behind this one is, once so many acts stand there in place of one
+abbrev pub moved : ℕ → ℕ → ℕ → ℕ
+moved at count place = if nat_lt at place then (place - 1) + count else place
+
+-- others stand in a list of acts in place of the first that is this one
+pub record MakesWay (a : Act) (old new : List Act) : Type 0 where
+  pub front : List Act
+  pub back : List Act
+  pub news : List Act
+  pub was : old ≡ front ++ a ∷ back
+  pub first : is_offered a front ≡ false
+  pub now : new ≡ front ++ (news ++ back)
+
+-- whether the act of a role may change which of its other acts it can do: it puts a message to the
+-- role itself, or takes one that another of them takes
+abbrev pub disturbs : Role → Act → List Act → Bool
+disturbs q (act.Put k) others = role_eq k.to q
+disturbs q (act.Take k) others = list_any (takes k) others
+disturbs q _ others = false
 
 -- a role that didn't act offers after the act what it did before, and of that it can do what it
 -- could, and the takes of a message that is put to it
@@ -78,17 +95,32 @@ pub record Follows (M N : Network) (a : Act) (r : Role) : Type 0 where
   pub same : puts_to a r ≡ false
       → places_of (is_ready N) (offers_of M r) ≡ places_of (is_ready M) (offers_of M r)
 
--- what is listed of a role is that from before the act, in some network, unless it did the act
+-- a role that acted offers after the act what it did before, but in place of the act what comes in
+-- its place; and of the rest it can do what it could, unless the act disturbs it
+pub record Acted (M N : Network) (a : Act) (r : Role) : Type 0 where
+  pub way : MakesWay a (offers_of M r) (offers_of N r)
+  pub stays : disturbs r a (way.front ++ way.back) ≡ false
+      → parted (is_ready N) (length way.front + 1) way.front way.back
+      ≡ parted (is_ready M) (length way.front + 1) way.front way.back
+
+-- what is listed of a role is that from before the act of another, in some network
 pub record WasListed (N : Network) (a : Act) (ready : Shown) : Type 0 where
   pub before : Network
   pub listed : ready ≡ ready_in before ready.0
   pub follows : Follows before N a ready.0
 
--- an agenda is that of a network before an act of the role, but for what is listed of that role
+-- what is listed of a role is that from before its own act, in some network
+pub record WasOwn (N : Network) (a : Act) (ready : Shown) : Type 0 where
+  pub before : Network
+  pub listed : ready ≡ ready_in before ready.0
+  pub acted : Acted before N a ready.0
+
+-- an agenda is that of a network before an act of the role
 pub record WasAgenda (cast : List Role) (N : Network) (q : Role) (a : Act) (agenda : List Shown)
     : Type 0 where
   pub before : Network
-  pub listed : map (spared q) agenda ≡ map (spared q) (map (ready_in before) cast)
+  pub listed : agenda ≡ map (ready_in before) cast
+  pub acted : Acted before N a q
   pub follows : (r : Role) → role_eq r q ≡ false → Follows before N a r
 
 -- an agenda from before the last move, which was this one; before the first there is none

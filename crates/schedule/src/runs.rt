@@ -96,7 +96,7 @@ fn take_turn<R: Runs>(
 {
     let before = mem::replace(agenda, Vec::new(net.allocator()));
     *agenda = keep_up(net, made, before)?;
-    let next = take_next(net, agenda.as_mut_slice(), seed)?;
+    let next = take_next(net, agenda.as_slice(), seed)?;
     drop(mem::replace(made, Some(next)));
     Ok(())
 }

@@ -6,7 +6,7 @@ ghost use Rattle.network_steps.specs.Schedule.{moves};
 ghost use Rattle.net_core.specs.Changes.{change_fault};
 ghost use Rattle.net_core.specs.Nets.{IsSoundRun, network_of};
 ghost use Rattle.net_core.specs.Steps.{fault_of};
-ghost use Rattle.schedule.specs.Agendas.{IsStale, SparesRest, agenda_of, moves_of, ready_seen};
+ghost use Rattle.schedule.specs.Agendas.{IsStale, agenda_of, moves_of, ready_seen};
 ghost use Rattle.schedule.specs.Turns.{Advances, CanMake, IsMoveOf, IsScheduled, has_ended};
 
 use crate::agenda::{count_acts, move_at};
@@ -18,20 +18,20 @@ use net_core::{ChangeFault, Net};
 use network_steps::{Move, StepFault};
 use std::alloc::Global;
 
-/// Takes the schedule's next move out of the agenda, and tells which it was. After a refusal the
-/// net is unchanged.
+/// Makes the schedule's next move, of those in the agenda, and tells which it was. After a refusal
+/// the net is unchanged.
 pub(crate) fn take_next<R: Runs>(
     net: &mut Net<R>,
-    agenda: &mut [ReadyRole],
+    agenda: &[ReadyRole],
     seed: Option<u64>,
 ) -> Result<Move, Memory>
     requires run { IsSoundRun net.old }
     requires goes { has_ended net.old ≡ false }
     requires room { length net.old.history < net.old.limit }
     requires limit { net.old.limit ≤ 4294967295 }
-    requires agenda { map ready_seen agenda.old ≡ agenda_of net.old }
+    requires agenda { map ready_seen agenda.now ≡ agenda_of net.old }
     ensures advanced { OnOk result (Advances net.old seed net.new) }
-    ensures stale { IfOk result (λ made. IsStale net.new (Some made) (map ready_seen agenda.new)) }
+    ensures stale { IfOk result (λ made. IsStale net.new (Some made) (map ready_seen agenda.now)) }
     ensures err { OnErr result (net.new ≡ net.old) }
 {
     marked_laws::term_laws();
@@ -43,16 +43,10 @@ pub(crate) fn take_next<R: Runs>(
 
 /// The move that the schedule takes next: the script's next change has the number 0 where it is
 /// due, and the acts come after it.
-fn next_move<R: Runs>(
-    net: &Net<R>,
-    agenda: &mut [ReadyRole],
-    seed: Option<u64>,
-) -> Result<Move, Memory>
+fn next_move<R: Runs>(net: &Net<R>, agenda: &[ReadyRole], seed: Option<u64>) -> Result<Move, Memory>
     requires some { 0 < length (moves (setting net.now.bundle) (network_of net.now)) }
-    requires agenda { map ready_seen agenda.old ≡ agenda_of net.now }
-    ensures next { IfOk result (λ next. IsScheduled net.now seed next) }
-    ensures rest { IfOk result
-        (λ next. SparesRest next (map ready_seen agenda.old) (map ready_seen agenda.new)) }
+    requires agenda { map ready_seen agenda.now ≡ agenda_of net.now }
+    ensures { IfOk result (λ next. IsScheduled net.now seed next) }
 {
     let alloc = net.allocator();
     let acts = count_acts(agenda);
@@ -66,12 +60,10 @@ fn next_move<R: Runs>(
 }
 
 /// The move of that number, where the change comes before the acts.
-fn change_or_act(alloc: Global, agenda: &mut [ReadyRole], place: u128) -> Result<Move, Memory>
-    requires { place < length (flat_map moves_of (map ready_seen agenda.old)) + 1 }
-    ensures next { IfOk result (λ next.
-        slice_get (Move.Change ∷ flat_map moves_of (map ready_seen agenda.old)) place ≡ Some next) }
-    ensures rest { IfOk result
-        (λ next. SparesRest next (map ready_seen agenda.old) (map ready_seen agenda.new)) }
+fn change_or_act(alloc: Global, agenda: &[ReadyRole], place: u128) -> Result<Move, Memory>
+    requires { place < length (flat_map moves_of (map ready_seen agenda.now)) + 1 }
+    ensures { IfOk result (λ next.
+        slice_get (Move.Change ∷ flat_map moves_of (map ready_seen agenda.now)) place ≡ Some next) }
 {
     if place == 0 {
         Ok(Move::Change)

@@ -1,6 +1,6 @@
 -- What a home keeps, before a commit and after it.
-use Rattle.std.proofs.Common.{◌≡◌, ◌≤◌, ◌<◌, ℕ, suc, List, [], ◌∷◌, ◌++◌, length, Bool, true, false, is_some, is_none, Option, Some, None, IsSome, refl, sym, ap, ◌∙◌, subst, arith, length-append}
-use Rattle.std.specs.Prelude.{nat_le}
+use Rattle.std.proofs.Common.{◌≡◌, ◌≢◌, ◌≤◌, ◌<◌, ℕ, suc, List, [], ◌∷◌, ◌++◌, length, Bool, true, false, is_some, is_none, Option, Some, None, IsSome, refl, sym, ap, ◌∙◌, subst, arith, length-append}
+use Rattle.std.specs.Prelude.{nat_le, Result, Ok, Err, IfOk, OnErr, OnOk}
 use Rattle.std.specs.Option.{option_or}
 use Rattle.std.specs.Map.{lookup}
 use Rattle.std.proofs.lemmas.Bool.Decides.{nat_tests}
@@ -9,12 +9,14 @@ use Rattle.dioc_terms.specs.declared.entries.Act.TheVariants as act
 use Rattle.dioc_terms.specs.declared.entries.Chosen.TheVariants as chosen
 use Rattle.dioc_terms.specs.declared.entries.Entry.{Entry}
 use Rattle.dioc_terms.specs.declared.names.Role.{Role}
+use Rattle.dioc_terms.specs.declared.entries.Entry.TheVariants as entry
 use Rattle.dioc_terms.specs.declared.processes.Key.{Key}
+use Rattle.dioc_terms.specs.declared.processes.Payload.{Payload}
 use Rattle.dioc_terms.specs.Attempts.{Attempt, Stuck, Does}
 use Rattle.dioc_terms.specs.Equality.{key_eq}
 use Rattle.dioc_terms.specs.Messages.{doer, visible}
 use Rattle.dioc_terms.specs.Plain.{PlainBundle, setting}
-use Rattle.dioc_terms.specs.Processes.{Process, Load}
+use Rattle.dioc_terms.specs.Processes.{Process, Load, load}
 use Rattle.global_steps.specs.Follow.{updates_after}
 use Rattle.marked_laws.proofs.Networks.{after_deed, deed_outcome}
 use Rattle.marked_laws.proofs.Shapes.{some_same}
@@ -39,7 +41,7 @@ use Rattle.stage.proofs.Runs.{stands_still}
 use Rattle.stage.specs.declared.faults.Why.{Why}
 use Rattle.stage.specs.declared.faults.CommitFault.{CommitFault}
 use Rattle.stage.specs.Homes.{HomeState, HasEnded, IsHome, IsSharedAfter, IsSoundHome, MarksHold}
-use Rattle.stage.specs.Faults.{stop_fault, fault_if, full_fault, role_fault, take_fault}
+use Rattle.stage.specs.Faults.{stop_fault, fault_if, full_fault, refusal_by, role_fault, take_fault}
 use Rattle.stage.specs.declared.faults.CommitFault.TheVariants as fault
 use Rattle.stage.specs.Roles.{CanAdd, CanDo, CanTake}
 use Rattle.stage.proofs.OwnLemmas.{is_own}
@@ -240,12 +242,6 @@ role_free home h =
       calm = no_fault_if (change_is_due home.bundle home.history) fault.NotYet full.1;
     }
 
-pub take_free : (k : Key) (home : HomeState) → take_fault k home ≡ None
-    → (role_fault home ≡ None) × (is_none (pending_at k (network_at home.bundle home.history).pending) ≡ false)
-take_free k home h =
-    let parts = or_none (role_fault home) (fault_if (is_none (pending_at k (network_at home.bundle home.history).pending)) fault.NotYet) h in
-    (parts.0, no_fault_if (is_none (pending_at k (network_at home.bundle home.history).pending)) fault.NotYet parts.1)
-
 module _ (of : PlainBundle) (limit : ℕ) (H : List Entry) (cast : List Role) (names : List (List ℕ)) (mail : Mail) (book : KeptBook) (script : List ScriptedChange) (count : ℕ) (finished : List Bool) (stopped : Option Why)
     (is : IsHome of limit H cast names mail book script count finished stopped) where
   abbrev pub shown : HomeState
@@ -300,30 +296,52 @@ take_can laws b H N sound runs q k x can l there =
       does = does ∙ ap (λ d. Does d did.1) same;
     }
 
-some_there : {A : Type 0} (o : Option A) → is_none o ≡ false → is_some o ≡ true
-some_there None h = cc
-some_there (Some x) h = refl
+-- of a home with no fault for roles: a take whose message is there has none either, and a refused one has the fault of what is pending
+take_of : (r : Option CommitFault) (o p : Option Load) → r ≡ None → o ≡ p → (l : Load) → p ≡ Some l → option_or r (fault_if (is_none o) fault.NotYet) ≡ None
+take_of r o p free same l there = rw (free, same, there) refl
+
+refused_of : (p : Option Load) → (refusal_by p ≢ fault.Memory → fault_if (is_none p) fault.NotYet ≡ Some (refusal_by p)) × (refusal_by p ≡ fault.Memory → fault_if (is_none p) fault.NotYet ≡ None)
+refused_of None = (λ _. refl, λ is. cc)
+refused_of (Some l) = (λ no. absurd (no refl), λ _. refl)
+
+refused_as : (r : Option CommitFault) (o p : Option Load) → r ≡ None → o ≡ p → (f : CommitFault) → f ≡ refusal_by p
+    → (f ≢ fault.Memory → option_or r (fault_if (is_none o) fault.NotYet) ≡ Some f) × (f ≡ fault.Memory → option_or r (fault_if (is_none o) fault.NotYet) ≡ None)
+refused_as r o p free same f is = rw (free, same, is) (refused_of p)
 
 module _ (of : PlainBundle) (limit : ℕ) (H : List Entry) (cast : List Role) (names : List (List ℕ)) (mail : Mail) (book : KeptBook) (script : List ScriptedChange) (count : ℕ) (finished : List Bool) (stopped : Option Why)
     (is : IsHome of limit H cast names mail book script count finished stopped) where
-  -- a message that may be taken is there
-  pub take_there : (k : Key) → take_fault k (shown of limit H cast names mail book script count finished stopped is) ≡ None → is_some (payload_at k mail) ≡ true
-  take_there k free =
-      let here = pending_is of limit H mail book script count is.shared k in
-      ap is_some here ∙ some_there (pending_at k (network_at of H).pending) (take_free k (shown of limit H cast names mail book script count finished stopped is) free).1
+  -- where the home has no fault for roles, a take whose message is there has no fault
+  pub take_is_free : (k : Key) → role_fault (shown of limit H cast names mail book script count finished stopped is) ≡ None → (l : Load) → payload_at k mail ≡ Some l
+      → take_fault k (shown of limit H cast names mail book script count finished stopped is) ≡ None
+  take_is_free k free = take_of _ _ (payload_at k mail) free (sym (pending_is of limit H mail book script count is.shared k))
+
+  -- and one that is refused has the fault of what is pending
+  pub take_is_refused : (k : Key) → role_fault (shown of limit H cast names mail book script count finished stopped is) ≡ None → (f : CommitFault) → f ≡ refusal_by (payload_at k mail)
+      → (f ≢ fault.Memory → take_fault k (shown of limit H cast names mail book script count finished stopped is) ≡ Some f) × (f ≡ fault.Memory → take_fault k (shown of limit H cast names mail book script count finished stopped is) ≡ None)
+  take_is_refused k free = refused_as _ _ (payload_at k mail) free (sym (pending_is of limit H mail book script count is.shared k))
 
   -- what a home keeps after a take
   pub home_took : Laws → (q : Role) (k : Key) (x : Option (List ℕ)) (l : Load) → k.to ≡ q → CanTake of H q k x
-      → take_fault k (shown of limit H cast names mail book script count finished stopped is) ≡ None → payload_at k mail ≡ Some l
+      → role_fault (shown of limit H cast names mail book script count finished stopped is) ≡ None → payload_at k mail ≡ Some l
       → (mail' : Mail) (H' : List Entry) → MailAfter (Takes k x l) mail mail' → H' ≡ H ++ entry_of (Takes k x l) ∷ []
       → IsHome of limit H' cast names mail' book script count finished stopped
   home_took laws q k x l to can free there mail' H' changed pushed =
       let pending : pending_at k is.shared.network.pending ≡ Some l = sym (is.shared.pending k) ∙ there in
       home_did of limit H cast names mail book script count finished stopped is laws q (act.Take k) (Got l) (Takes k x l)
       (take_can laws of H is.shared.network is.shared.sound is.shared.runs q k x can l pending)
-      (sym (ap message_given pending)) (ap (λ (r : Role). Some r) to)
-      (take_free k (shown of limit H cast names mail book script count finished stopped is) free).0
-      mail' count H' changed refl pushed
+      (sym (ap message_given pending)) (ap (λ (r : Role). Some r) to) free mail' count H' changed refl pushed
+
+  -- what a home keeps after a take, or its refusal
+  pub home_asked : Laws → (q : Role) (k : Key) (x : Option (List ℕ)) → k.to ≡ q → CanTake of H q k x
+      → role_fault (shown of limit H cast names mail book script count finished stopped is) ≡ None
+      → (mail' : Mail) (H' : List Entry) (r : Result Payload CommitFault) → IfOk r (λ p. payload_at k mail ≡ Some (load p))
+      → ((l : Load) → OnOk r (MailAfter (Takes k x l) mail mail')) → OnOk r (H' ≡ H ++ entry.Take k x ∷ [])
+      → OnErr r (messages mail' ≡ messages mail) → OnErr r (H' ≡ H)
+      → IsHome of limit H' cast names mail' book script count finished stopped
+  home_asked laws q k x to can free mail' H' (Ok p) there taken pushed same_mail same_history =
+      home_took laws q k x (load p) to can free there mail' H' (taken (load p)) pushed
+  home_asked laws q k x to can free mail' H' (Err f) there taken pushed same_mail same_history =
+      home_same of limit H cast names mail book script count finished stopped is mail' H' same_mail same_history
 
   -- what a home keeps after what a role did alone
   pub home_added : Laws → StepsShowTheirActs → (e : Entry) → CanAdd of H e → role_fault (shown of limit H cast names mail book script count finished stopped is) ≡ None

@@ -7,6 +7,7 @@ use Rattle.dioc_terms.specs.declared.entries.Act.{Act}
 use Rattle.dioc_terms.specs.declared.entries.Act.TheVariants as act
 use Rattle.dioc_terms.specs.declared.processes.Key.{Key}
 use Rattle.dioc_terms.specs.Messages.{visible}
+use Rattle.dioc_terms.specs.Processes.{Load}
 use Rattle.network_steps.specs.Network.{pending_at}
 use Rattle.network_steps.specs.Schedule.{changes_in, change_is_due}
 use Rattle.net_core.specs.Nets.{network_at}
@@ -40,6 +41,11 @@ abbrev pub take_fault : Key → HomeState → Option CommitFault
 take_fault k home =
     option_or (role_fault home)
     (fault_if (is_none (pending_at k (network_at home.bundle home.history).pending)) fault.NotYet)
+
+-- a take that a home with no fault for roles refuses, by what is pending for its key
+abbrev pub refusal_by : Option Load → CommitFault
+refusal_by None = fault.NotYet
+refusal_by (Some l) = fault.Memory
 
 -- the fault for which a commit of the act is refused, by the home that is found
 abbrev pub act_fault : Act → HomeState → Option CommitFault

@@ -74,31 +74,33 @@ impl Home {
             (λ f. f ≡ CommitFault.Memory → take_fault key.now self.old ≡ None) }
         ensures err { OnErr result (self.new ≡ self.old) }
     {
-        if let Some(fault) = self.take_fault(key) {
+        if let Some(fault) = self.role_fault() {
             drop(var);
             return Err(fault);
         }
         self.add_take(key, var)
     }
 
-    /// Takes a message, where the home has no fault for it. Its refusal is want of memory.
+    /// Takes a message, where the home has no fault for roles. It asks the mail once, unless memory
+    /// is wanting.
     fn add_take(&mut self, key: &Key, var: Option<Name>) -> Result<Payload, CommitFault>
         requires can { CanTake self.old.bundle self.old.history key.now.to key.now var }
-        requires free { take_fault key.now self.old ≡ None }
+        requires free { role_fault self.old ≡ None }
+        ensures free { OnOk result (take_fault key.now self.old ≡ None) }
         ensures taken { IfOk result (λ payload. pending_at key.now
             (network_at self.old.bundle self.old.history).pending ≡ Some (load payload)) }
         ensures added { OnOk result (self.new ≡ with_entry self.old (entry.Take key.now var)) }
-        ensures memory { IfErr result (λ f. f ≡ CommitFault.Memory) }
+        ensures first { IfErr result
+            (λ f. f ≢ CommitFault.Memory → take_fault key.now self.old ≡ Some f) }
+        ensures short { IfErr result
+            (λ f. f ≡ CommitFault.Memory → take_fault key.now self.old ≡ None) }
         ensures err { OnErr result (self.new ≡ self.old) }
     {
         steps_run();
         marked_laws::unique_keys();
         marked_laws::mail_is_a_map();
         process_steps::offers_are_steps();
-        match take_message(self.alloc, &mut self.mail, &mut self.history, key, var) {
-            Ok(payload) => Ok(payload),
-            Err(_) => Err(CommitFault::Memory),
-        }
+        take_message(self.alloc, &mut self.mail, &mut self.history, key, var)
     }
 
     /// Adds what a role did alone: it set a variable, read an input or picked a branch. After a

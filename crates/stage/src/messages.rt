@@ -1,12 +1,14 @@
 //! What is put, taken or done, with its entry.
 
-ghost use Rattle.std.specs.Prelude.{◌≡◌, ◌<◌, ◌++◌, [], ◌∷◌, IfOk, OnErr, OnOk, None, Some, true, is_some};
+ghost use Rattle.std.specs.Prelude.{◌≡◌, ◌<◌, ◌++◌, [], ◌∷◌, IfErr, IfOk, OnErr, OnOk, None, Some};
 ghost use Rattle.dioc_terms.specs.declared.entries.Entry.TheVariants as entry;
 ghost use Rattle.dioc_terms.specs.Processes.{Load, load, noted};
 ghost use Rattle.process_steps.specs.Steps.{Puts, Takes};
 ghost use Rattle.role_mailbox.specs.Pending.{messages, payload_at, room};
 ghost use Rattle.net_core.specs.Deeds.{MailAfter};
+ghost use Rattle.stage.specs.Faults.{refusal_by};
 
+use crate::faults::CommitFault;
 use dioc_terms::{Entry, Key, Memory, Name, Note, Payload};
 use role_mailbox::Mail;
 use std::alloc::Global;
@@ -76,36 +78,47 @@ fn note_of(alloc: Global, payload: &Payload) -> Result<Note, Memory>
     }
 }
 
-/// Takes a message that is pending, and adds the entry. All memory is taken first: after a refusal
-/// the messages and the entries are as they were.
+/// Takes a message, and adds the entry. All memory is taken first: after a refusal the messages and
+/// the entries are as they were.
 pub(crate) fn take_message(
     alloc: Global,
     mail: &mut Mail,
     history: &mut History,
     key: &Key,
     var: Option<Name>,
-) -> Result<Payload, Memory>
-    requires there { is_some (payload_at key.now mail.old) ≡ true }
+) -> Result<Payload, CommitFault>
     ensures payload { IfOk result (λ p. payload_at key.now mail.old ≡ Some (load p)) }
     ensures taken { (l : Load) → OnOk result (MailAfter (Takes key.now var l) mail.old mail.new) }
     ensures pushed { OnOk result (history.new.entries
         ≡ history.old.entries ++ entry.Take key.now var ∷ []) }
+    ensures fault { IfErr result (λ f. f ≡ refusal_by (payload_at key.now mail.old)) }
     ensures same_mail { OnErr result (messages mail.new ≡ messages mail.old) }
     ensures same_history { OnErr result (history.new.entries ≡ history.old.entries) }
 {
-    match take_room(alloc, history, key) {
-        Ok(key_of_entry) => {
-            let payload = mail.take(key).unwrap();
-            history.push(Entry::Take {
-                key: key_of_entry,
-                var,
-            });
+    let Ok(copy) = take_room(alloc, history, key) else {
+        drop(var);
+        return Err(scarce_take(mail, key));
+    };
+    match mail.take(key) {
+        Some(payload) => {
+            history.push(Entry::Take { key: copy, var });
             Ok(payload)
         }
-        Err(fault) => {
-            drop(var);
-            Err(fault)
+        None => {
+            drop((copy, var));
+            Err(CommitFault::NotYet)
         }
+    }
+}
+
+/// Why a take is refused for which there is no memory: a message that isn't pending comes first.
+fn scarce_take(mail: &Mail, key: &Key) -> CommitFault
+    ensures { result ≡ refusal_by (payload_at key.now mail.now) }
+{
+    if mail.holds(key) {
+        CommitFault::Memory
+    } else {
+        CommitFault::NotYet
     }
 }
 

@@ -2,12 +2,12 @@
 
 ghost use Rattle.std.specs.Prelude.{◌≡◌, ◌++◌, codes, OnOk, OnErr};
 ghost use Rattle.text_pieces.specs.Pieces.{KeepsFront};
-ghost use Rattle.trace_text.specs.Lines.{value_text, tag_text, note_text, choice_text};
+ghost use Rattle.trace_text.specs.Lines.{value_text, tag_text, note_text};
 ghost use Rattle.trace_picture.specs.Labels.{ended_text, kept_text, label};
 
-use dioc_terms::{Chosen, Entry, Last, Memory, Name, Note, Tag, Value};
-use text_pieces::{Minus, write_bytes, write_number, write_truth, write_value};
-use trace_text::{write_index, write_last};
+use dioc_terms::{Entry, Last, Memory, Name, Note, Tag, Value};
+use text_pieces::{Minus, write_bytes, write_truth, write_value};
+use trace_text::{write_choice, write_index, write_last, write_note, write_tag};
 
 /// Appends the last line of a trace with its end.
 pub fn write_last_line(last: &Last, out: &mut Vec<u8>) -> Result<(), Memory>
@@ -86,57 +86,5 @@ fn write_taken(tag: &Tag, variable: &Option<Name>, out: &mut Vec<u8>) -> Result<
     match variable {
         None => Ok(()),
         Some(name) => write_named(b" as ", name, out),
-    }
-}
-
-fn write_tag(tag: &Tag, out: &mut Vec<u8>) -> Result<(), Memory>
-    ensures ok { OnOk result (out.new.items ≡ out.old.items ++ tag_text tag.now) }
-    ensures memory { OnErr result (KeepsFront out.old.items out.new.items) }
-{
-    write_bytes(tag_bytes(tag), out)
-}
-
-/// The text of a tag.
-fn tag_bytes(tag: &Tag) -> &[u8]
-    ensures { result.now ≡ tag_text tag.now }
-{
-    match tag {
-        Tag::Op(name) => name.bytes(),
-        Tag::Choice => b"!choice",
-        Tag::Go => b"!go",
-        Tag::Turn => b"!turn",
-        Tag::Begin => b"!begin",
-        Tag::End => b"!end",
-        Tag::Out => b"!out",
-    }
-}
-
-fn write_note(note: &Note, out: &mut Vec<u8>) -> Result<(), Memory>
-    ensures ok { OnOk result (out.new.items ≡ out.old.items ++ note_text note.now) }
-    ensures memory { OnErr result (KeepsFront out.old.items out.new.items) }
-{
-    match note {
-        Note::Val(value) => write_value(value, Minus::Close, out),
-        Note::Flag(flag) => write_truth(*flag, out),
-        Note::Keep => write_bytes(b"keep", out),
-        Note::Part(epoch) => {
-            write_bytes(b"part ", out)?;
-            write_number(u64::from(*epoch), out)
-        }
-        Note::Done => write_bytes(b"done", out),
-    }
-}
-
-fn write_choice(chosen: &Chosen, out: &mut Vec<u8>) -> Result<(), Memory>
-    ensures ok { OnOk result (out.new.items ≡ out.old.items ++ choice_text chosen.now) }
-    ensures memory { OnErr result (KeepsFront out.old.items out.new.items) }
-{
-    match chosen {
-        Chosen::Keep => write_bytes(b"keep", out),
-        Chosen::Rule { name, epoch } => {
-            write_named(b"rule ", name, out)?;
-            write_bytes(b" as ", out)?;
-            write_number(u64::from(*epoch), out)
-        }
     }
 }

@@ -10,7 +10,7 @@ mod runs;
 
 pub use json_lines::write_json_line;
 pub use lines::write_line;
-pub use pieces::write_index;
+pub use pieces::{write_choice, write_index, write_note, write_tag};
 pub use processes::write_process;
 pub use runs::{write_last, write_text};
 pub use trace_syntax::{TraceFault, read_trace, trace_at};

@@ -45,7 +45,8 @@ pub fn write_indexed(word: &[u8], index: Index, out: &mut Vec<u8>) -> Result<(),
     write_index(index, out)
 }
 
-fn write_tag(tag: &Tag, out: &mut Vec<u8>) -> Result<(), Memory>
+/// As `ask` or `!go`.
+pub fn write_tag(tag: &Tag, out: &mut Vec<u8>) -> Result<(), Memory>
     ensures ok { OnOk result (out.new.items ≡ out.old.items ++ tag_text tag.now) }
     ensures memory { OnErr result (KeepsFront out.old.items out.new.items) }
 {
@@ -60,6 +61,7 @@ fn write_tag(tag: &Tag, out: &mut Vec<u8>) -> Result<(), Memory>
     }
 }
 
+/// As `5`, `keep` or `part 3`.
 pub fn write_note(note: &Note, out: &mut Vec<u8>) -> Result<(), Memory>
     ensures ok { OnOk result (out.new.items ≡ out.old.items ++ note_text note.now) }
     ensures memory { OnErr result (KeepsFront out.old.items out.new.items) }
@@ -101,6 +103,7 @@ pub fn write_variable(variable: &Option<Name>, out: &mut Vec<u8>) -> Result<(), 
     }
 }
 
+/// As `keep` or `rule fast as 3`.
 pub fn write_choice(chosen: &Chosen, out: &mut Vec<u8>) -> Result<(), Memory>
     ensures ok { OnOk result (out.new.items ≡ out.old.items ++ choice_text chosen.now) }
     ensures memory { OnErr result (KeepsFront out.old.items out.new.items) }

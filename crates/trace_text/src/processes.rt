@@ -89,15 +89,8 @@ fn write_head(proc: &Proc, out: &mut Vec<u8>) -> Result<(), Memory>
             from,
             var,
         } => write_receive(*index, op, from, var, out),
-        Proc::Assign { index, var, expr } => {
-            write_indexed(var.bytes(), *index, out)?;
-            write_bytes(b" = ", out)?;
-            write_expression(expr, out)
-        }
-        Proc::Read { index, var } => {
-            write_indexed(var.bytes(), *index, out)?;
-            write_bytes(b" = input()", out)
-        }
+        Proc::Assign { index, var, expr } => write_assignment(*index, var, expr, out),
+        Proc::Read { index, var } => write_input(*index, var, out),
         Proc::Seq(_, _) | Proc::Par(_, _) => write_bytes(b"(", out),
         Proc::IfLead {
             index,
@@ -151,6 +144,25 @@ fn write_receive(
     write_indexed(op.bytes(), index, out)?;
     write_three(b"(", var.bytes(), b")", out)?;
     write_from(from, out)
+}
+
+fn write_assignment(index: Index, var: &Name, expr: &Expr, out: &mut Vec<u8>) -> Result<(), Memory>
+    ensures ok { OnOk result (out.new.items ≡ out.old.items ++ (var.now ++ index_text index ++
+        codes " = " ++ expression_text (expression expr.now))) }
+    ensures memory { OnErr result (KeepsFront out.old.items out.new.items) }
+{
+    write_indexed(var.bytes(), index, out)?;
+    write_bytes(b" = ", out)?;
+    write_expression(expr, out)
+}
+
+fn write_input(index: Index, var: &Name, out: &mut Vec<u8>) -> Result<(), Memory>
+    ensures ok { OnOk result (out.new.items ≡ out.old.items ++ (var.now ++ index_text index ++
+        codes " = input()")) }
+    ensures memory { OnErr result (KeepsFront out.old.items out.new.items) }
+{
+    write_indexed(var.bytes(), index, out)?;
+    write_bytes(b" = input()", out)
 }
 
 /// A construct that the role leads, by its word, up to its first part.

@@ -1,5 +1,6 @@
 pub mod Looks
 pub mod Goals
+pub mod Groups
 pub mod Takings
 pub mod Tokens
 pub mod Expressions

@@ -2,6 +2,7 @@
 
 ghost use Rattle.std.specs.Prelude.{◌≡◌, ◌++◌, ◌∷◌, [], reverse, true, false, Some, None, OnOk, IfOk, if◌then◌else◌};
 ghost use Rattle.wanted_tokens.specs.declared.looks.Look.TheVariants as looks;
+ghost use Rattle.wanted_tokens.specs.Groups.{is_of_section, is_part};
 ghost use Rattle.wanted_tokens.specs.Takings.{effect, listed};
 ghost use Rattle.wanted_tokens.specs.Wanted.{taking, version_behind, reading_behind, is_passed, may_end, unwanted};
 
@@ -45,6 +46,16 @@ fn taking(second: bool, goal: Goal, look: Look) -> Taking
         Goal::Operand(kind, comparable) => operand(kind, comparable, look),
         Goal::Negated(kind, comparable) => negated(kind, comparable, look),
         Goal::MoreOperands(kind, comparable) => more_operands(kind, comparable, look),
+        _ => taking_of_part(second, goal, look),
+    }
+}
+
+/// What a goal that is more than an expression makes of a token.
+fn taking_of_part(second: bool, goal: Goal, look: Look) -> Taking
+    requires { is_part goal ≡ true }
+    ensures { effect result ≡ taking second goal look }
+{
+    match goal {
         Goal::Step => step(look),
         Goal::StepBehindName => step_behind_name(look),
         Goal::Assigned => assigned(look),
@@ -57,6 +68,17 @@ fn taking(second: bool, goal: Goal, look: Look) -> Taking
         Goal::Properties => properties(look),
         Goal::FirstProperty => first_property(look),
         Goal::MoreProperties => more_properties(look),
+        _ => taking_of_section(second, goal, look),
+    }
+}
+
+/// What a goal that is a section of a bundle or stands in one, outside of choreographies and
+/// expressions, makes of a token.
+fn taking_of_section(second: bool, goal: Goal, look: Look) -> Taking
+    requires { is_of_section goal ≡ true }
+    ensures { effect result ≡ taking second goal look }
+{
+    match goal {
         Goal::Rules => rules(look),
         Goal::Priority => priority(second, look),
         Goal::Rank => rank(look),
@@ -78,6 +100,7 @@ fn taking(second: bool, goal: Goal, look: Look) -> Taking
         Goal::LastSections => last_sections(look),
         Goal::Sessions => session(Taking::Stops, look),
         Goal::MoreSessions => session(Taking::Passes, look),
+        _ => unreachable!(),
     }
 }
 

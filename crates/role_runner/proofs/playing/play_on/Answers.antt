@@ -8,45 +8,43 @@ use Rattle.role_runner.proofs.playing.play_on.Goals as goal
 
 pub returns-then-is_done-clause-tied : goal.returns-then-is_done-clause-tied
 returns-then-is_done-clause-tied g c =
-    looked_tied (plain c.args.actor.now.bundle.now) c.args.actor.now.role.now (view c.loop.seat) (view c.finish.result) (local_of c.loop.state) c.finish.ensures.saw.looked c.loop.invariant.tied
+    looked_tied (plain c.args.actor.now.bundle.now) c.args.actor.now.role.now (view c.loop.seat) (view c.finish.result) (local_of c.loop.state) c.finish.ensures.saw.looked c.loop.invariant.can.tied
 
 pub returns-in-Refused-Full-clause-tied : goal.returns-in-Refused-Full-clause-tied
 returns-in-Refused-Full-clause-tied g c =
     looked_tied (plain c.args.actor.now.bundle.now) c.args.actor.now.role.now (view c.take_turn-next.result.0) (view c.stop.result) (local_of c.take_turn-next.new.state) c.stop.ensures.saw.looked
-    (c.take_turn-next.ensures.leaves.tied (λ behind. refused_not_behind c.in-Refused-Full.is behind))
+    (c.take_turn-next.ensures.left.leaves.tied (λ behind. refused_not_behind c.in-Refused-Full.is behind))
 
 pub returns-in-Refused-Memory-clause-tied : goal.returns-in-Refused-Memory-clause-tied
 returns-in-Refused-Memory-clause-tied g c =
     looked_tied (plain c.args.actor.now.bundle.now) c.args.actor.now.role.now (view c.take_turn-next.result.0) (view c.stop-in-Refused-Memory.result) (local_of c.take_turn-next.new.state) c.stop-in-Refused-Memory.ensures.saw.looked
-    (c.take_turn-next.ensures.leaves.tied (λ behind. refused_not_behind c.in-Refused-Memory.is behind))
+    (c.take_turn-next.ensures.left.leaves.tied (λ behind. refused_not_behind c.in-Refused-Memory.is behind))
 
 pub returns-in-Refused-clause-tied : goal.returns-in-Refused-clause-tied
-returns-in-Refused-clause-tied g c = c.take_turn-next.ensures.leaves.tied (λ behind. refused_not_behind c.in-Refused.is behind)
+returns-in-Refused-clause-tied g c = c.take_turn-next.ensures.left.leaves.tied (λ behind. refused_not_behind c.in-Refused.is behind)
 
 pub loop-init : goal.loop-init
-loop-init g c = record { of = c.requires.of; went = went_nowhere (view c.args.seat) c.requires.tied.met; tied = c.requires.tied }
+loop-init g c = record { can = c.requires.can; went = went_nowhere (view c.args.seat) c.requires.can.tied.met }
 
 pub loop-preserved : goal.loop-preserved
 loop-preserved g c =
-    let leaves = c.take_turn-next.ensures.leaves in
+    let left = c.take_turn-next.ensures.left in
     record {
-      of = c.take_turn-next.ensures.of;
-      went = went_through (view c.args.seat) (view c.loop.seat) (view c.take_turn-next.result.0) c.loop.invariant.went leaves.went;
-      tied = leaves.tied (λ behind. refused_not_behind c.in-Refused-NotYet.is behind);
+      can = record { sound = c.requires.can.sound; of = left.of; tied = left.leaves.tied (λ behind. refused_not_behind c.in-Refused-NotYet.is behind) };
+      went = went_through (view c.args.seat) (view c.loop.seat) (view c.take_turn-next.result.0) c.loop.invariant.went left.leaves.went;
     }
 
 pub loop-preserved-in-Done : goal.loop-preserved-in-Done
 loop-preserved-in-Done g c =
-    let leaves = c.take_turn-next.ensures.leaves in
+    let left = c.take_turn-next.ensures.left in
     record {
-      of = c.take_turn-next.ensures.of;
-      went = went_through (view c.args.seat) (view c.loop.seat) (view c.take_turn-next.result.0) c.loop.invariant.went leaves.went;
-      tied = leaves.tied (λ behind. done_not_behind c.in-Done.is behind);
+      can = record { sound = c.requires.can.sound; of = left.of; tied = left.leaves.tied (λ behind. done_not_behind c.in-Done.is behind) };
+      went = went_through (view c.args.seat) (view c.loop.seat) (view c.take_turn-next.result.0) c.loop.invariant.went left.leaves.went;
     }
 
 pub finish-requires-clause-ended : goal.finish-requires-clause-ended
 finish-requires-clause-ended g c =
-    tied_finished (plain c.args.actor.now.bundle.now) c.args.actor.now.role.now (view c.loop.seat) (local_of c.loop.state) c.loop.invariant.tied (sym c.is_done.ensures ∙ c.if-is_done.true)
+    tied_finished (plain c.args.actor.now.bundle.now) c.args.actor.now.role.now (view c.loop.seat) (local_of c.loop.state) c.loop.invariant.can.tied (sym c.is_done.ensures ∙ c.if-is_done.true)
 
 pub returns-then-is_done-clause-went : goal.returns-then-is_done-clause-went
 returns-then-is_done-clause-went g c =
@@ -55,18 +53,18 @@ returns-then-is_done-clause-went g c =
 pub returns-in-Refused-Full-clause-went : goal.returns-in-Refused-Full-clause-went
 returns-in-Refused-Full-clause-went g c =
     went_looked (view c.args.seat) (view c.take_turn-next.result.0) (view c.stop.result)
-    (went_through (view c.args.seat) (view c.loop.seat) (view c.take_turn-next.result.0) c.loop.invariant.went c.take_turn-next.ensures.leaves.went) c.stop.ensures.saw.looked
+    (went_through (view c.args.seat) (view c.loop.seat) (view c.take_turn-next.result.0) c.loop.invariant.went c.take_turn-next.ensures.left.leaves.went) c.stop.ensures.saw.looked
 
 pub returns-in-Refused-Memory-clause-went : goal.returns-in-Refused-Memory-clause-went
 returns-in-Refused-Memory-clause-went g c =
     went_looked (view c.args.seat) (view c.take_turn-next.result.0) (view c.stop-in-Refused-Memory.result)
-    (went_through (view c.args.seat) (view c.loop.seat) (view c.take_turn-next.result.0) c.loop.invariant.went c.take_turn-next.ensures.leaves.went) c.stop-in-Refused-Memory.ensures.saw.looked
+    (went_through (view c.args.seat) (view c.loop.seat) (view c.take_turn-next.result.0) c.loop.invariant.went c.take_turn-next.ensures.left.leaves.went) c.stop-in-Refused-Memory.ensures.saw.looked
 
 pub returns-in-Behind-clause-went : goal.returns-in-Behind-clause-went
 returns-in-Behind-clause-went g c =
     went_looked (view c.args.seat) (view c.take_turn-next.result.0) (view c.stop-in-Behind.result)
-    (went_through (view c.args.seat) (view c.loop.seat) (view c.take_turn-next.result.0) c.loop.invariant.went c.take_turn-next.ensures.leaves.went) c.stop-in-Behind.ensures.saw.looked
+    (went_through (view c.args.seat) (view c.loop.seat) (view c.take_turn-next.result.0) c.loop.invariant.went c.take_turn-next.ensures.left.leaves.went) c.stop-in-Behind.ensures.saw.looked
 
 pub returns-in-Refused-clause-went : goal.returns-in-Refused-clause-went
 returns-in-Refused-clause-went g c =
-    went_through (view c.args.seat) (view c.loop.seat) (view c.take_turn-next.result.0) c.loop.invariant.went c.take_turn-next.ensures.leaves.went
+    went_through (view c.args.seat) (view c.loop.seat) (view c.take_turn-next.result.0) c.loop.invariant.went c.take_turn-next.ensures.left.leaves.went

@@ -20,10 +20,12 @@ pub unreachable-requires : goal.unreachable-requires
 unreachable-requires g c =
     both_ways (is_offered c.args.act.now (offered (local_of c.args.state.now))) (c.prepare.ensures.no_act.0 (c.in-Err-NoAct.is ∙ ap Err c.in-Err-NoAct.field-0-is)) c.requires.offered
 
-pub returns-in-Err-Memory-clause-leaves : goal.returns-in-Err-Memory-clause-leaves
-returns-in-Err-Memory-clause-leaves g c =
-    subst (λ s. Leaves (plain c.args.actor.now.bundle.now) c.args.actor.now.role.now (view c.args.seat) (view c.args.seat) (tried.Refused fault.Memory) s) (sym c.prepare.ensures.same)
-    (stays_leaves (plain c.args.actor.now.bundle.now) c.args.actor.now.role.now (view c.args.seat) (local_of c.args.state.now) fault.Memory no_memory c.requires.tied)
+pub returns-in-Err-Memory-clause-left : goal.returns-in-Err-Memory-clause-left
+returns-in-Err-Memory-clause-left g c = record {
+  of = c.requires.can.of;
+  leaves = subst (λ s. Leaves (plain c.args.actor.now.bundle.now) c.args.actor.now.role.now (view c.args.seat) (view c.args.seat) (tried.Refused fault.Memory) s) (sym c.prepare.ensures.same)
+      (stays_leaves (plain c.args.actor.now.bundle.now) c.args.actor.now.role.now (view c.args.seat) (local_of c.args.state.now) fault.Memory no_memory c.requires.can.tied);
+}
 
 pub returns-in-Err-Memory-clause-refused : goal.returns-in-Err-Memory-clause-refused
 returns-in-Err-Memory-clause-refused g c =

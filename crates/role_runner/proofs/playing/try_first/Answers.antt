@@ -1,12 +1,12 @@
 -- A look finds an act to try, or that none may come yet. A try that may not come yet leaves the role tied to its seat.
 use Rattle.std.proofs.Common.{◌≡◌, ◌<◌, IfSome, Some, length, slice_get, refl, sym, ap, ◌∙◌, subst}
 use Rattle.std.proofs.lemmas.Option.{slice_get_read}
-use Rattle.dioc_terms.specs.Plain.{plain}
 use Rattle.dpoc_process.specs.LocalStates.{offered}
 use Rattle.flat_role.specs.FlatStates.{local_of}
 use Rattle.process_steps.specs.Steps.{is_offered}
 use Rattle.role_runner.proofs.EndLemmas.{all_by_place}
-use Rattle.role_runner.proofs.TieLemmas.{if_refused_at, looked_tied, not_yet_is, refused_not_behind, went_looked, went_nowhere}
+use Rattle.role_runner.proofs.PlayLemmas.{looked_can, looked_left}
+use Rattle.role_runner.proofs.TieLemmas.{if_refused_at, not_yet_is, refused_not_behind, went_looked, went_nowhere}
 use Rattle.role_runner.proofs.TurnLemmas.{looked_nowhere, looked_through, offered_in, refused_here}
 use Rattle.role_runner.specs.declared.acting.Tried.TheVariants as tried
 use Rattle.role_runner.specs.Ties.{IsRefusedTry, RefusedIn}
@@ -21,7 +21,7 @@ not_memory : fault.NotYet ≡ fault.Memory → ⊥
 not_memory is = cc
 
 pub loop-init : goal.loop-init
-loop-init g c = record { of = c.requires.of; looked = looked_nowhere (view c.args.seat) c.requires.tied.met; tied = c.requires.tied; same = refl }
+loop-init g c = record { can = c.requires.can; looked = looked_nowhere (view c.args.seat) c.requires.can.tied.met; same = refl }
 
 pub loop-preserved : goal.loop-preserved
 loop-preserved g c =
@@ -30,34 +30,29 @@ loop-preserved g c =
     let x = view c.first_ready-next.result.0 in
     let w = view c.try_act-next.result.0 in
     let act = c.index-acts-at.result in
+    let left = c.try_act-next.ensures.left in
     let is = not_yet_is c.try_act-next.result.1 (sym c.is_not_yet.ensures ∙ c.if-not-is_not_yet.false) in
     let refused = if_refused_at (IsRefusedTry act x w (local_of c.loop.state) (local_of c.try_act-next.new.state)) c.try_act-next.result.1 fault.NotYet c.try_act-next.ensures.refused is in
     let held = refused.held not_memory in
     record {
-      of = c.try_act-next.ensures.of;
+      can = record { sound = c.requires.can.sound; of = left.of; tied = left.leaves.tied (λ behind. refused_not_behind is behind) };
       looked = looked_through u x w (looked_through u v x c.loop.invariant.looked c.first_ready-next.ensures.first.looked) held.looked;
-      tied = c.try_act-next.ensures.leaves.tied (λ behind. refused_not_behind is behind);
       same = refused.same ∙ c.loop.invariant.same;
     }
 
-pub try_act-next-requires-clause-tied : goal.try_act-next-requires-clause-tied
-try_act-next-requires-clause-tied g c =
-    looked_tied (plain c.args.actor.now.bundle.now) c.args.actor.now.role.now (view c.loop.seat) (view c.first_ready-next.result.0) (local_of c.loop.state) c.first_ready-next.ensures.first.looked c.loop.invariant.tied
+pub try_act-next-requires-clause-can : goal.try_act-next-requires-clause-can
+try_act-next-requires-clause-can g c =
+    looked_can c.args.actor.now c.loop.seat c.first_ready-next.result.0 c.loop.state c.first_ready-next.ensures.of c.first_ready-next.ensures.first.looked c.loop.invariant.can
 
 not_full : tried.Refused fault.NotYet ≡ tried.Refused fault.Full → ⊥
 not_full is = cc
 
-pub returns-in_default-clause-leaves : goal.returns-in_default-clause-leaves
-returns-in_default-clause-leaves g c =
+pub returns-in_default-clause-left : goal.returns-in_default-clause-left
+returns-in_default-clause-left g c =
     let u = view c.args.seat in
     let v = view c.loop.seat in
-    let x = view c.first_ready-next.result.0 in
-    let looked = c.first_ready-next.ensures.first.looked in
-    record {
-      went = went_looked u u x (went_nowhere u c.requires.tied.met) (looked_through u v x c.loop.invariant.looked looked);
-      tied = λ here. looked_tied (plain c.args.actor.now.bundle.now) c.args.actor.now.role.now v x (local_of c.loop.state) looked c.loop.invariant.tied;
-      full = λ is. absurd (not_full is);
-    }
+    looked_left c.args.actor.now c.loop.seat c.first_ready-next.result.0 c.loop.state c.first_ready-next.ensures.of c.first_ready-next.ensures.first.looked c.loop.invariant.can
+    c.args.seat (tried.Refused fault.NotYet) not_full (went_looked u u v (went_nowhere u c.requires.can.tied.met) c.loop.invariant.looked)
 
 pub returns-in_default-clause-tried : goal.returns-in_default-clause-tried
 returns-in_default-clause-tried g c = λ _.

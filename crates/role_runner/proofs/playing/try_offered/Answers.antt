@@ -41,7 +41,7 @@ returns-in-len1-clause-tried g c = λ h.
     let within = slice_get_within now i a at in
     let first : 0 ≡ i = omega (arith, within, below) in
     subst (λ b. RefusedIn (act_fault b) u w fault.NotYet) (some_same (sym there ∙ ap (slice_get now) first ∙ at))
-    (refused_here (act_fault act) u u w fault.NotYet (looked_nowhere u c.requires.tied.met) (looked_met u w held.looked) held))
+    (refused_here (act_fault act) u u w fault.NotYet (looked_nowhere u c.requires.can.tied.met) (looked_met u w held.looked) held))
 
 pub returns-then-is_not_yet-clause-tried : goal.returns-then-is_not_yet-clause-tried
 returns-then-is_not_yet-clause-tried g c = λ h.

@@ -13,18 +13,18 @@ pub move_place-number-requires : goal.move_place-number-requires
 move_place-number-requires g c =
     some_act c.args.net.now (map ready_seen c.args.agenda.now) c.count_acts-acts.result c.requires.agenda c.if-is_change_due.ensures c.count_acts-acts.ensures.count c.requires.some
 
-pub returns-then-is_change_due-clause-next : goal.returns-then-is_change_due-clause-next
-returns-then-is_change_due-clause-next g c =
+pub returns-then-is_change_due : goal.returns-then-is_change_due
+returns-then-is_change_due g c =
     IfOk-weaker c.change_or_act.result (λ (next : Move). slice_get (move.Change ∷ flat_map moves_of (map ready_seen c.args.agenda.now)) c.move_place-place.result ≡ Some next)
     (λ (next : Move). IsScheduled c.args.net.now c.args.seed next)
     (λ next got. scheduled_due c.args.net.now c.args.seed (map ready_seen c.args.agenda.now) c.count_acts-acts.result c.move_place-place.result next c.requires.agenda
     c.if-is_change_due.ensures c.count_acts-acts.ensures.count c.move_place-place.ensures.place got)
-    c.change_or_act.ensures.next
+    c.change_or_act.ensures
 
-pub returns-else-is_change_due-clause-next : goal.returns-else-is_change_due-clause-next
-returns-else-is_change_due-clause-next g c =
+pub returns-else-is_change_due : goal.returns-else-is_change_due
+returns-else-is_change_due g c =
     IfOk-weaker c.move_at.result (λ (next : Move). slice_get (flat_map moves_of (map ready_seen c.args.agenda.now)) c.move_place-number.result ≡ Some next)
     (λ (next : Move). IsScheduled c.args.net.now c.args.seed next)
     (λ next got. scheduled_act c.args.net.now c.args.seed (map ready_seen c.args.agenda.now) c.count_acts-acts.result c.move_place-number.result next c.requires.agenda
     c.if-is_change_due.ensures c.count_acts-acts.ensures.count c.move_place-number.ensures.place got)
-    c.move_at.ensures.next
+    c.move_at.ensures

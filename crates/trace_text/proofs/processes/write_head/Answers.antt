@@ -1,13 +1,18 @@
 use Rattle.std.proofs.Common.{arith}
 use Rattle.std.proofs.lemmas.Grind.{common_steps}
-use Rattle.text_pieces.proofs.KeptFronts.{front_of_front}
 use Rattle.trace_text.proofs.processes.write_head.Goals as goal
+
+pub returns-in-Assign-clause-ok : goal.returns-in-Assign-clause-ok
+returns-in-Assign-clause-ok c = grind (arith, common_steps)
 
 pub returns-in-IfFollow-clause-ok : goal.returns-in-IfFollow-clause-ok
 returns-in-IfFollow-clause-ok c = grind (arith, common_steps)
 
 pub returns-in-IfLead-clause-ok : goal.returns-in-IfLead-clause-ok
 returns-in-IfLead-clause-ok c = grind (arith, common_steps)
+
+pub returns-in-Read-clause-ok : goal.returns-in-Read-clause-ok
+returns-in-Read-clause-ok c = grind (arith, common_steps)
 
 pub returns-in-Recv-clause-ok : goal.returns-in-Recv-clause-ok
 returns-in-Recv-clause-ok c = grind (arith, common_steps)
@@ -38,24 +43,3 @@ returns-in-WhileFollow-clause-ok c = grind (arith, common_steps)
 
 pub returns-in-WhileLead-clause-ok : goal.returns-in-WhileLead-clause-ok
 returns-in-WhileLead-clause-ok c = grind (arith, common_steps)
-
-pub returns-in_err-write_bytes-in-Assign-clause-memory : goal.returns-in_err-write_bytes-in-Assign-clause-memory
-returns-in_err-write_bytes-in-Assign-clause-memory c = grind (arith, front_of_front)
-
-pub returns-in_err-write_indexed-in-Assign-clause-memory : goal.returns-in_err-write_indexed-in-Assign-clause-memory
-returns-in_err-write_indexed-in-Assign-clause-memory c = grind (arith, front_of_front)
-
-pub returns-in_err-write_indexed-in-Read-clause-memory : goal.returns-in_err-write_indexed-in-Read-clause-memory
-returns-in_err-write_indexed-in-Read-clause-memory c = grind (arith, front_of_front)
-
-pub returns-in_ok-write_bytes-in-Assign-clause-memory : goal.returns-in_ok-write_bytes-in-Assign-clause-memory
-returns-in_ok-write_bytes-in-Assign-clause-memory c = grind (arith, front_of_front)
-
-pub returns-in_ok-write_bytes-in-Assign-clause-ok : goal.returns-in_ok-write_bytes-in-Assign-clause-ok
-returns-in_ok-write_bytes-in-Assign-clause-ok c = grind (arith, common_steps)
-
-pub returns-in_ok-write_indexed-in-Read-clause-memory : goal.returns-in_ok-write_indexed-in-Read-clause-memory
-returns-in_ok-write_indexed-in-Read-clause-memory c = grind (arith, front_of_front)
-
-pub returns-in_ok-write_indexed-in-Read-clause-ok : goal.returns-in_ok-write_indexed-in-Read-clause-ok
-returns-in_ok-write_indexed-in-Read-clause-ok c = grind (arith, common_steps)
