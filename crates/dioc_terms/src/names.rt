@@ -89,6 +89,7 @@ impl Name {
     }
 
     /// A copy, the same name.
+    #[inline(always)]
     pub fn copy(&self, alloc: Global) -> Result<Name, Memory>
         ensures { IfOk result (λ copy. copy ≡ self.now) }
     {
@@ -334,7 +335,8 @@ impl Kept {
         }
     }
 
-    /// A copy, the same bytes.
+    /// A copy, the same bytes. Most names are short, and those are copied where the call stands.
+    #[inline(always)]
     fn copy(&self, alloc: Global) -> Result<Kept, Memory>
         requires { IsKept self.now }
         ensures same { IfOk result (λ copy. kept_items copy ≡ kept_items self.now) }
@@ -342,9 +344,18 @@ impl Kept {
     {
         match self {
             Kept::Short(count, bytes) => Ok(Kept::Short(*count, *bytes)),
-            Kept::Long(bytes) => Ok(Kept::Long(boxed_bytes(alloc, bytes.as_slice())?)),
+            Kept::Long(bytes) => copy_of_long(alloc, bytes.as_slice()),
         }
     }
+}
+
+/// A copy of bytes that stand in a box, in a box of its own.
+#[inline(never)]
+fn copy_of_long(alloc: Global, bytes: &[u8]) -> Result<Kept, Memory>
+    ensures same { IfOk result (λ copy. kept_items copy ≡ bytes.now) }
+    ensures kept { IfOk result (λ copy. IsKept copy) }
+{
+    Ok(Kept::Long(boxed_bytes(alloc, bytes)?))
 }
 
 /// The first of the bytes in place.

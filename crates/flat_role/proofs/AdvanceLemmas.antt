@@ -1,5 +1,5 @@
 -- What an act at a place makes of the whole.
-use Rattle.std.proofs.Common.{◌≡◌, ◌+◌, ◌-◌, ◌<◌, ◌≤◌, ℕ, suc, List, ◌++◌, Bool, true, false, not, length, take, drop, refl, ap, ap₂, ◌∙◌, sym, subst, arith, length-take-le, Option, None, Some}
+use Rattle.std.proofs.Common.{set, ◌≡◌, ◌+◌, ◌-◌, ◌<◌, ◌≤◌, ℕ, suc, List, ◌++◌, Bool, true, false, not, length, take, drop, refl, ap, ap₂, ◌∙◌, sym, subst, arith, length-take-le, Option, None, Some}
 use Rattle.std.specs.Global.{Box}
 use Rattle.std.specs.Prelude.{vec_capacity}
 use Rattle.std.proofs.lemmas.List.{length-append, length-drop}
@@ -15,7 +15,6 @@ use Rattle.dioc_terms.specs.Processes.{Process, IfLead, WhileLead, WhileFollow, 
 use Rattle.dioc_terms.specs.Stores.{Store}
 use Rattle.dioc_terms.specs.declared.values.Value.{Value}
 use Rattle.dpoc_process.specs.Acting.{Lead, acting, lead_of}
-use Rattle.dpoc_process.specs.Changes.{replaced}
 use Rattle.dpoc_process.specs.Growth.{handed_value, leader_end, value_at, with_written, write_at}
 use Rattle.dpoc_process.specs.Handed.{Handed, Empty, Message, Kept, Parted, BookReplaces, Brings, IsEnabled, StandsFor, given_like}
 use Rattle.dpoc_process.specs.KeptGrowth.{write_of}
@@ -24,27 +23,23 @@ use Rattle.dpoc_process.specs.RoleSteps.{IsStep}
 use Rattle.dpoc_process.proofs.LeafLemmas.{advances-are_steps}
 use Rattle.flat_code.specs.Codes.{process_of}
 use Rattle.flat_code.specs.declared.plan.Plan.{Plan}
-use Rattle.flat_code.specs.Places.{processes}
 use Rattle.flat_role.specs.declared.marks.Mark.{Mark as KeptMark}
 use Rattle.flat_role.specs.declared.marks.Mark.TheVariants as kept_marks
-use Rattle.flat_role.specs.declared.marks.Update.{Update}
 use Rattle.flat_role.specs.declared.progress.Progress.{Progress}
-use Rattle.flat_role.specs.declared.ready.Ready.{Ready as UpdateReady}
 use Rattle.flat_role.specs.declared.steps.Own.{Own}
-use Rattle.flat_role.specs.declared.steps.Step.TheVariants as steps
-use Rattle.flat_role.specs.Advancing.{ComesTo, IsActed, IsActingBy, IsReplacedBy, IsUpdateAt, IsUpdatedIn, IsUpdatedTo, entered_places, front_in, mark_in, marks_after, stop_after}
-use Rattle.flat_role.specs.Growths.{flat_grown}
-use Rattle.flat_role.specs.KeptMarks.{meant, update_process}
+use Rattle.flat_role.specs.Advancing.{ComesTo, IsActed, IsActingBy, IsReplacedBy, entered_places, front_in, marks_after, stop_after}
+use Rattle.flat_role.specs.KeptMarks.{meant}
 use Rattle.flat_role.specs.Leaves.{front, is_became}
 use Rattle.flat_role.specs.MovedMarks.{runs_update, stays_itself}
-use Rattle.flat_role.specs.PlanMarks.{low_at, plan_layout, plan_len, plan_marks, static_at}
-use Rattle.flat_role.specs.Progress.{IsFound, IsProgress, marks_by, runs_by}
-use Rattle.flat_role.specs.ReadySteps.{IsOfUpdate, IsOwn, IsStepFor}
-use Rattle.flat_role.specs.Replacing.{IsRoomAt, replaces, replacing}
+use Rattle.flat_role.specs.PlanMarks.{low_at, mark_in, plan_layout, plan_len, plan_marks, static_at}
+use Rattle.flat_role.specs.Progress.{AreOf, IsFound, IsProgress, marks_by, runs_by}
+use Rattle.flat_role.specs.ReadySteps.{IsOwn, IsOwnOf}
+use Rattle.flat_role.specs.Replacing.{IsRoomWhen, replaces, replacing}
+use Rattle.flat_role.specs.Running.{Running}
+use Rattle.flat_role.specs.Updates.{is_fresh}
 use Rattle.flat_role.proofs.ClimbLemmas.{is_touched, puts}
 use Rattle.flat_role.proofs.FoundLemmas.{found-acts, found-front, found-leaf, found-step, meant_own}
 use Rattle.flat_role.proofs.ProgressLemmas.{active-after, is-code}
-use Rattle.flat_role.proofs.StateLemmas.{flat-steps}
 use Rattle.process_steps.specs.Laws.{is_done}
 use Rattle.process_steps.specs.Steps.{Deed, Decision, after, ended, Given, FromBook, Keeps, Replaces, key, letters_to, step, store_after, telling}
 use Rattle.role_statuses.specs.Entering.{entered, stop}
@@ -99,6 +94,9 @@ scope_lead head others = record { head = head; others = others }
 
 some_is : {x y : Lead} → Some x ≡ Some y → x ≡ y
 some_is e = cc
+
+some_part : {x y : Process} → Some x ≡ Some y → x ≡ y
+some_part e = cc
 
 -- where the book keeps the scope, it doesn't matter what it says of others
 kept_start : (me : Role) (s : Store) (a : Act) (P : Process) (decide : ScopeHead → Decision)
@@ -197,7 +195,7 @@ under_done : (n : Attempt Deed Process) {d : Deed} {y : Status} → under Became
 under_done Stuck e = cc
 under_done (Does d Q) e = refl
 
-became_touched : (u : Box Update) → kept_marks.Became u ≡ kept_marks.Untouched → ⊥
+became_touched : (u : Box Running) → kept_marks.Became u ≡ kept_marks.Untouched → ⊥
 became_touched u e = cc
 
 -- its act writes nothing
@@ -218,12 +216,6 @@ pub not_itself : (m : KeptMark) (P : Process) (h : Handed) → stays_itself m P 
     → (m ≡ kept_marks.Untouched) × (replaces P h ≡ true)
 not_itself kept_marks.Untouched P h stays = (refl, not_false (replaces P h) stays)
 not_itself m P h stays = cc
-
--- an act of an update is one of the update at the place
-pub update-ready : (me : Role) (s : Store) (a : Act) (m : KeptMark) (P : Process)
-    (ready : UpdateReady) → IsStepFor me s a m P (steps.Updated ready) → IsUpdateAt me s a m ready
-update-ready me s a (kept_marks.Became u) P ready made = made
-update-ready me s a m P ready made = absurd made
 
 module _ (me : Role) (plan : Plan) (progress : Progress) (k : IsProgress me plan progress)
     (s t : Store) (a : Act) (h : Handed) (at place : ℕ)
@@ -345,9 +337,19 @@ module _ (me : Role) (plan : Plan) (progress : Progress) (k : IsProgress me plan
             (own_move.1 ∙ ap (Does whole.deed) status_is);
       }
 
+  -- what was made ready is that of what stands in front
+  own_front : (own : Own) → runs_update m ≡ false
+      → IsOwnOf me s a (runs_by me plan progress) (is_fresh m) own
+      → IsOwn me s R own × IsRoomWhen (is_fresh m) me R own.room
+  own_front own itself ready =
+      let part_is : ready.part ≡ R = some_part (sym ready.acts ∙ acts_own itself) in (
+        subst (λ F. IsOwn me s F own) part_is ready.made,
+        subst (λ F. IsRoomWhen (is_fresh m) me F own.room) part_is ready.room,
+      )
+
   -- an act of the code there, by what it comes to in each case
-  pub code-acted : (own : Own) (marks : List KeptMark) (over : Bool)
-      → IsStepFor me s a m P (steps.Own own)
+  pub code-acted : (own : Own) (marks : List KeptMark) (over : Bool) → runs_update m ≡ false
+      → IsOwnOf me s a (runs_by me plan progress) (is_fresh m) own
       → ((d : Deed) (y : Status) → IsActingBy me plan progress.marks.items place s own h a d y
       → ComesTo me plan progress.marks.items marks place over y
       × (t ≡ with_written (write_of own.write) (handed_value h) s))
@@ -355,94 +357,93 @@ module _ (me : Role) (plan : Plan) (progress : Progress) (k : IsProgress me plan
       → ComesTo me plan progress.marks.items marks place over (Became (replacing me P h))
       × (t ≡ with_written (write_of own.write) None s))
       → IsActed me plan progress s t a h place marks over
-  code-acted own marks over ready moves replaces_it = by_case (stays_itself m P h) refl
+  code-acted own marks over itself ready moves replaces_it = by_case (stays_itself m P h) refl
     where
       by_case : (b : Bool) → stays_itself m P h ≡ b
           → IsActed me plan progress s t a h place marks over
-      by_case true stays = own-acted own marks over ready.0 ready.1.0 stays
+      by_case true stays =
+          let made = own_front own itself ready in
+          own-acted own marks over itself made.0 stays
           (λ d y does. moves d y (record {
             goes = record {
               leaf = found-leaf me plan progress k a at place found;
-              own_mark = ready.0;
-              picks = ready.1.0.pick;
+              own_mark = itself;
+              picks = made.0.pick;
               stays = stays;
               moves = does;
             };
-            room = ready.1.1;
+            room = made.1;
           }))
       by_case false stays =
+          let made = own_front own itself ready in
           let other = not_itself m P h stays in
           let both = replaces_it (record {
             untouched = other.0;
-            room = subst (λ n. IsRoomAt me n P own.room) other.0 ready.1.1;
+            room = subst (λ n. IsRoomWhen (is_fresh n) me (front me (meant me P n) P) own.room)
+                other.0 made.1;
             replaced = other.1;
           }) in
-          other-acted own marks over other.0 ready.1.0 other.1 both.0 both.1
+          other-acted own marks over other.0 made.0 other.1 both.0 both.1
 
-  -- an act of the update there
-  pub update-acted : (ready : UpdateReady) (marks : List KeptMark) (over : Bool)
-      → place < length progress.marks.items → IsUpdateAt me s a m ready
-      → IsUpdatedIn me a h progress.marks.items marks place ready over
-      → t ≡ with_written (write_of ready.write) (handed_value h) s
-      → IsActed me plan progress s t a h place marks over
-  update-acted ready marks over inside here updated stored =
-      by_marks m updated.now refl refl here updated.to
-    where
-      by_update : (u v : Box Update) → m ≡ kept_marks.Became u
-          → updated.now ≡ kept_marks.Became v → IsOfUpdate me s a u.value ready
-          → (update_process v.value ≡ replaced me a (update_process u.value)
-          (flat_grown (processes u.value.code.code.ops.items) ready.growth h))
-          × (over ≡ ended (update_process v.value))
-          → IsActed me plan progress s t a h place marks over
-      by_update u v was now made to =
-          let old : Process = update_process u.value in
-          let new : Process = update_process v.value in
-          let status : status_at ms place ≡ Became old =
-          ap (λ n. marked (meant me P n) Finished Finished) was in
-          let acts : acting me a (runs_by me plan progress) ≡ Some made.part =
-          found-front me plan progress k a at place found
-          ∙ ap (λ n. acting me a (front me (meant me P n) P)) was ∙ made.acts in
-          let can_old : IsEnabled (local me old s) a h =
-          under_done (step me s old a (given_like h))
-          (ap (λ x. move me s x P a (given_like h)) (sym status) ∙ first_move.1.1) in
+  -- an act of the update there, which does what it does by itself
+  module _ (u v : Box Running) (was : m ≡ kept_marks.Became u)
+      (inside : place < length progress.marks.items) where
+    abbrev old : Process
+    old = u.value.process
+
+    abbrev new : Process
+    new = v.value.process
+
+    status : status_at ms place ≡ Became old
+    status = ap (λ n. marked (meant me P n) Finished Finished) was
+
+    pub update-front : acting me a (runs_by me plan progress) ≡ acting me a old
+    update-front = found-front me plan progress k a at place found
+        ∙ ap (λ n. acting me a (front me (meant me P n) P)) was
+
+    pub update-can : IsEnabled (local me old s) a h
+    update-can = under_done (step me s old a (given_like h))
+        (ap (λ x. move me s x P a (given_like h)) (sym status) ∙ first_move.1.1)
+
+    pub update-own : (own : Own) → IsOwnOf me s a (runs_by me plan progress) (is_fresh m) own
+        → IsOwnOf me s a old u.value.fresh own
+    update-own own ready = record {
+      part = ready.part;
+      acts = sym update-front ∙ ready.acts;
+      made = ready.made;
+      room = subst (λ b. IsRoomWhen b me ready.part own.room) (ap is_fresh was) ready.room;
+    }
+
+    pub update-acted : (over : Bool) → over ≡ ended new
+        → ((given : Given) → Brings (local me old s) a h given
+        → IsStep (local me old s) a given (local me new t))
+        → IsActed me plan progress s t a h place
+        (set progress.marks.items place (kept_marks.Became v)) over
+    update-acted over ends steps = record {
+      y = Became new;
+      comes = record {
+        written = puts me plan progress.marks.items place (kept_marks.Became v) inside
+            (became_touched v);
+        over_is = ends;
+      };
+      keeps = (S.replaced new).0;
+      lists = λ T. (T.replaced new).1;
+      steps = λ given brings.
+          let own = steps given
+          (subst (λ p. StandsFor me (option_and_then lead_of p) h given) update-front brings) in
+          let left : new ≡ own.left = ap (λ l. l.process) own.becomes in
+          let moves : move me s (status_at ms place) P a given ≡ Does own.deed (Became new) =
+          ap (λ x. move me s x P a given) status ∙ ap (under Became) own.does
+          ∙ ap (λ Q. Does own.deed (Became Q)) (sym left) in
           record {
-            y = Became new;
-            comes = record {
-              written = ap (plan_marks me plan) updated.set
-                  ∙ puts me plan progress.marks.items place updated.now inside
-                  (λ e. became_touched v (sym now ∙ e))
-                  ∙ ap (λ n. write ms (low_at plan place) place P (meant me P n)) now;
-              over_is = to.1;
-            };
-            keeps = (S.replaced new).0;
-            lists = λ T. (T.replaced new).1;
-            steps = λ given brings.
-                let stands : StandsFor me (lead_of made.part) h given =
-                stands_as made.part acts given brings in
-                let own = flat-steps u.value.code.code.ops.items me s a old ready made.acts
-                made.made h can_old given
-                (subst (λ p. StandsFor me (option_and_then lead_of p) h given) (sym made.acts)
-                stands) in
-                let left : new ≡ own.left = to.0 ∙ ap (λ l. l.process) own.becomes in
-                let moves : move me s (status_at ms place) P a given ≡ Does own.deed (Became new) =
-                ap (λ x. move me s x P a given) status ∙ ap (under Became) own.does
-                ∙ ap (λ Q. Does own.deed (Became Q)) (sym left) in
-                record {
-                  deed = own.deed;
-                  left = running me (marks_after me plan progress place (Became new)) W;
-                  does = (S.does s given own.deed (Became new) moves).0.steps;
-                  becomes = ap
-                      (local me (running me (marks_after me plan progress place (Became new)) W))
-                      (stored ∙ ap (λ l. l.store) own.becomes);
-                };
-          }
-
-      by_marks : (n o : KeptMark) → m ≡ n → updated.now ≡ o → IsUpdateAt me s a n ready
-          → IsUpdatedTo me a h n o ready over → IsActed me plan progress s t a h place marks over
-      by_marks (kept_marks.Became u) (kept_marks.Became v) was now made to =
-          by_update u v was now made to
-      by_marks (kept_marks.Became u) o was now made to = absurd to
-      by_marks n o was now made to = absurd made
+            deed = own.deed;
+            left = running me (marks_after me plan progress place (Became new)) W;
+            does = (S.does s given own.deed (Became new) moves).0.steps;
+            becomes = ap
+                (local me (running me (marks_after me plan progress place (Became new)) W))
+                (ap (λ l. l.store) own.becomes);
+          };
+    }
 
 -- Once the constructs around the place have followed, and others can act in its place.
 module _ (me : Role) (plan : Plan) (old new : Progress) (k : IsProgress me plan old)
@@ -533,8 +534,9 @@ module _ (me : Role) (plan : Plan) (old new : Progress) (k : IsProgress me plan 
       → new.active.items ≡ take at old.active.items
       ++ (entered_places me plan new.marks.items q ++ drop (at + 1) old.active.items)
       → vec_capacity new.active ≡ vec_capacity old.active
-      → vec_capacity new.fresh ≡ vec_capacity old.fresh → IsProgress me plan new
-  progress-after q as_long marks_is stop_is listed room spare = record {
+      → vec_capacity new.fresh ≡ vec_capacity old.fresh → AreOf me new.marks.items
+      → IsProgress me plan new
+  progress-after q as_long marks_is stop_is listed room spare mine = record {
     as_long = as_long;
     kept = subst (λ ns. IsKept me ns V) (sym marks_is) acted.keeps;
     listed = listed
@@ -543,6 +545,7 @@ module _ (me : Role) (plan : Plan) (old new : Progress) (k : IsProgress me plan 
         ∙ sym listed_after ∙ ap (λ ns. active me ns V) (sym marks_is);
     room = subst (λ c. plan_len plan ≤ c) (sym room) k.room;
     spare = subst (λ c. plan_len plan ≤ c) (sym spare) k.spare;
+    mine = mine;
   }
 
   pub steps-after : marks_by me plan new ≡ later → (given : Given)

@@ -17,7 +17,7 @@ use Rattle.flat_code.proofs.HangLemmas.{places_hang}
 use Rattle.flat_role.specs.declared.marks.Mark.{Mark as KeptMark}
 use Rattle.flat_role.specs.declared.marks.Mark.TheVariants as kept
 use Rattle.flat_role.specs.Entering.{RunsAlone, how_many, is_new, is_other, is_nothing, running_parts, still_places}
-use Rattle.flat_role.specs.KeptMarks.{awaited, end_keys, first_letters, gathered, last_keys, last_letters, left, letters_from, meant, told, update_process}
+use Rattle.flat_role.specs.KeptMarks.{awaited, end_keys, first_letters, gathered, last_keys, last_letters, left, letters_from, meant, told}
 use Rattle.dpoc_process.specs.Acting.{is_single}
 use Rattle.flat_role.specs.Leaves.{is_leaf}
 use Rattle.flat_role.specs.PlanMarks.{low_at, places_at, plan_len, plan_marks, static_at}
@@ -238,7 +238,7 @@ module _ (me : Role) where
   alone_shown done b kept.Ending o x y e h = lone b Ending (op_process done o) refl
   alone_shown done b (kept.Left n) o x y e h = left_alone b (letters_from n (last_letters me (op_process done o))) x y (op_process done o)
   alone_shown done b (kept.Waiting n) o x y e h = awaited_alone b (drop n (last_keys me (op_process done o))) x y (op_process done o)
-  alone_shown done b (kept.Became update) o x y e h = lone b (Became (update_process update.value)) (op_process done o) refl
+  alone_shown done b (kept.Became update) o x y e h = lone b (Became update.value.process) (op_process done o) refl
 
 -- The statuses of the parts.
 

@@ -12,4 +12,5 @@ is-progress flat = record {
   listed = flat.listed;
   room = flat.room;
   spare = flat.spare;
+  mine = flat.mine;
 }

@@ -25,7 +25,7 @@ use Rattle.flat_role.specs.declared.progress.Progress.{Progress}
 use Rattle.flat_role.specs.KeptMarks.{end_keys, first_letters, last_keys, last_letters, letters_from, meant}
 use Rattle.flat_role.specs.Leaves.{front, is_became, is_leaf}
 use Rattle.flat_role.specs.PlanMarks.{plan_layout, plan_len, plan_marks, static_at}
-use Rattle.flat_role.specs.Progress.{IsFound, IsProgress, marks_by, offers_there, runs_by}
+use Rattle.flat_role.specs.Progress.{AreOf, IsFound, IsProgress, marks_by, offers_there, runs_by}
 use Rattle.flat_role.specs.MovedMarks.{runs_update}
 use Rattle.process_steps.specs.Steps.{is_offered, offers}
 use Rattle.role_statuses.proofs.ListLemmas.{places-are_listed}
@@ -181,14 +181,15 @@ same_process me plan marks place m n inside is same = fun_ext (λ k. ⊎_elim
 pub progress-again : (me : Role) (plan : Plan) (old new : Progress)
     → length new.marks.items ≡ length old.marks.items → new.active ≡ old.active
     → new.fresh ≡ old.fresh → marks_by me plan new ≡ marks_by me plan old
-    → IsProgress me plan old → IsProgress me plan new
-progress-again me plan old new longer active_is fresh_is same k = record {
+    → AreOf me new.marks.items → IsProgress me plan old → IsProgress me plan new
+progress-again me plan old new longer active_is fresh_is same mine k = record {
   as_long = longer ∙ k.as_long;
   kept = subst (λ ms. IsKept me ms (process_of plan.code)) (sym same) k.kept;
   listed = ap (λ v. v.items) active_is ∙ k.listed
       ∙ sym (ap (λ ms. active me ms (process_of plan.code)) same);
   room = subst (λ v. plan_len plan ≤ vec_capacity v) (sym active_is) k.room;
   spare = subst (λ v. plan_len plan ≤ vec_capacity v) (sym fresh_is) k.spare;
+  mine = mine;
 }
 
 pub found-again : (me : Role) (plan : Plan) (old new : Progress) → new.active ≡ old.active

@@ -6,9 +6,9 @@ use Rattle.dioc_terms.specs.Processes.{Process, Letters, Nothing, More}
 use Rattle.flat_code.specs.declared.plan.Plan.{Plan}
 use Rattle.flat_role.specs.declared.marks.Mark.{Mark as KeptMark}
 use Rattle.flat_role.specs.declared.marks.Mark.TheVariants as kept_mark
-use Rattle.flat_role.specs.Advancing.{entered_places, mark_in}
+use Rattle.flat_role.specs.Advancing.{entered_places}
 use Rattle.flat_role.specs.KeptMarks.{awaited, end_keys, first_letters, gathered, last_keys, last_letters, left, letters_from, meant, told}
-use Rattle.flat_role.specs.PlanMarks.{low_at, places_at, plan_marks, static_at}
+use Rattle.flat_role.specs.PlanMarks.{mark_in, low_at, places_at, plan_marks, static_at}
 use Rattle.role_statuses.specs.Entering.{is_both}
 use Rattle.role_statuses.specs.Kept.{kept}
 use Rattle.role_statuses.specs.ListLaws.{places_of}

@@ -18,10 +18,10 @@ use Rattle.flat_role.specs.declared.leaves.Next.{Next}
 use Rattle.flat_role.specs.declared.leaves.Next.TheVariants as next
 use Rattle.flat_role.specs.declared.marks.Mark.{Mark as KeptMark}
 use Rattle.flat_role.specs.declared.marks.Mark.TheVariants as kept
-use Rattle.flat_role.specs.Growths.{is_single_op}
 use Rattle.flat_role.specs.KeptMarks.{awaited, gathered, left, letters_from, meant, told}
-use Rattle.flat_role.specs.Leaves.{IsNext, front, is_became, is_leaf, is_single_next, is_update}
-use Rattle.flat_role.specs.PlanMarks.{plan_len, plan_marks, static_at}
+use Rattle.flat_role.specs.Leaves.{IsNext, front, is_became, is_leaf, is_single_next, is_single_op}
+use Rattle.flat_role.specs.PlanMarks.{mark_in, plan_len, plan_marks, static_at}
+use Rattle.flat_role.specs.MovedMarks.{runs_update}
 use Rattle.process_steps.specs.Steps.{key, letters_to}
 use Rattle.role_statuses.specs.Marks.{Mark}
 
@@ -89,12 +89,37 @@ module _ (me : Role) (plan : Plan) (marks : List KeptMark) (place : ℕ)
       subst (λ R. IsNext me n R)
       (sym (ap₂ (λ k Q. front me (meant me Q k) Q) (mark_is r m read is) static)) there
 
-  pub apart_meant : {r m : KeptMark} → r ≡ get_or marks place r → r ≡ m
-      → {P : Process} → static_at plan place ≡ P
-      → {b : Bool} → b ≡ is_became (meant me P m)
-      → b ≡ is_became (plan_marks me plan marks place)
-  apart_meant {r} {m} read is {P} static there =
-      there ∙ sym (ap₂ (λ k Q. is_became (meant me Q k)) (mark_is r m read is) static)
+-- no other process runs there
+pub own_read : (plan : Plan) (marks : List KeptMark) (place : ℕ) → place < plan_len plan
+    → length marks ≡ plan_len plan → {r : KeptMark} → r ≡ get_or marks place r
+    → runs_update (mark_in marks place) ≡ false → (update : _) → r ≡ kept.Became update → ⊥
+own_read plan marks place inside as_long {r} read own update is =
+    let here : mark_in marks place ≡ r =
+    get_or_default marks place kept.Untouched r (omega (arith, inside, as_long)) ∙ sym read in
+    let ran : runs_update (mark_in marks place) ≡ true = ap runs_update (here ∙ is) in
+    both_ways (sym own ∙ ran)
+  where
+    both_ways : false ≡ true → ⊥
+    both_ways e = cc
+
+not_update : (m : KeptMark) → ((update : _) → m ≡ kept.Became update → ⊥)
+    → runs_update m ≡ false
+not_update (kept.Became update) other = absurd (other update refl)
+not_update m other = refl
+
+-- and so it is where what is read there says so
+pub read_own : (marks : List KeptMark) (place : ℕ) → place < length marks → {r : KeptMark}
+    → r ≡ get_or marks place r → ((update : _) → r ≡ kept.Became update → ⊥)
+    → runs_update (mark_in marks place) ≡ false
+read_own marks place inside {r} read other =
+    ap runs_update (get_or_default marks place kept.Untouched r inside ∙ sym read)
+    ∙ not_update r other
+
+-- what is read where another process runs
+pub read_update : (marks : List KeptMark) (place : ℕ) → place < length marks → {r m : KeptMark}
+    → r ≡ get_or marks place r → r ≡ m → mark_in marks place ≡ m
+read_update marks place inside {r} {m} read is =
+    get_or_default marks place kept.Untouched r inside ∙ sym read ∙ is
 
 -- with other marks nothing is next
 pub other_meant : (me : Role) (P : Process) (m : KeptMark)
@@ -122,13 +147,12 @@ single_op parts (op.Seq p q) h = cc
 single_op parts (op.Par p q) h = cc
 single_op parts o h = refl
 
--- what is next is neither a sequence nor a parallel, unless another process runs there
+-- what is next is neither a sequence nor a parallel, where no other process runs
 pub single_next : (me : Role) (m : Mark) (P : Process) (n : Next) → is_leaf m P ≡ true
-    → IsNext me n (front me m P) → is_update n ≡ is_became m → is_single_next n ≡ true
-single_next me m P (next.Op o) leaf is apart =
-    single_op is.0 o.now
-    (sym (ap is_single is.1) ∙ front_single me m P leaf (sym apart))
-single_next me m P n leaf is apart = refl
+    → is_became m ≡ false → IsNext me n (front me m P) → is_single_next n ≡ true
+single_next me m P (next.Op o) leaf own is =
+    single_op is.0 o.now (sym (ap is_single is.1) ∙ front_single me m P leaf own)
+single_next me m P n leaf own is = refl
 
 -- the same acts by another name
 pub added : {T E : Type 0} (r : Result T E) (old new : List Act) {xs ys : List Act} → xs ≡ ys

@@ -24,7 +24,7 @@ use Rattle.flat_role.specs.declared.progress.Progress.{Progress}
 use Rattle.flat_role.specs.KeptMarks.{meant}
 use Rattle.flat_role.specs.Leaves.{is_leaf}
 use Rattle.flat_role.specs.PlanMarks.{low_at, places_at, plan_layout, plan_len, plan_marks, static_at}
-use Rattle.flat_role.specs.Progress.{IsFound, IsProgress, marks_by, offers_there, runs_by}
+use Rattle.flat_role.specs.Progress.{AreOf, IsFound, IsProgress, marks_by, offers_there, runs_by}
 use Rattle.flat_role.proofs.SpotLeaves.{whole-acts}
 use Rattle.process_steps.specs.Steps.{ended, is_offered, offers}
 use Rattle.role_statuses.specs.Flat.{Marks, inner}
@@ -79,14 +79,14 @@ none_test [] t h k = sym (h refl)
 none_test (x ∷ xs) false h k = grind (arith, nat_tests)
 none_test (x ∷ xs) true h k = let e : x ∷ xs ≡ [] = k refl in cc
 
-same_everywhere : (n i : ℕ) → get_or (replicate n kept_mark.Untouched) i kept_mark.Untouched ≡ kept_mark.Untouched
+pub same_everywhere : (n i : ℕ) → get_or (replicate n kept_mark.Untouched) i kept_mark.Untouched ≡ kept_mark.Untouched
 same_everywhere n i = ⊎_elim
     (λ inside. get_or-replicate n i kept_mark.Untouched kept_mark.Untouched inside)
     (λ past. get_or_past (replicate n kept_mark.Untouched) i kept_mark.Untouched (omega (arith, past, length-replicate n kept_mark.Untouched)))
     (cases_lt i n)
 
 -- none of the first so many passes
-none_passes : (p : ℕ → Bool) (xs : List ℕ) (n : ℕ) → n ≤ length xs → ((k : ℕ) → k < n → p (get_or xs k 0) ≡ false) → list_any p (take n xs) ≡ false
+pub none_passes : (p : ℕ → Bool) (xs : List ℕ) (n : ℕ) → n ≤ length xs → ((k : ℕ) → k < n → p (get_or xs k 0) ≡ false) → list_any p (take n xs) ≡ false
 none_passes p xs n le none = list_any_none p (take n xs) (All-from_get_or (λ x. p x ≡ false) (take n xs) 0 at)
   where
     at : (i : ℕ) → i < length (take n xs) → p (get_or (take n xs) i 0) ≡ false
@@ -207,13 +207,15 @@ module _ (me : Role) (plan : Plan) where
 
   pub begins : (progress : Progress) → progress.marks.items ≡ replicate (plan_len plan) kept_mark.Untouched
       → progress.active.items ≡ places_at me plan progress.marks.items plan.code.start
-      → plan_len plan ≤ vec_capacity progress.active → plan_len plan ≤ vec_capacity progress.fresh → IsProgress me plan progress
-  begins progress fresh places room spare = record {
+      → plan_len plan ≤ vec_capacity progress.active → plan_len plan ≤ vec_capacity progress.fresh
+      → AreOf me progress.marks.items → IsProgress me plan progress
+  begins progress fresh places room spare mine = record {
     as_long = ap length fresh ∙ length-replicate (plan_len plan) kept_mark.Untouched;
     kept = subst (λ ms. IsKept me ms (process_of plan.code)) (sym (ap (plan_marks me plan) fresh ∙ fresh_marks)) (marks-are_exact.begins me (process_of plan.code)).0;
     listed = places ∙ places-whole progress.marks.items;
     room = room;
     spare = spare;
+    mine = mine;
   }
 
   pub begins-with : (progress : Progress) → progress.marks.items ≡ replicate (plan_len plan) kept_mark.Untouched

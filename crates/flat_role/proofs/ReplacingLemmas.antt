@@ -1,69 +1,69 @@
 -- What is made ready at a place is what another process there needs.
-use Rattle.std.proofs.Common.{◌≡◌, List, true, length, None, refl, ap, ◌∙◌}
+use Rattle.std.proofs.Common.{◌≡◌, List, Option, None, Some, false, true, refl, sym, subst, ap, ◌∙◌}
 use Rattle.dioc_terms.specs.declared.names.Index.{Index}
 use Rattle.dioc_terms.specs.declared.names.Role.{Role}
 use Rattle.dioc_terms.specs.declared.processes.Key.{Key}
 use Rattle.dioc_terms.specs.declared.processes.ScopeHead.{ScopeHead}
-use Rattle.dioc_terms.specs.Processes.{Process, ScopeLead, ScopeFollow, Tell, Letters, More, Load, Val, Flag, Keep, Part, Done}
-use Rattle.dpoc_process.specs.Changes.{Becomes}
+use Rattle.dioc_terms.specs.Processes.{Process, ScopeLead, ScopeFollow, Tell, Letters, More, Load, Val, Flag, Keep, Part, Done, letters, process}
 use Rattle.dpoc_process.specs.Growth.{follower_end, leader_end}
 use Rattle.dpoc_process.specs.Handed.{Handed, Empty, Message, Kept, Parted}
-use Rattle.flat_code.specs.Places.{processes}
-use Rattle.flat_role.specs.declared.frames.Frame.{Frame}
-use Rattle.flat_role.specs.declared.growth.Growth.TheVariants as grow
+use Rattle.flat_role.specs.declared.replacing.Follow.{Follow}
+use Rattle.flat_role.specs.declared.replacing.Lead.{Lead}
+use Rattle.flat_role.specs.declared.replacing.Room.{Room}
+use Rattle.flat_role.specs.declared.replacing.What.TheVariants as what
 use Rattle.flat_role.specs.declared.marks.Mark.{Mark as KeptMark}
 use Rattle.flat_role.specs.declared.marks.Mark.TheVariants as kept
-use Rattle.flat_role.specs.declared.replacing.Kind.TheVariants as kind
-use Rattle.flat_role.specs.declared.replacing.Room.{Room}
-use Rattle.flat_role.specs.Frames.{frame_process}
-use Rattle.flat_role.specs.Growths.{IsFollowing, IsLeading, flat_grown}
-use Rattle.flat_role.specs.Replacing.{IsRoom, IsRoomAt, comes, replaces, replacing}
-use Rattle.process_steps.specs.Steps.{telling}
+use Rattle.flat_role.specs.declared.replacing.What.{What}
+use Rattle.flat_role.specs.MovedMarks.{runs_update}
+use Rattle.flat_role.specs.Updates.{is_fresh}
+use Rattle.flat_role.specs.Replacing.{IsRoom, IsRoomFor, IsRoomWhen, comes, coming, replaces, replacing}
+use Rattle.process_steps.specs.Steps.{after, telling}
 
-pub leads_room : (me : Role) (head : ScopeHead) (others : List Role) (P first body : Process)
-    (room : Room) → room.kind ≡ kind.Leads
-    → IsLeading (processes room.update.value.code.code.ops.items)
-    (length room.update.value.code.code.ops.items) first body
-    (leader_end me others head.index) room.growth
+pub leads_room : (me : Role) (head : ScopeHead) (others : List Role) (P : Process) (lead : Lead)
+    (room : Room) → room.me.value ≡ me → room.what ≡ what.Leads lead
+    → process lead.last.value ≡ leader_end me others head.index
     → IsRoom me (ScopeLead head others P) room
-leads_room me head others P first body room is leads =
-    record { grows = grows; when = λ h. ap (λ k. comes k h) is ∙ when h }
+leads_room me head others P lead room role is last = record {
+  role = role;
+  grows = λ h came. ap (λ w. coming w h) is ∙ grows h came;
+  when = λ h. ap (λ w. comes w h) is ∙ when h;
+}
   where
     grows : (h : Handed) → replaces (ScopeLead head others P) h ≡ true
-        → flat_grown (processes room.update.value.code.code.ops.items) room.growth h
-        ≡ Becomes (replacing me (ScopeLead head others P) h)
+        → coming (what.Leads lead) h ≡ replacing me (ScopeLead head others P) h
     grows Empty came = cc
     grows (Message l) came = cc
     grows Kept came = cc
-    grows (Parted own ms) came = leads.grows (Parted own ms)
+    grows (Parted own ms) came = ap (λ R. after (telling ms) (after own R)) last
 
-    when : (h : Handed) → comes kind.Leads h ≡ replaces (ScopeLead head others P) h
+    when : (h : Handed) → comes (what.Leads lead) h ≡ replaces (ScopeLead head others P) h
     when Empty = refl
     when (Message l) = refl
     when Kept = refl
     when (Parted own ms) = refl
 
-pub follows_room : (me : Role) (i : Index) (leader : Role) (P body : Process) (room : Room)
-    → room.kind ≡ kind.Follows
-    → IsFollowing (processes room.update.value.code.code.ops.items)
-    (length room.update.value.code.code.ops.items) body (follower_end me leader i) room.growth
+pub follows_room : (me : Role) (i : Index) (leader : Role) (P : Process) (follow : Follow)
+    (room : Room) → room.me.value ≡ me → room.what ≡ what.Follows follow
+    → process follow.last.value ≡ follower_end me leader i
     → IsRoom me (ScopeFollow i leader P) room
-follows_room me i leader P body room is follows =
-    record { grows = grows; when = λ h. ap (λ k. comes k h) is ∙ when h }
+follows_room me i leader P follow room role is last = record {
+  role = role;
+  grows = λ h came. ap (λ w. coming w h) is ∙ grows h came;
+  when = λ h. ap (λ w. comes w h) is ∙ when h;
+}
   where
     grows : (h : Handed) → replaces (ScopeFollow i leader P) h ≡ true
-        → flat_grown (processes room.update.value.code.code.ops.items) room.growth h
-        ≡ Becomes (replacing me (ScopeFollow i leader P) h)
+        → coming (what.Follows follow) h ≡ replacing me (ScopeFollow i leader P) h
     grows Empty came = cc
     grows (Message (Val x)) came = cc
     grows (Message (Flag b)) came = cc
     grows (Message Keep) came = cc
-    grows (Message (Part n Q)) came = follows.grows (Message (Part n Q))
+    grows (Message (Part n Q)) came = ap (after Q) last
     grows (Message Done) came = cc
     grows Kept came = cc
     grows (Parted own ms) came = cc
 
-    when : (h : Handed) → comes kind.Follows h ≡ replaces (ScopeFollow i leader P) h
+    when : (h : Handed) → comes (what.Follows follow) h ≡ replaces (ScopeFollow i leader P) h
     when Empty = refl
     when (Message (Val x)) = refl
     when (Message (Flag b)) = refl
@@ -73,18 +73,25 @@ follows_room me i leader P body room is follows =
     when Kept = refl
     when (Parted own ms) = refl
 
-pub tells_room : (me : Role) (k : Key) (l : Load) (ms : Letters) (F : Frame) (room : Room)
-    → room.kind ≡ kind.Tells → room.growth ≡ grow.Certain F
-    → ((done : List Process) → frame_process done F ≡ telling ms)
+pub tells_room : (me : Role) (k : Key) (l : Load) (ms : Letters) (room : Room) {left : _}
+    → room.me.value ≡ me → room.what ≡ what.Tells left → letters left.value ≡ ms
     → IsRoom me (Tell (More k l ms)) room
-tells_room me k l ms F room is grows stands =
-    let done : List Process = processes room.update.value.code.code.ops.items in record {
-      grows = λ h came. ap (λ g. flat_grown done g h) grows ∙ ap Becomes (stands done);
-      when = λ h. ap (λ k. comes k h) is;
-    }
+tells_room me k l ms room {left} role is rest = record {
+  role = role;
+  grows = λ h came. ap (λ w. coming w h) is ∙ ap telling rest;
+  when = λ h. ap (λ w. comes w h) is;
+}
 
 -- there is none for a later act of the place
-pub later_room : (me : Role) (m : KeptMark) (P : Process) → (m ≡ kept.Untouched → ⊥)
-    → IsRoomAt me m P None
-later_room me kept.Untouched P later = absurd (later refl)
-later_room me m P later = refl
+pub later_room : (me : Role) (m : KeptMark) (R : Process) → (m ≡ kept.Untouched → ⊥)
+    → runs_update m ≡ false → IsRoomWhen (is_fresh m) me R None
+later_room me kept.Untouched R later own = absurd (later refl)
+later_room me (kept.Became update) R later own = cc
+later_room me m R later own = refl
+
+-- room that was made for this is room for it
+pub made_for : (me : Role) (R : Process) (w : What) (o : Option Room)
+    → ((room : Room) → room.me.value ≡ me → room.what ≡ w → IsRoom me R room)
+    → (made : Room) × (o ≡ Some made) × (made.what ≡ w) × (made.me.value ≡ me)
+    → IsRoomFor me R o
+made_for me R w o is made = subst (IsRoomFor me R) (sym made.1) (is made.0 made.3 made.2)

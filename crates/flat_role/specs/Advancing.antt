@@ -6,28 +6,24 @@ use Rattle.dioc_terms.specs.Attempts.{Does}
 use Rattle.dioc_terms.specs.Processes.{Process}
 use Rattle.dioc_terms.specs.Stores.{Store}
 use Rattle.dioc_terms.specs.Values.{is_true}
-use Rattle.dpoc_process.specs.Changes.{replaced}
 use Rattle.dpoc_process.specs.Growth.{value_at}
 use Rattle.dpoc_process.specs.Handed.{Handed, Brings, given_like}
 use Rattle.dpoc_process.specs.RoleLaws.{local}
 use Rattle.dpoc_process.specs.RoleSteps.{IsStep}
 use Rattle.flat_code.specs.Codes.{process_of}
 use Rattle.flat_code.specs.declared.plan.Plan.{Plan}
-use Rattle.flat_code.specs.Places.{processes}
 use Rattle.flat_role.specs.declared.marks.Mark.{Mark as KeptMark}
 use Rattle.flat_role.specs.declared.marks.Mark.TheVariants as kept_marks
 use Rattle.flat_role.specs.declared.progress.Progress.{Progress}
-use Rattle.flat_role.specs.declared.ready.Ready.{Ready as UpdateReady}
 use Rattle.flat_role.specs.declared.steps.Own.{Own}
-use Rattle.flat_role.specs.Growths.{flat_grown}
-use Rattle.flat_role.specs.KeptMarks.{meant, update_process}
+use Rattle.flat_role.specs.KeptMarks.{meant}
 use Rattle.flat_role.specs.Leaves.{front, is_leaf}
 use Rattle.flat_role.specs.MovedMarks.{runs_update, stays_itself}
-use Rattle.flat_role.specs.PlanMarks.{low_at, plan_layout, plan_len, plan_marks, static_at}
+use Rattle.flat_role.specs.PlanMarks.{low_at, mark_in, plan_layout, plan_len, plan_marks, static_at}
 use Rattle.flat_role.specs.Progress.{marks_by, runs_by}
-use Rattle.flat_role.specs.ReadySteps.{IsOfUpdate}
-use Rattle.flat_role.specs.Replacing.{IsRoomAt, IsRoomFor, replaces}
-use Rattle.process_steps.specs.Steps.{Deed, Given, ended}
+use Rattle.flat_role.specs.Replacing.{IsRoomFor, IsRoomWhen, replaces}
+use Rattle.flat_role.specs.Updates.{is_fresh}
+use Rattle.process_steps.specs.Steps.{Deed, Given}
 use Rattle.role_statuses.specs.Entering.{entered, stop}
 use Rattle.role_statuses.specs.Flat.{Marks, mark_of}
 use Rattle.role_statuses.specs.Kept.{IsKept, kept, running}
@@ -37,9 +33,6 @@ use Rattle.role_statuses.specs.Moves.{move}
 use Rattle.role_statuses.specs.PlaceLaws.{IsPlaceStep, status_at, stepped}
 use Rattle.role_statuses.specs.Spots.{spots}
 use Rattle.role_statuses.specs.Statuses.{Status, is_over}
-
-abbrev pub mark_in : List KeptMark → ℕ → KeptMark
-mark_in marks place = get_or marks place kept_marks.Untouched
 
 -- what acts at a place
 abbrev pub front_in : Role → Plan → List KeptMark → ℕ → Process
@@ -69,7 +62,7 @@ pub record IsGoing (me : Role) (plan : Plan) (marks : List KeptMark) (place : �
 pub record IsActingBy (me : Role) (plan : Plan) (marks : List KeptMark) (place : ℕ) (s : Store)
     (own : Own) (h : Handed) (a : Act) (d : Deed) (y : Status) : Type 0 where
   pub goes : IsGoing me plan marks place s own.pick h a d y
-  pub room : IsRoomAt me (mark_in marks place) (static_at plan place) own.room
+  pub room : IsRoomWhen (is_fresh (mark_in marks place)) me (front_in me plan marks place) own.room
 
 -- another process comes in its place
 pub record IsReplacedBy (me : Role) (plan : Plan) (marks : List KeptMark) (place : ℕ) (own : Own)
@@ -77,26 +70,6 @@ pub record IsReplacedBy (me : Role) (plan : Plan) (marks : List KeptMark) (place
   pub untouched : mark_in marks place ≡ kept_marks.Untouched
   pub room : IsRoomFor me (static_at plan place) own.room
   pub replaced : replaces (static_at plan place) h ≡ true
-
--- what was made ready of an act of the update there
-abbrev pub IsUpdateAt : Role → Store → Act → KeptMark → UpdateReady → Type 0
-IsUpdateAt me s a (kept_marks.Became update) ready = IsOfUpdate me s a update.value ready
-IsUpdateAt me s a m ready = ⊥
-
--- what the act makes of the update there
-abbrev pub IsUpdatedTo : Role → Act → Handed → KeptMark → KeptMark → UpdateReady → Bool → Type 0
-IsUpdatedTo me a h (kept_marks.Became old) (kept_marks.Became new) ready over =
-    (update_process new.value ≡ replaced me a (update_process old.value)
-    (flat_grown (processes old.value.code.code.ops.items) ready.growth h))
-    × (over ≡ ended (update_process new.value))
-IsUpdatedTo me a h m n ready over = ⊥
-
--- the mark there is that of the update after the act, and all others are as they were
-pub record IsUpdatedIn (me : Role) (a : Act) (h : Handed) (old new : List KeptMark) (place : ℕ)
-    (ready : UpdateReady) (over : Bool) : Type 0 where
-  pub now : KeptMark
-  pub set : new ≡ set old place now
-  pub to : IsUpdatedTo me a h (mark_in old place) now ready over
 
 -- the places that can act where it goes on
 abbrev pub entered_places : Role → Plan → List KeptMark → Option ℕ → List ℕ

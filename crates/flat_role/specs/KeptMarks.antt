@@ -8,8 +8,6 @@ use Rattle.flat_code.specs.declared.ops.Op.{Op}
 use Rattle.flat_code.specs.Places.{at, processes}
 use Rattle.flat_role.specs.declared.marks.Mark.{Mark as KeptMark}
 use Rattle.flat_role.specs.declared.marks.Mark.TheVariants as kept
-use Rattle.flat_role.specs.declared.marks.Update.{Update}
-use Rattle.flat_role.specs.Frames.{frame_process}
 use Rattle.process_steps.specs.Steps.{key, letters_to}
 use Rattle.role_statuses.specs.Flat.{Marks}
 use Rattle.role_statuses.specs.Marks.{Mark}
@@ -63,10 +61,6 @@ abbrev pub awaited : List Key → Mark
 awaited [] = mark.Finished
 awaited (k ∷ ks) = mark.Waiting k ks
 
--- the process that runs in the place of another
-abbrev pub update_process : Update → Process
-update_process update = frame_process (processes update.code.code.ops.items) update.frame
-
 -- the mark at the place of this process; a number says how many of what is told or taken are done
 abbrev pub meant : Role → Process → KeptMark → Mark
 meant me P kept.Untouched = mark.Untouched
@@ -81,7 +75,7 @@ meant me P (kept.Gathering n) = gathered (drop n (end_keys me P))
 meant me P kept.Ending = mark.Ending
 meant me P (kept.Left n) = left (letters_from n (last_letters me P))
 meant me P (kept.Waiting n) = awaited (drop n (last_keys me P))
-meant me P (kept.Became update) = mark.Became (update_process update.value)
+meant me P (kept.Became update) = mark.Became update.value.process
 
 -- the marks at the places of this code
 abbrev pub marks_of : Role → List Op → List KeptMark → Marks

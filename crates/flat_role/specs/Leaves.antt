@@ -6,13 +6,13 @@ use Rattle.dioc_terms.specs.declared.processes.Tag.{Tag}
 use Rattle.dioc_terms.specs.declared.processes.Tag.TheVariants as tag
 use Rattle.dioc_terms.specs.Processes.{Process, Skip, IfLead, WhileLead, WhileFollow, ScopeLead, ScopeFollow, Tell, Gather, Letters, More, Load, Flag, Keep, Done}
 use Rattle.dpoc_process.specs.Acting.{is_single}
+use Rattle.flat_code.specs.declared.ops.Op.{Op}
+use Rattle.flat_code.specs.declared.ops.Op.TheVariants as op
 use Rattle.flat_code.specs.Places.{op_process}
 use Rattle.flat_role.specs.declared.leaves.Next.{Next}
 use Rattle.flat_role.specs.declared.leaves.Next.TheVariants as next
 use Rattle.flat_role.specs.declared.leaves.Sign.{Sign}
 use Rattle.flat_role.specs.declared.leaves.Sign.TheVariants as sign
-use Rattle.flat_role.specs.Growths.{is_single_op}
-use Rattle.flat_role.specs.KeptMarks.{update_process}
 use Rattle.process_steps.specs.Steps.{key, send_one}
 use Rattle.role_statuses.specs.Marks.{Mark}
 use Rattle.role_statuses.specs.Marks as mark
@@ -65,10 +65,11 @@ load_of (sign.Go b) = Flag b
 load_of sign.Begin = Keep
 load_of s = Done
 
--- it is an act of an update, and none of the code's
-abbrev pub is_update : Next → Bool
-is_update (next.Update update) = true
-is_update n = false
+-- neither a sequence nor a parallel
+abbrev pub is_single_op : Op → Bool
+is_single_op (op.Seq p q) = false
+is_single_op (op.Par p q) = false
+is_single_op o = true
 
 -- it is neither a sequence nor a parallel
 abbrev pub is_single_next : Next → Bool
@@ -83,5 +84,4 @@ IsNext me (next.Put to i s) R =
 IsNext me (next.Take from i s) R =
     (ks : List Key) × (R ≡ Gather (key from.now me i (tag_of s) ∷ ks))
 IsNext me (next.Gather ks) R = R ≡ Gather ks.now
-IsNext me (next.Update update) R = R ≡ update_process update.now
 IsNext me next.Nothing R = R ≡ Skip

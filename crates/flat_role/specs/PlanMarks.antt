@@ -1,16 +1,21 @@
 -- A role over code with a mark for each place: what the loops over places speak of.
-use Rattle.std.specs.Prelude.{ℕ, List, map, length}
+use Rattle.std.specs.Prelude.{ℕ, List, get_or, map, length}
 use Rattle.dioc_terms.specs.declared.names.Role.{Role}
 use Rattle.dioc_terms.specs.Processes.{Process}
 use Rattle.flat_code.specs.declared.plan.Plan.{Plan}
 use Rattle.flat_code.specs.Levels.{layout_of, level_at}
 use Rattle.flat_code.specs.Places.{at, processes}
 use Rattle.flat_role.specs.declared.marks.Mark.{Mark as KeptMark}
+use Rattle.flat_role.specs.declared.marks.Mark.TheVariants as kept_marks
 use Rattle.flat_role.specs.KeptMarks.{marks_of}
 use Rattle.role_statuses.specs.Flat.{Marks}
 use Rattle.role_statuses.specs.Kept.{kept}
 use Rattle.role_statuses.specs.Local.{Layout}
 use Rattle.role_statuses.specs.Spots.{spots}
+
+-- the mark at a place
+abbrev pub mark_in : List KeptMark → ℕ → KeptMark
+mark_in marks place = get_or marks place kept_marks.Untouched
 
 -- how many places there are
 abbrev pub plan_len : Plan → ℕ

@@ -6,8 +6,12 @@ use Rattle.dioc_terms.specs.declared.entries.Act.{Act}
 use Rattle.dioc_terms.specs.Processes.{Process}
 use Rattle.flat_code.specs.Codes.{process_of}
 use Rattle.flat_code.specs.declared.plan.Plan.{Plan}
+use Rattle.dioc_terms.specs.contracts.names.Role as contracts
+use Rattle.std.specs.Coded.{Coded-set, Unit-prop, Π_prop}
+use Rattle.flat_role.specs.declared.marks.Mark.{Mark as KeptMark}
+use Rattle.flat_role.specs.declared.marks.Mark.TheVariants as kept_marks
 use Rattle.flat_role.specs.declared.progress.Progress.{Progress}
-use Rattle.flat_role.specs.PlanMarks.{plan_layout, plan_len, plan_marks, static_at}
+use Rattle.flat_role.specs.PlanMarks.{mark_in, plan_layout, plan_len, plan_marks, static_at}
 use Rattle.process_steps.specs.Steps.{is_offered}
 use Rattle.role_statuses.specs.Flat.{Marks}
 use Rattle.role_statuses.specs.Kept.{IsKept, running}
@@ -24,6 +28,22 @@ marks_by me plan progress = plan_marks me plan progress.marks.items
 abbrev pub runs_by : Role → Plan → Progress → Process
 runs_by me plan progress = running me (marks_by me plan progress) (process_of plan.code)
 
+-- an update there is one of this role
+abbrev pub IsOf : Role → KeptMark → Type 0
+IsOf me (kept_marks.Became update) = update.value.role ≡ me
+IsOf me m = Unit {0}
+
+IsOf-prop : (me : Role) (m : KeptMark) → IsProp (IsOf me m)
+IsOf-prop me (kept_marks.Became update) = Coded-set contracts.the_row.coded update.value.role me
+IsOf-prop me m = Unit-prop
+
+-- and so are all that these marks hold
+abbrev pub AreOf : Role → List KeptMark → Type 0
+AreOf me marks = (place : ℕ) → IsOf me (mark_in marks place)
+
+pub AreOf-prop : (me : Role) (marks : List KeptMark) → IsProp (AreOf me marks)
+AreOf-prop me marks = Π_prop (λ place. IsOf-prop me (mark_in marks place))
+
 -- a mark for each place, which hang together; the places that can act, from left to right; and room
 -- for as many places as there are
 pub record IsProgress (me : Role) (plan : Plan) (progress : Progress) : Type 0 where
@@ -33,6 +53,7 @@ pub record IsProgress (me : Role) (plan : Plan) (progress : Progress) : Type 0 w
       ≡ active me (marks_by me plan progress) (process_of plan.code)
   pub room : plan_len plan ≤ vec_capacity progress.active
   pub spare : plan_len plan ≤ vec_capacity progress.fresh
+  pub mine : AreOf me progress.marks.items
 
 -- the acts that a place offers, by its own mark and static process
 abbrev pub acts_there : Role → Plan → Marks → ℕ → List Act

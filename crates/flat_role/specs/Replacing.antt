@@ -2,17 +2,12 @@
 -- first message is put.
 use Rattle.std.specs.Prelude.{◌≡◌, Bool, true, false, Option, None, Some}
 use Rattle.dioc_terms.specs.declared.names.Role.{Role}
-use Rattle.dioc_terms.specs.Processes.{Process, Skip, ScopeLead, ScopeFollow, Tell, More, Part}
-use Rattle.dpoc_process.specs.Changes.{Becomes}
+use Rattle.dioc_terms.specs.Processes.{Process, Skip, ScopeLead, ScopeFollow, Tell, More, Part, letters, process}
 use Rattle.dpoc_process.specs.Growth.{follower_end, leader_end}
 use Rattle.dpoc_process.specs.Handed.{Handed, Message, Parted}
-use Rattle.flat_code.specs.Places.{processes}
-use Rattle.flat_role.specs.declared.marks.Mark.{Mark as KeptMark}
-use Rattle.flat_role.specs.declared.marks.Mark.TheVariants as kept
-use Rattle.flat_role.specs.declared.replacing.Kind.{Kind}
-use Rattle.flat_role.specs.declared.replacing.Kind.TheVariants as kind
 use Rattle.flat_role.specs.declared.replacing.Room.{Room}
-use Rattle.flat_role.specs.Growths.{flat_grown}
+use Rattle.flat_role.specs.declared.replacing.What.{What}
+use Rattle.flat_role.specs.declared.replacing.What.TheVariants as what
 use Rattle.process_steps.specs.Steps.{after, telling}
 
 -- its first act may put another process in its place
@@ -38,25 +33,32 @@ replacing me (Tell (More k l ms)) h = telling ms
 replacing me R h = Skip
 
 -- what there is room for comes with the act
-abbrev pub comes : Kind → Handed → Bool
-comes kind.Leads (Parted own ms) = true
-comes kind.Follows (Message (Part n Q)) = true
-comes kind.Tells h = true
-comes k h = false
+abbrev pub comes : What → Handed → Bool
+comes (what.Leads lead) (Parted own ms) = true
+comes (what.Follows follow) (Message (Part n Q)) = true
+comes (what.Tells ms) h = true
+comes w h = false
+
+-- what comes then
+abbrev pub coming : What → Handed → Process
+coming (what.Leads lead) (Parted own ms) =
+    after (telling ms) (after own (process lead.last.value))
+coming (what.Follows follow) (Message (Part n Q)) = after Q (process follow.last.value)
+coming (what.Tells ms) h = telling (letters ms.value)
+coming w h = Skip
 
 -- all that the process in the place of R needs
 pub record IsRoom (me : Role) (R : Process) (room : Room) : Type 0 where
-  pub grows : (h : Handed) → replaces R h ≡ true
-      → flat_grown (processes room.update.value.code.code.ops.items) room.growth h
-      ≡ Becomes (replacing me R h)
-  pub when : (h : Handed) → comes room.kind h ≡ replaces R h
+  pub role : room.me.value ≡ me
+  pub grows : (h : Handed) → replaces R h ≡ true → coming room.what h ≡ replacing me R h
+  pub when : (h : Handed) → comes room.what h ≡ replaces R h
 
 -- there is room exactly where another process may come
 abbrev pub IsRoomFor : Role → Process → Option Room → Type 0
 IsRoomFor me R None = is_replaced R ≡ false
 IsRoomFor me R (Some room) = IsRoom me R room
 
--- and only for the first act
-abbrev pub IsRoomAt : Role → KeptMark → Process → Option Room → Type 0
-IsRoomAt me kept.Untouched P room = IsRoomFor me P room
-IsRoomAt me m P room = room ≡ None
+-- and only for the first act of a place
+abbrev pub IsRoomWhen : Bool → Role → Process → Option Room → Type 0
+IsRoomWhen true me R room = IsRoomFor me R room
+IsRoomWhen false me R room = room ≡ None

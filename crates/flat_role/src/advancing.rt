@@ -1,6 +1,7 @@
 //! An act that is done.
 
-ghost use Rattle.std.specs.Prelude.{◌≡◌, ◌≢◌, ◌<◌, ◌≤◌, ◌+◌, ◌++◌, ℕ, true, None, IfSome, drop, length, take, vec_capacity};
+ghost use Rattle.std.specs.Option.{is_some};
+ghost use Rattle.std.specs.Prelude.{◌≡◌, ◌<◌, ◌≤◌, ◌+◌, ◌++◌, ℕ, true, None, Some, IfSome, drop, length, take, vec_capacity};
 ghost use Rattle.dioc_terms.specs.declared.entries.Act.{Act as OneAct};
 ghost use Rattle.dioc_terms.specs.declared.names.Role.{Role as RoleName};
 ghost use Rattle.dioc_terms.specs.KeptStores.{store_of, room};
@@ -10,24 +11,24 @@ ghost use Rattle.dpoc_process.specs.Handed.{Brings, IsEnabled, handed};
 ghost use Rattle.dpoc_process.specs.KeptGrowth.{write_of};
 ghost use Rattle.dpoc_process.specs.RoleLaws.{local};
 ghost use Rattle.dpoc_process.specs.RoleSteps.{IsStep};
-ghost use Rattle.flat_role.specs.Advancing.{ComesTo, IsActed, IsActingBy, IsGoing, IsReplacedBy, IsUpdateAt, IsUpdatedIn, entered_places, mark_in};
-ghost use Rattle.flat_role.specs.PlanMarks.{plan_len, static_at};
-ghost use Rattle.flat_role.specs.Progress.{IsFound, IsProgress, runs_by};
-ghost use Rattle.flat_role.specs.ReadySteps.{IsReadyBy, IsStepFor};
+ghost use Rattle.flat_role.specs.declared.steps.Chosen.{Chosen};
+ghost use Rattle.flat_role.specs.Advancing.{ComesTo, IsActed, IsActingBy, IsGoing, IsReplacedBy, entered_places};
+ghost use Rattle.flat_role.specs.PlanMarks.{mark_in, plan_len, static_at};
+ghost use Rattle.flat_role.specs.Progress.{AreOf, IsFound, IsProgress, runs_by};
+ghost use Rattle.flat_role.specs.ReadySteps.{IsOwnOf, IsReadyBy};
 ghost use Rattle.flat_role.specs.Replacing.{IsRoom, replaces, replacing};
+ghost use Rattle.flat_role.specs.Updates.{IsInner, is_fresh};
 ghost use Rattle.process_steps.specs.Steps.{Deed, Given};
 ghost use Rattle.role_statuses.specs.Statuses.{Status, Became};
 
 use crate::active::give_way;
 use crate::climbing::{climb, write};
 use crate::entering::enter;
-use crate::frames::is_ended;
-use crate::marks::{Mark, Update};
+use crate::marks::Mark;
 use crate::moved::moved;
 use crate::progress::Progress;
-use crate::ready::{Ready as UpdateReady, advance as advance_update};
 use crate::replacing::Room;
-use crate::steps::{Own, Ready, Step};
+use crate::steps::Own;
 use dioc_terms::{Act, Role, Store};
 use dpoc_process::Got;
 use dpoc_process::growth::Write;
@@ -36,35 +37,50 @@ use flat_code::Plan;
 
 /// Does the act for which this was made ready, with what comes with it. It takes no memory: there
 /// is room for one more variable.
+#[cycle(advance)]
 pub(crate) fn advance(
     me: &Role,
     plan: &Plan,
     act: &Act,
     progress: &mut Progress,
     store: &mut Store,
-    ready: Ready,
+    own: Own,
     got: Got,
 )
     requires progress { IsProgress me.now plan.now progress.old }
-    requires ready { IsReadyBy me.now plan.now progress.old (store_of store.old) act.now ready }
+    requires ready { IsReadyBy me.now plan.now progress.old (store_of store.old) act.now own }
     requires has_room { 0 < room store.old }
     requires can { IsEnabled (local me.now (runs_by me.now plan.now progress.old)
         (store_of store.old)) act.now (handed got) }
     ensures progress { IsProgress me.now plan.now progress.new }
+    ensures chosen { progress.new.chosen ≡ None }
     ensures steps { (given : Given) → Brings (local me.now (runs_by me.now plan.now progress.old)
         (store_of store.old)) act.now (handed got) given → IsStep (local me.now
         (runs_by me.now plan.now progress.old) (store_of store.old)) act.now given (local me.now
         (runs_by me.now plan.now progress.new) (store_of store.new)) }
 {
-    let Ready { at, step, .. } = ready;
+    let at = chosen_place(progress);
     let place = progress.active[at];
-    let over = act_at(me, plan, act, progress, store, place, (step, got));
+    let over = act_at(me, plan, act, progress, store, place, (own, got));
     let stop = climb(me, plan, &mut progress.marks, place, over);
     go_on(me, plan, progress, at, stop);
+    progress.chosen = None;
+}
+
+/// Where the place of the act that it is ready for stands among those that can act.
+fn chosen_place(progress: &Progress) -> usize
+    requires { is_some progress.now.chosen ≡ true }
+    ensures { (chosen : Chosen) → progress.now.chosen ≡ Some chosen → result ≡ chosen.at }
+{
+    match &progress.chosen {
+        Some(chosen) => chosen.at,
+        None => unreachable!(),
+    }
 }
 
 /// Does the act at the place, and writes its mark alone. The answer is whether nothing is left to
 /// do there.
+#[cycle(advance)]
 fn act_at(
     me: &Role,
     plan: &Plan,
@@ -72,28 +88,29 @@ fn act_at(
     progress: &mut Progress,
     store: &mut Store,
     place: usize,
-    by: (Step, Got),
+    by: (Own, Got),
 ) -> bool
     requires progress { IsProgress me.now plan.now progress.old }
     requires has_room { 0 < room store.old }
     requires can { IsEnabled (local me.now (runs_by me.now plan.now progress.old)
         (store_of store.old)) act.now (handed by.1) }
     requires found { (at : ℕ) × IsFound me.now plan.now progress.old act.now at place }
-    requires ready { IsStepFor me.now (store_of store.old) act.now
-        (mark_in progress.old.marks.items place) (static_at plan.now place) by.0 }
+    requires inner { IsInner act.now (mark_in progress.old.marks.items place) }
+    requires own { IsOwnOf me.now (store_of store.old) act.now
+        (runs_by me.now plan.now progress.old)
+        (is_fresh (mark_in progress.old.marks.items place)) by.0 }
     ensures as_long { length progress.new.marks.items ≡ plan_len plan.now }
     ensures active { progress.new.active ≡ progress.old.active }
     ensures fresh { progress.new.fresh ≡ progress.old.fresh }
+    ensures mine { AreOf me.now progress.new.marks.items }
     ensures acted { IsActed me.now plan.now progress.old (store_of store.old) (store_of store.new)
         act.now (handed by.1) place progress.new.marks.items result }
 {
-    let (step, got) = by;
-    match step {
-        Step::Own(own) => do_own(plan, &mut progress.marks, place, store, own, got),
-        Step::Updated(ready) => {
-            do_updated(me, act, &mut progress.marks, place, store, ready, got)
-        }
+    let (own, got) = by;
+    if let Mark::Became(update) = &mut progress.marks[place] {
+        return update.step(me, act, store, own, got);
     }
+    do_own(plan, &mut progress.marks, place, store, own, got)
 }
 
 /// Puts the places that can act where it goes on in the place of the one that acted.
@@ -150,6 +167,8 @@ fn do_own(
         (handed got) → ComesTo me plan.now marks.old.items marks.new.items place result
         (Became (replacing me (static_at plan.now place) (handed got)))
         × (store_of store.new ≡ with_written (write_of own.write) None (store_of store.old)) }
+    ensures mine { (me : RoleName) → AreOf me marks.old.items
+        → IfSome own.room (λ room. room.me.value ≡ me) → AreOf me marks.new.items }
 {
     let Own {
         write: written,
@@ -184,6 +203,8 @@ fn put_other(
         replaces (static_at plan.now place) (handed got) ≡ true →
         ComesTo me plan.now marks.old.items marks.new.items place result
         (Became (replacing me (static_at plan.now place) (handed got))) }
+    ensures mine { (me : RoleName) → AreOf me marks.old.items → by.1.me.value ≡ me
+        → AreOf me marks.new.items }
 {
     let (written, room) = by;
     apply(store, written, None);
@@ -210,6 +231,7 @@ fn go_on_itself(
     ensures moved { (me : RoleName) (s : Spec) (a : OneAct) (d : Deed) (y : Status) →
         IsGoing me plan.now marks.old.items place s by.1 (handed got) a d y →
         ComesTo me plan.now marks.old.items marks.new.items place result y }
+    ensures mine { (me : RoleName) → AreOf me marks.old.items → AreOf me marks.new.items }
 {
     let (written, pick) = by;
     let (mark, over) = moved(plan, place, &marks[place], pick, &got);
@@ -218,34 +240,4 @@ fn go_on_itself(
     drop(rest);
     apply(store, written, value);
     over
-}
-
-/// Does an act of an update at a place. The answer is whether nothing is left to do there.
-#[inline(never)]
-fn do_updated(
-    me: &Role,
-    act: &Act,
-    marks: &mut Vec<Mark>,
-    place: usize,
-    store: &mut Store,
-    ready: UpdateReady,
-    got: Got,
-) -> bool
-    requires inside { place < length marks.old.items }
-    requires has_room { 0 < room store.old }
-    requires ready { IsUpdateAt me.now (store_of store.old) act.now
-        (mark_in marks.old.items place) ready }
-    ensures changed { IsUpdatedIn me.now act.now (handed got) marks.old.items marks.new.items place
-        ready result }
-    ensures stored { store_of store.new ≡ with_written (write_of ready.write)
-        (handed_value (handed got)) (store_of store.old) }
-{
-    match &mut marks[place] {
-        Mark::Became(update) => {
-            let Update { code, frame } = &mut **update;
-            advance_update(me, act, code, frame, store, ready, got);
-            is_ended(code, frame)
-        }
-        _ => unreachable!(),
-    }
 }

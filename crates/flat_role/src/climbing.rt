@@ -6,6 +6,7 @@ ghost use Rattle.dioc_terms.specs.Processes.{Process};
 ghost use Rattle.flat_role.specs.Climbing.{IsLeft, Rises, both_kept, found, mark_then};
 ghost use Rattle.flat_role.specs.KeptMarks.{meant};
 ghost use Rattle.flat_role.specs.PlanMarks.{low_at, plan_layout, plan_len, plan_marks, static_at};
+ghost use Rattle.flat_role.specs.Progress.{AreOf, IsOf};
 ghost use Rattle.role_statuses.specs.Entering.{stop};
 ghost use Rattle.role_statuses.specs.Local.{both_over, is_untouched, mark_after, over_after, walk, write};
 
@@ -21,6 +22,8 @@ pub(crate) fn write(plan: &Plan, marks: &mut Vec<Mark>, place: usize, mark: Mark
     ensures written { (me : RoleName) → plan_marks me plan.now marks.new.items
         ≡ write (plan_marks me plan.now marks.old.items) (low_at plan.now place) place
         (static_at plan.now place) (meant me (static_at plan.now place) mark) }
+    ensures mine { (me : RoleName) → AreOf me marks.old.items → IsOf me mark
+        → AreOf me marks.new.items }
 {
     match mark {
         Mark::Untouched => {
@@ -52,6 +55,7 @@ pub(crate) fn climb(
     ensures stop { result ≡ stop me.now (plan_layout plan.now) over (plan_len plan.now)
         (plan_marks me.now plan.now marks.old.items) place }
     ensures inside { IfSome result (λ at. at < plan_len plan.now) }
+    ensures mine { AreOf me.now marks.old.items → AreOf me.now marks.new.items }
 {
     let mut at = place;
     let mut ended = over;
@@ -86,6 +90,7 @@ fn rise(plan: &Plan, marks: &mut Vec<Mark>, at: usize, over: bool) -> Option<(us
         result }
     ensures above { IfSome result (λ above. at < above.0) }
     ensures inside { IfSome result (λ above. above.0 < plan_len plan.now) }
+    ensures mine { (me : RoleName) → AreOf me marks.old.items → AreOf me marks.new.items }
 {
     let up = plan.level(at).parent;
     if up >= plan.places() {
@@ -121,6 +126,7 @@ fn after_part(plan: &Plan, up: usize, first: bool, over: bool, mark: &Mark) -> (
     ensures marked { (me : RoleName) → mark_then me (static_at plan.now up) result.0 mark.now
         ≡ mark_after me (static_at plan.now up) first over
         (meant me (static_at plan.now up) mark.now) }
+    ensures mine { (me : RoleName) → IfSome result.0 (IsOf me) }
     ensures left { (me : RoleName) → IsLeft me (static_at plan.now up) result.0 mark.now }
     ensures over { (me : RoleName) → result.1 ≡ over_after me (static_at plan.now up) first over
         (meant me (static_at plan.now up) mark.now) }

@@ -13,7 +13,6 @@ ghost use Rattle.flat_role.specs.PlanMarks.{low_at, places_at, plan_len, plan_ma
 ghost use Rattle.role_statuses.specs.Kept.{marked};
 ghost use Rattle.role_statuses.specs.Statuses.{Finished, is_over};
 
-use crate::frames::is_ended;
 use crate::marks::Mark;
 use dioc_terms::Role;
 use flat_code::{Op, PartPlaces, Plan};
@@ -133,7 +132,7 @@ pub(crate) fn is_over_at(me: &Role, plan: &Plan, marks: &[Mark], place: usize) -
         Mark::Ending => !matches!(op, Op::WhileFollow { .. } | Op::ScopeFollow { .. }),
         Mark::Left(told) => are_last_told(op, *told),
         Mark::Waiting(taken) => *taken >= last_to_take(op),
-        Mark::Became(update) => is_ended(&update.code, &update.frame),
+        Mark::Became(update) => update.is_over(),
         _ => true,
     }
 }

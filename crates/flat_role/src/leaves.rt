@@ -12,15 +12,15 @@ ghost use Rattle.dpoc_process.specs.KeptGrowth.{write_of};
 ghost use Rattle.dpoc_process.specs.KeptReady.{IsPreparedFor};
 ghost use Rattle.flat_code.specs.Places.{op_process};
 ghost use Rattle.flat_role.specs.KeptMarks.{awaited, end_keys, first_letters, gathered, last_keys, last_letters, left, letters_from, told};
-ghost use Rattle.flat_role.specs.Leaves.{IsNext, front, is_became, is_leaf, is_single_next, is_update, load_of, tag_of};
-ghost use Rattle.flat_role.specs.PlanMarks.{plan_len, plan_marks, static_at};
+ghost use Rattle.flat_role.specs.Leaves.{IsNext, front, is_leaf, is_single_next, load_of, tag_of};
+ghost use Rattle.flat_role.specs.MovedMarks.{runs_update};
+ghost use Rattle.flat_role.specs.PlanMarks.{mark_in, plan_len, plan_marks, static_at};
 ghost use Rattle.process_steps.specs.Steps.{gathering, is_offered, key, letters_to, offers, telling};
 ghost use Rattle.role_statuses.specs.Marks as marks_of;
 ghost use Rattle.role_statuses.specs.PlaceLaws.{status_at};
 ghost use Rattle.role_statuses.specs.Statuses.{keys_of, leaves};
 
-use crate::marks::{Mark, Update};
-use crate::offered::{add_offers, can_act};
+use crate::marks::Mark;
 use crate::parts::{add_gathered, add_offer, add_take, does, value_of, write_of};
 use crate::prepared::{prepared_entry, prepared_follow, prepared_gather, prepared_op};
 use dioc_terms::{Act, Entry, Index, Key, Memory, Note, Payload, Role, Roles, Store, Tag, Value};
@@ -67,8 +67,6 @@ pub(crate) enum Next<'a> {
     },
     /// Takes the message of the first of these keys.
     Gather(&'a [Key]),
-    /// An act of an update.
-    Update(&'a Update),
     /// Nothing.
     Nothing,
 }
@@ -108,13 +106,13 @@ impl Sign {
     }
 }
 
-/// What is next at a place that can act itself.
+/// What is next at a place that can act itself, in whose place no other process runs.
 pub(crate) fn next_at<'a>(me: &Role, plan: &'a Plan, marks: &'a [Mark], place: usize) -> Next<'a>
     requires inside { place < plan_len plan.now }
     requires as_long { length marks.now ≡ plan_len plan.now }
-    ensures is { IsNext me.now result
+    requires own { runs_update (mark_in marks.now place) ≡ false }
+    ensures { IsNext me.now result
         (front me.now (plan_marks me.now plan.now marks.now place) (static_at plan.now place)) }
-    ensures apart { is_update result ≡ is_became (plan_marks me.now plan.now marks.now place) }
 {
     let op = plan.code.op_at(place);
     match &marks[place] {
@@ -124,16 +122,14 @@ pub(crate) fn next_at<'a>(me: &Role, plan: &'a Plan, marks: &'a [Mark], place: u
         Mark::Ending => ending(op),
         Mark::Left(done) => left(op, *done),
         Mark::Waiting(done) => waiting(op, *done),
-        Mark::Became(update) => Next::Update(update),
         _ => Next::Nothing,
     }
 }
 
 /// The message to the role after so many of these.
 fn put_to<'a>(others: &'a Roles, done: usize, index: Index, sign: Sign) -> Next<'a>
-    ensures is { (me : Role) → IsNext me result (telling
+    ensures { (me : Role) → IsNext me result (telling
         (letters_from done (letters_to me others.now index (tag_of sign) (λ q. load_of sign)))) }
-    ensures own { is_update result ≡ false }
 {
     match others.as_slice().get(done) {
         Some(to) => Next::Put { to, index, sign },
@@ -143,9 +139,8 @@ fn put_to<'a>(others: &'a Roles, done: usize, index: Index, sign: Sign) -> Next<
 
 /// The message of the role after so many of these.
 fn take_from<'a>(others: &'a Roles, done: usize, index: Index, sign: Sign) -> Next<'a>
-    ensures is { (me : Role) → IsNext me result
+    ensures { (me : Role) → IsNext me result
         (gathering (drop done (keys_of me others.now index (tag_of sign)))) }
-    ensures own { is_update result ≡ false }
 {
     match others.as_slice().get(done) {
         Some(from) => Next::Take { from, index, sign },
@@ -155,10 +150,9 @@ fn take_from<'a>(others: &'a Roles, done: usize, index: Index, sign: Sign) -> Ne
 
 /// What a leader tells before it goes on, after so many messages.
 fn telling<'a>(op: &'a Op, flag: bool, done: usize) -> Next<'a>
-    ensures is { (me : Role) (parts : List Process) → IsNext me result (front me
+    ensures { (me : Role) (parts : List Process) → IsNext me result (front me
         (told flag (letters_from done (first_letters me (op_process parts op.now) flag)))
         (op_process parts op.now)) }
-    ensures own { is_update result ≡ false }
 {
     match op {
         Op::IfLead { index, others, .. } => put_to(others, done, *index, Sign::Choice(flag)),
@@ -170,9 +164,8 @@ fn telling<'a>(op: &'a Op, flag: bool, done: usize) -> Next<'a>
 
 /// The end that a leader takes, after so many.
 fn gathering<'a>(op: &'a Op, done: usize) -> Next<'a>
-    ensures is { (me : Role) (parts : List Process) → IsNext me result (front me
+    ensures { (me : Role) (parts : List Process) → IsNext me result (front me
         (gathered (drop done (end_keys me (op_process parts op.now)))) (op_process parts op.now)) }
-    ensures own { is_update result ≡ false }
 {
     match op {
         Op::WhileLead { index, others, .. } => take_from(others, done, *index, Sign::Turn),
@@ -183,9 +176,8 @@ fn gathering<'a>(op: &'a Op, done: usize) -> Next<'a>
 
 /// The end that a follower puts.
 fn ending<'a>(op: &'a Op) -> Next<'a>
-    ensures is { (me : Role) (parts : List Process) →
+    ensures { (me : Role) (parts : List Process) →
         IsNext me result (front me marks_of.Ending (op_process parts op.now)) }
-    ensures own { is_update result ≡ false }
 {
     match op {
         Op::WhileFollow { index, leader, .. } => Next::Put {
@@ -204,10 +196,9 @@ fn ending<'a>(op: &'a Op) -> Next<'a>
 
 /// The last that is told, after so many messages.
 fn left<'a>(op: &'a Op, done: usize) -> Next<'a>
-    ensures is { (me : Role) (parts : List Process) → IsNext me result (front me
+    ensures { (me : Role) (parts : List Process) → IsNext me result (front me
         (left (letters_from done (last_letters me (op_process parts op.now))))
         (op_process parts op.now)) }
-    ensures own { is_update result ≡ false }
 {
     match op {
         Op::WhileLead { index, others, .. } => put_to(others, done, *index, Sign::Go(false)),
@@ -218,9 +209,8 @@ fn left<'a>(op: &'a Op, done: usize) -> Next<'a>
 
 /// The last that is taken, after so many messages.
 fn waiting<'a>(op: &'a Op, done: usize) -> Next<'a>
-    ensures is { (me : Role) (parts : List Process) → IsNext me result (front me
+    ensures { (me : Role) (parts : List Process) → IsNext me result (front me
         (awaited (drop done (last_keys me (op_process parts op.now)))) (op_process parts op.now)) }
-    ensures own { is_update result ≡ false }
 {
     match op {
         Op::ScopeFollow { index, leader, .. } => match done {
@@ -238,8 +228,7 @@ fn waiting<'a>(op: &'a Op, done: usize) -> Next<'a>
 
 /// These keys without so many at the front.
 fn gather_from<'a>(keys: &'a [Key], done: usize) -> Next<'a>
-    ensures is { (me : Role) → IsNext me result (gathering (drop done keys.now)) }
-    ensures own { is_update result ≡ false }
+    ensures { (me : Role) → IsNext me result (gathering (drop done keys.now)) }
 {
     if done < keys.len() {
         return Next::Gather(&keys[done..]);
@@ -258,6 +247,7 @@ pub(crate) fn add_acts_at(
 ) -> Result<(), Memory>
     requires inside { place < plan_len plan.now }
     requires as_long { length marks.now ≡ plan_len plan.now }
+    requires own { runs_update (mark_in marks.now place) ≡ false }
     requires leaf { is_leaf (plan_marks me.now plan.now marks.now place) (static_at plan.now place)
         ≡ true }
     ensures { OnOk result (acts.new.items ≡ acts.old.items
@@ -285,10 +275,6 @@ fn add_offers_of(
         Next::Put { to, index, sign } => add_put(alloc, me, to, index, sign.tag(), acts),
         Next::Take { from, index, sign } => add_take(alloc, from, me, index, sign.tag(), acts),
         Next::Gather(keys) => add_gathered(alloc, me, keys, acts),
-        Next::Update(update) => {
-            let _over = add_offers(alloc, me, &update.code, &update.frame, acts)?;
-            Ok(())
-        }
         Next::Nothing => Ok(()),
     }
 }
@@ -313,6 +299,7 @@ fn add_put(
 pub(crate) fn offers_at(me: &Role, plan: &Plan, marks: &[Mark], place: usize, act: &Act) -> bool
     requires inside { place < plan_len plan.now }
     requires as_long { length marks.now ≡ plan_len plan.now }
+    requires own { runs_update (mark_in marks.now place) ≡ false }
     requires leaf { is_leaf (plan_marks me.now plan.now marks.now place) (static_at plan.now place)
         ≡ true }
     ensures { result ≡ is_offered act.now
@@ -334,7 +321,6 @@ pub(crate) fn offers_next(me: &Role, act: &Act, next: Next<'_>) -> bool
         Next::Put { to, index, sign } => puts(act, me, to, index, &sign.tag()),
         Next::Take { from, index, sign } => takes(act, from, me, index, &sign.tag()),
         Next::Gather(keys) => gathers(act, me, keys),
-        Next::Update(update) => can_act(me, act, &update.code, &update.frame),
         Next::Nothing => false,
     }
 }
@@ -354,7 +340,6 @@ fn puts(act: &Act, from: &Role, to: &Role, index: Index, tag: &Tag) -> bool
 
 /// The one value that an act needs of its store.
 pub(crate) fn value_for(alloc: Global, store: &Store, next: Next<'_>) -> Result<Value, Memory>
-    requires { is_update next ≡ false }
     ensures { (me : Role) (R : Process) → IsNext me next.entry R →
         IfOk result (λ value. value ≡ value_at (store_of store.now) R) }
 {
@@ -366,7 +351,6 @@ pub(crate) fn value_for(alloc: Global, store: &Store, next: Next<'_>) -> Result<
 
 /// What its step writes.
 pub(crate) fn write_for(alloc: Global, value: &Value, next: Next<'_>) -> Result<Write, Memory>
-    requires { is_update next ≡ false }
     ensures { (me : Role) (R : Process) → IsNext me next.entry R →
         IfOk result (λ write. write_of write ≡ write_at value.now R) }
 {
@@ -376,7 +360,7 @@ pub(crate) fn write_for(alloc: Global, value: &Value, next: Next<'_>) -> Result<
     }
 }
 
-/// What is shown of an act before it is done. Of an update it is the update that shows its acts.
+/// What is shown of an act before it is done.
 pub(crate) fn prepared_for(
     alloc: Global,
     me: &Role,
@@ -384,7 +368,6 @@ pub(crate) fn prepared_for(
     value: &Value,
     next: Next<'_>,
 ) -> Result<Prepared, PrepareFault>
-    requires { is_update next ≡ false }
     ensures shown { (R : Process) → IsNext me.now next.entry R →
         IfOk result (IsPreparedFor me.now act.now value.now R) }
     ensures fault { IfErr result (λ fault. fault ≡ PrepareFault.Memory) }
@@ -396,7 +379,7 @@ pub(crate) fn prepared_for(
             prepared_follow(alloc, me, act, from, index, sign.tag())
         }
         Next::Gather(keys) => prepared_gather(alloc, me, act, value, keys),
-        Next::Update(_) | Next::Nothing => prepared_entry(alloc, act, None),
+        Next::Nothing => prepared_entry(alloc, act, None),
     }
 }
 

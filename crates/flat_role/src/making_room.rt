@@ -1,22 +1,29 @@
 //! Room for another process in a place, where its act may put one there.
 
-ghost use Rattle.std.specs.Prelude.{◌≡◌, ◌<◌, List, IfOk, get_or, length};
+ghost use Rattle.std.specs.Prelude.{◌≡◌, ◌<◌, List, IfOk, Some, false, length};
 ghost use Rattle.dioc_terms.specs.declared.names.Role.{Role as RoleName};
-ghost use Rattle.dioc_terms.specs.declared.processes.Key.{Key};
-ghost use Rattle.dioc_terms.specs.Processes.{Load, More, Process, Tell, letters};
+ghost use Rattle.dioc_terms.specs.declared.processes.Tag.TheVariants as tags;
+ghost use Rattle.flat_role.specs.declared.replacing.Room.{Room};
+ghost use Rattle.dioc_terms.specs.Processes.{Done, Process, process};
+ghost use Rattle.dpoc_process.specs.Growth.{follower_end, leader_end};
 ghost use Rattle.flat_code.specs.Places.{op_process};
-ghost use Rattle.flat_role.specs.declared.marks.Mark.TheVariants as kept;
-ghost use Rattle.flat_role.specs.PlanMarks.{plan_len, static_at};
-ghost use Rattle.flat_role.specs.Replacing.{IsRoomAt, IsRoomFor};
+ghost use Rattle.flat_role.specs.MovedMarks.{runs_update};
+ghost use Rattle.flat_role.specs.PlanMarks.{mark_in, plan_len};
+ghost use Rattle.flat_role.specs.ReadySteps.{front_at};
+ghost use Rattle.flat_role.specs.Replacing.{IsRoomFor, IsRoomWhen};
+ghost use Rattle.flat_role.specs.Updates.{is_fresh};
+ghost use Rattle.process_steps.specs.Steps.{after, gather, gathering, tell};
 
-use crate::frames::{Frame, telling};
-use crate::growth::{Growth, followed_scope, led_scope};
-use crate::live_code::LiveCode;
-use crate::marks::{Mark, Update};
-use crate::replacing::{Kind, Room};
-use dioc_terms::{Memory, Messages, Proc, Role, give_up, new_box};
-use flat_code::{Op, Plan, compile};
+use crate::marks::{Mark, State, Update};
+use crate::replacing::{Follow, Lead, Room, What, telling, then};
+use dioc_terms::{
+    Index, Items, Key, Memory, Messages, Payload, Proc, Role, Tag, give_up, new_box, new_boxes,
+};
+use dpoc_process::makers::{keys_from, letters_to};
+use flat_code::{Op, Plan};
 use std::alloc::Global;
+use std::slice;
+use std::snapshot::Snapshot;
 
 /// Room for another process, where the first act of a place may put one there.
 pub(crate) fn room_at(
@@ -28,8 +35,9 @@ pub(crate) fn room_at(
 ) -> Result<Option<Room>, Memory>
     requires inside { place < plan_len plan.now }
     requires as_long { length marks.now ≡ plan_len plan.now }
-    ensures { IfOk result (IsRoomAt me.now (get_or marks.now place kept.Untouched)
-        (static_at plan.now place)) }
+    requires own { runs_update (mark_in marks.now place) ≡ false }
+    ensures { IfOk result (IsRoomWhen (is_fresh (mark_in marks.now place)) me.now
+        (front_at me.now plan.now marks.now place)) }
 {
     match &marks[place] {
         Mark::Untouched => room_of(alloc, me, plan.code.op_at(place)),
@@ -37,72 +45,142 @@ pub(crate) fn room_at(
     }
 }
 
-/// Room for another process in the place of an op.
+/// Room for another process in the place of an op, where its first act may put one there.
 #[inline(never)]
 fn room_of(alloc: Global, me: &Role, op: &Op) -> Result<Option<Room>, Memory>
     ensures { (done : List Process) → IfOk result (IsRoomFor me.now (op_process done op.now)) }
 {
     match op {
         Op::ScopeLead { head, others, .. } => {
-            let update = empty_update(alloc)?;
-            match led_scope(alloc, me, &update.code, head.index, others.as_slice(), 0) {
-                Ok(growth) => Ok(Some(Room {
-                    kind: Kind::Leads,
-                    growth,
-                    update,
-                })),
-                Err(fault) => give_up(update, fault),
-            }
+            let lead = led_room(alloc, me, head.index, others.as_slice())?;
+            room(alloc, me, What::Leads(lead))
         }
         Op::ScopeFollow { index, leader, .. } => {
-            let update = empty_update(alloc)?;
-            match followed_scope(alloc, me, *index, leader, 0) {
-                Ok(growth) => Ok(Some(Room {
-                    kind: Kind::Follows,
-                    growth,
-                    update,
-                })),
-                Err(fault) => give_up(update, fault),
-            }
+            let follow = followed_room(alloc, me, *index, leader)?;
+            room(alloc, me, What::Follows(follow))
         }
         Op::Tell {
             messages: Messages::More(_, _, rest),
         } => {
-            let update = empty_update(alloc)?;
-            match rest.copy(alloc) {
-                Ok(rest) => told_room(alloc, update, rest),
-                Err(fault) => give_up(update, fault),
-            }
+            let left = new_box(alloc, rest.copy(alloc)?)?;
+            room(alloc, me, What::Tells(left))
         }
         _ => Ok(None),
     }
 }
 
-/// Room for the messages that are left of a tell.
-fn told_room(alloc: Global, update: Box<Update>, rest: Messages) -> Result<Option<Room>, Memory>
-    ensures { (key : Key) (l : Load) → IfOk result (λ room. (me : RoleName) →
-        IsRoomFor me (Tell (More key l (letters rest))) room) }
+/// Room for this, with an update in which nothing is left to do.
+fn room(alloc: Global, me: &Role, what: What) -> Result<Option<Room>, Memory>
+    ensures { IfOk result (λ room. (made : Room) × (room ≡ Some made) × (made.what ≡ what)
+        × (made.me.value ≡ me.now)) }
 {
-    match new_box(alloc, rest) {
-        Ok(rest) => Ok(Some(Room {
-            kind: Kind::Tells,
-            growth: Growth::Certain(telling(rest)),
+    let nothing = Update {
+        me: Snapshot::of(me),
+        state: State::Came(Proc::Skip),
+    };
+    match new_box(alloc, nothing) {
+        Ok(update) => Ok(Some(Room {
+            me: Snapshot::of(me),
+            what,
             update,
         })),
-        Err(fault) => give_up(update, fault),
+        Err(fault) => give_up(what, fault),
     }
 }
 
-/// An update of which nothing is there.
-fn empty_update(alloc: Global) -> Result<Box<Update>, Memory>
-    ensures { IfOk result (λ update. 0 < length update.value.code.code.ops.items) }
+/// A box for a process.
+fn hole(alloc: Global) -> Result<Box<Proc>, Memory> {
+    new_box(alloc, Proc::Skip)
+}
+
+/// Room for the leader's part of an update.
+fn led_room(alloc: Global, me: &Role, index: Index, others: &[Role]) -> Result<Lead, Memory>
+    ensures { IfOk result (λ lead. process lead.last.value
+        ≡ leader_end me.now others.now index) }
 {
-    let code = LiveCode::new(alloc, compile(alloc, &Proc::Skip)?)?;
-    new_box(
+    let last = led_end(alloc, me, index, others)?;
+    Ok(Lead {
+        first: hole(alloc)?,
+        own: hole(alloc)?,
+        last,
+        inner: hole(alloc)?,
+    })
+}
+
+/// What the leader of a scope does after its part: it takes the ends of the others, and tells them
+/// the release.
+fn led_end(alloc: Global, me: &Role, index: Index, others: &[Role]) -> Result<Box<Proc>, Memory>
+    ensures { IfOk result (λ end. process end.value ≡ leader_end me.now others.now index) }
+{
+    let ends = gathered(alloc, me, others, index)?;
+    match told(alloc, me, others, index) {
+        Ok(release) => joined(alloc, ends, release),
+        Err(fault) => give_up(ends, fault),
+    }
+}
+
+/// Takes the ends of these roles, one by one.
+fn gathered(alloc: Global, me: &Role, others: &[Role], index: Index) -> Result<Proc, Memory>
+    ensures { IfOk result (λ proc. process proc ≡ gather me.now others.now index tags.End) }
+{
+    let keys = keys_from(alloc, me, others, index, &Tag::End)?;
+    Ok(gathering(keys))
+}
+
+/// Takes the messages of these keys.
+fn gathering(keys: Vec<Key>) -> Proc
+    ensures { process result ≡ gathering keys.items }
+{
+    if keys.is_empty() {
+        return Proc::Skip;
+    }
+    Proc::Gather {
+        keys: Items::new(keys),
+    }
+}
+
+/// Tells each of these roles the release, one by one.
+fn told(alloc: Global, me: &Role, others: &[Role], index: Index) -> Result<Proc, Memory>
+    ensures { IfOk result (λ proc. process proc
+        ≡ tell me.now others.now index tags.Out (λ q. Done)) }
+{
+    let messages = letters_to(alloc, me, others, index, &Tag::Out, &Payload::Done)?;
+    Ok(telling(messages))
+}
+
+/// The first, and then the second, in boxes.
+fn joined(alloc: Global, first: Proc, second: Proc) -> Result<Box<Proc>, Memory>
+    ensures { IfOk result (λ whole. process whole.value ≡ after (process first) (process second)) }
+{
+    let (first, second) = new_boxes(alloc, first, second)?;
+    new_box(alloc, then(first, second))
+}
+
+/// Room for another role's part of an update.
+fn followed_room(alloc: Global, me: &Role, index: Index, leader: &Role) -> Result<Follow, Memory>
+    ensures { IfOk result (λ follow. process follow.last.value
+        ≡ follower_end me.now leader.now index) }
+{
+    let last = followed_end(alloc, me, index, leader)?;
+    Ok(Follow {
+        own: hole(alloc)?,
+        last,
+    })
+}
+
+/// What another role of a scope does after its part: it puts its end, and takes the release.
+fn followed_end(alloc: Global, me: &Role, index: Index, leader: &Role) -> Result<Box<Proc>, Memory>
+    ensures { IfOk result (λ end. process end.value ≡ follower_end me.now leader.now index) }
+{
+    let leaders = slice::from_ref(leader);
+    let messages = letters_to(alloc, me, leaders, index, &Tag::End, &Payload::Done)?;
+    let end = new_box(alloc, Proc::Tell { messages })?;
+    let keys = keys_from(alloc, me, leaders, index, &Tag::Out)?;
+    let release = new_box(
         alloc,
-        Update {
-            code,
-            frame: Frame::Ended,
+        Proc::Gather {
+            keys: Items::new(keys),
         },
-    )
+    )?;
+    new_box(alloc, Proc::Seq(end, release))
 }

@@ -1,21 +1,35 @@
 //! How far each construct of the code has come.
 
-ghost use Rattle.std.specs.Prelude.{◌≡◌, true, length};
-ghost use Rattle.flat_role.specs.Frames.{is_placed};
+use crate::progress::Progress;
+use dioc_terms::{Act, Messages, Proc, Role};
+use flat_code::Plan;
+use std::marker::Model;
+use std::snapshot::Snapshot;
 
-use crate::frames::Frame;
-use crate::live_code::LiveCode;
-
-/// A part that came in the place of a scope, with what is left of it: it runs over code of its own.
+/// What runs in the place of a scope that an update replaced, or of a tell once its first message
+/// is put: a process of its own, of the same role.
+#[cycle(mark)]
 #[derive(Drop)]
 pub(crate) struct Update {
-    pub code: LiveCode,
-    pub frame: Frame,
-    pub ghost placed: { is_placed (length code.code.ops.items) frame ≡ true },
+    pub me: Snapshot<Role>,
+    pub state: State,
+}
+
+/// How it runs.
+#[cycle(mark)]
+#[derive(Drop)]
+pub(crate) enum State {
+    /// As it came: over no code yet.
+    Came(Proc),
+    /// The messages that are left of a tell, and the act that it is ready for.
+    Told(Box<Messages>, Option<Snapshot<Act>>),
+    /// Over code of its own.
+    Runs(Plan, Progress),
 }
 
 /// How far the construct at a place of the code has come. A number says how many of the messages
 /// that it tells or takes there are done.
+#[cycle(mark)]
 #[derive(Drop)]
 pub(crate) enum Mark {
     /// Nothing was done.
@@ -42,21 +56,28 @@ pub(crate) enum Mark {
     Left(usize),
     /// These are the last messages that it takes.
     Waiting(usize),
-    /// A scope that is replaced.
+    /// A scope or a tell in whose place another process runs.
     Became(Box<Update>),
 }
 
-impl Mark {
-    ghost use Rattle.std.specs.Prelude.{◌≡◌};
-    ghost use Rattle.flat_role.specs.FlatStates.{update_len};
+impl Model for Update {
+    ghost use Rattle.std.specs.Coded.{codes};
+    ghost use Rattle.flat_role.specs.ProcessCodes.{process_code};
+    ghost use Rattle.flat_role.specs.Running.{Running};
 
-    /// How many ops run here in the place of the code's own.
-    pub(crate) fn update_len(&self) -> usize
-        ensures { result ≡ update_len self.now }
-    {
-        match self {
-            Mark::Became(update) => update.code.code.ops.len(),
-            _ => 0,
-        }
-    }
+    ghost Value = { Running };
+
+    ghost coded = { Prim.hlevel (codes, process_code) };
+
+    ghost use Rattle.flat_role.specs.Updates.{IsSound, seen};
+
+    ghost view = { λ update. seen update.me.value update.state };
+
+    ghost invariant = { λ update. IsSound update.me.value update.state };
+
+    ghost size = { λ update. update.depth };
+
+    ghost use Rattle.flat_role.specs.UpdateLaws.{none_deeper};
+
+    ghost size_decreases = { λ update sound. none_deeper update.state };
 }

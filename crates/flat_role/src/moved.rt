@@ -8,7 +8,7 @@ ghost use Rattle.dioc_terms.specs.Expressions.{Expression};
 ghost use Rattle.dioc_terms.specs.Processes.{Process, IfLead, WhileLead, WhileFollow, ScopeLead, ScopeFollow};
 ghost use Rattle.dpoc_process.specs.Handed.{Handed, handed};
 ghost use Rattle.flat_role.specs.declared.marks.Mark.TheVariants as kept;
-ghost use Rattle.flat_role.specs.MovedMarks.{Moves, awaited_or, body_or, came, count_from, gathered_or, left_or, scope_or, taken_in, told_or, turn_or};
+ghost use Rattle.flat_role.specs.MovedMarks.{Moves, runs_update, awaited_or, body_or, came, count_from, gathered_or, left_or, scope_or, taken_in, told_or, turn_or};
 ghost use Rattle.flat_role.specs.PlanMarks.{plan_len, static_at};
 ghost use Rattle.process_steps.specs.Steps.{ended};
 
@@ -23,6 +23,7 @@ use flat_code::{Op, Plan};
 pub(crate) fn moved(plan: &Plan, place: usize, mark: &Mark, pick: bool, got: &Got) -> (Mark, bool)
     requires inside { place < plan_len plan.now }
     ensures moved { Moves (static_at plan.now place) mark.now pick (handed got.now) result }
+    ensures own { runs_update result.0 ≡ false }
 {
     match plan.code.op_at(place) {
         Op::IfLead {
@@ -65,9 +66,10 @@ fn led_choice(
     mark: &Mark,
     pick: bool,
 ) -> (Mark, bool)
-    ensures { (i : Index) (g : Expression) (all : List Role) (P Q : Process) (h : Handed)
+    ensures { (runs_update result.0 ≡ false) ×
+        ((i : Index) (g : Expression) (all : List Role) (P Q : Process) (h : Handed)
         → length all ≡ others → ended P ≡ yes_ended → ended Q ≡ no_ended
-        → Moves (IfLead i g all P Q) mark.now pick h result }
+        → Moves (IfLead i g all P Q) mark.now pick h result) }
 {
     match mark {
         Mark::Telling(flag, done) => {
@@ -80,9 +82,10 @@ fn led_choice(
 
 /// A loop that the role leads.
 fn led_loop(others: usize, body_ended: bool, mark: &Mark, pick: bool) -> (Mark, bool)
-    ensures { (i : Index) (g : Expression) (all : List Role) (P : Process) (h : Handed)
+    ensures { (runs_update result.0 ≡ false) ×
+        ((i : Index) (g : Expression) (all : List Role) (P : Process) (h : Handed)
         → length all ≡ others → ended P ≡ body_ended
-        → Moves (WhileLead i g all P) mark.now pick h result }
+        → Moves (WhileLead i g all P) mark.now pick h result) }
 {
     match mark {
         Mark::Telling(flag, done) => {
@@ -119,9 +122,10 @@ fn turn(others: usize, body_ended: bool) -> (Mark, bool)
 
 /// A loop that another role leads.
 fn followed_loop(body_ended: bool, mark: &Mark, flag: bool) -> (Mark, bool)
-    ensures { (i : Index) (leader : Role) (P : Process) (h : Handed) → came h ≡ flag
+    ensures { (runs_update result.0 ≡ false) ×
+        ((i : Index) (leader : Role) (P : Process) (h : Handed) → came h ≡ flag
         → ended P ≡ body_ended → (pick : Bool)
-        → Moves (WhileFollow i leader P) mark.now pick h result }
+        → Moves (WhileFollow i leader P) mark.now pick h result) }
 {
     match mark {
         Mark::Ending => (Mark::Untouched, false),
@@ -143,9 +147,10 @@ fn followed_turn(body_ended: bool, flag: bool) -> (Mark, bool)
 
 /// A scope that the role leads.
 fn led_scope(others: usize, body_ended: bool, mark: &Mark) -> (Mark, bool)
-    ensures { (head : ScopeHead) (all : List Role) (P : Process) (h : Handed)
+    ensures { (runs_update result.0 ≡ false) ×
+        ((head : ScopeHead) (all : List Role) (P : Process) (h : Handed)
         → length all ≡ others → ended P ≡ body_ended → (pick : Bool)
-        → Moves (ScopeLead head all P) mark.now pick h result }
+        → Moves (ScopeLead head all P) mark.now pick h result) }
 {
     match mark {
         Mark::Telling(_, done) => { telling(next(*done, others), true, scope(others, body_ended)) }
@@ -164,8 +169,9 @@ fn scope(others: usize, body_ended: bool) -> (Mark, bool)
 
 /// A scope that another role leads.
 fn followed_scope(body_ended: bool, mark: &Mark) -> (Mark, bool)
-    ensures { (i : Index) (leader : Role) (P : Process) (h : Handed) → ended P ≡ body_ended
-        → (pick : Bool) → Moves (ScopeFollow i leader P) mark.now pick h result }
+    ensures { (runs_update result.0 ≡ false) ×
+        ((i : Index) (leader : Role) (P : Process) (h : Handed) → ended P ≡ body_ended
+        → (pick : Bool) → Moves (ScopeFollow i leader P) mark.now pick h result) }
 {
     match mark {
         Mark::Ending => (Mark::Waiting(0), false),

@@ -8,7 +8,7 @@ ghost use Rattle.dioc_terms.specs.Processes.{Process, Gather, Tell, letters};
 ghost use Rattle.dpoc_process.specs.Growth.{value_at, write_at};
 ghost use Rattle.dpoc_process.specs.KeptGrowth.{write_of};
 ghost use Rattle.flat_code.specs.Places.{op_process};
-ghost use Rattle.flat_role.specs.Growths.{is_single_op};
+ghost use Rattle.flat_role.specs.Leaves.{is_single_op};
 ghost use Rattle.process_steps.specs.Steps.{is_offered, key, offers};
 
 use dioc_terms::{Act, Index, Key, Memory, Messages, Name, Role, Store, Tag, Value, eval};

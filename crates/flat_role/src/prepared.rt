@@ -6,19 +6,13 @@
 ghost use Rattle.std.specs.Prelude.{◌≡◌, ◌<◌, List, None, Some, IfErr, IfOk, length, option_map};
 ghost use Rattle.dioc_terms.specs.declared.entries.Entry.TheVariants as entries;
 ghost use Rattle.dioc_terms.specs.declared.processes.Tag.TheVariants as tags;
-ghost use Rattle.dioc_terms.specs.KeptStores.{store_of};
 ghost use Rattle.dioc_terms.specs.Processes.{Process, Gather, Tell, Val, letters, load, noted};
 ghost use Rattle.dioc_terms.specs.Values.{is_true};
-ghost use Rattle.dpoc_process.specs.Growth.{value_at, write_at};
-ghost use Rattle.dpoc_process.specs.KeptGrowth.{write_of};
+ghost use Rattle.dpoc_process.specs.Growth.{value_at};
 ghost use Rattle.dpoc_process.specs.KeptReady.{IsPreparedFor};
 ghost use Rattle.flat_code.specs.Places.{op_process, processes};
-ghost use Rattle.flat_role.specs.Growths.{IsInside, part_process};
 ghost use Rattle.process_steps.specs.Steps.{key};
 
-use crate::live_code::LiveCode;
-use crate::offered::Part;
-use crate::parts::{value_of, write_of};
 use dioc_terms::{
     Act, Entry, Index, Key, Memory, Messages, Name, Note, Payload, Role, ScopeHead, Store, Tag,
     Value,
@@ -31,27 +25,6 @@ use dpoc_process::prepared::{
 use dpoc_process::{PrepareFault, Prepared};
 use flat_code::Op;
 use std::alloc::Global;
-
-/// What is shown of the act that the part does, with the value that it needs.
-pub(crate) fn prepared_at(
-    alloc: Global,
-    me: &Role,
-    act: &Act,
-    value: &Value,
-    code: &LiveCode,
-    part: Part<'_>,
-) -> Result<Prepared, PrepareFault>
-    requires { IsInside (length code.now.code.ops.items) part }
-    ensures shown { IfOk result (IsPreparedFor me.now act.now value.now
-        (part_process (processes code.now.code.ops.items) part.entry)) }
-    ensures fault { IfErr result (λ fault. fault ≡ PrepareFault.Memory) }
-{
-    match part {
-        Part::At(place) => prepared_op(alloc, me, act, value, code.op_at(place)),
-        Part::Telling(messages) => prepared_tell(alloc, me, act, value, messages),
-        Part::Gathering(keys) => prepared_gather(alloc, me, act, value, keys),
-    }
-}
 
 /// What is shown of the act that an op does.
 pub(crate) fn prepared_op(
@@ -271,7 +244,7 @@ fn prepared_scope(alloc: Global, act: &Act, head: &ScopeHead) -> Result<Prepared
     })
 }
 
-fn prepared_tell(
+pub(crate) fn prepared_tell(
     alloc: Global,
     me: &Role,
     act: &Act,
@@ -305,38 +278,4 @@ pub(crate) fn prepared_gather(
 {
     let entry = gather_entry(alloc, me, value, keys)?;
     prepared_entry(alloc, act, entry)
-}
-
-/// The one value that the part needs of its store.
-pub(crate) fn value_for(
-    alloc: Global,
-    store: &Store,
-    code: &LiveCode,
-    part: Part<'_>,
-) -> Result<Value, Memory>
-    requires { IsInside (length code.now.code.ops.items) part }
-    ensures { IfOk result (λ value. value ≡ value_at (store_of store.now)
-        (part_process (processes code.now.code.ops.items) part.entry)) }
-{
-    match part {
-        Part::At(place) => value_of(alloc, store, code.op_at(place)),
-        Part::Telling(_) | Part::Gathering(_) => Ok(Value::Nil),
-    }
-}
-
-/// What the step of the part writes.
-pub(crate) fn write_for(
-    alloc: Global,
-    value: &Value,
-    code: &LiveCode,
-    part: Part<'_>,
-) -> Result<Write, Memory>
-    requires { IsInside (length code.now.code.ops.items) part }
-    ensures { IfOk result (λ write. write_of write ≡ write_at value.now
-        (part_process (processes code.now.code.ops.items) part.entry)) }
-{
-    match part {
-        Part::At(place) => write_of(alloc, value, code.op_at(place)),
-        Part::Telling(_) | Part::Gathering(_) => Ok(Write::Nothing),
-    }
 }

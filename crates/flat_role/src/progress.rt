@@ -4,20 +4,24 @@ ghost use Rattle.std.specs.Prelude.{◌≡◌, IfOk, replicate};
 ghost use Rattle.flat_role.specs.declared.marks.Mark.TheVariants as kept;
 
 use crate::entering::enter;
-use crate::leaves::offers_at;
 use crate::marks::Mark;
 use crate::relisting::add_acts;
+use crate::steps::Chosen;
+use crate::updates::place_offers;
 use dioc_terms::{Act, Memory, Role, give_up};
 use flat_code::Plan;
 use std::alloc::Global;
 
 /// How far each construct of the code has come, and the places that can act, from left to right.
+#[cycle(mark)]
 #[derive(Drop)]
 pub(crate) struct Progress {
     pub marks: Vec<Mark>,
     pub active: Vec<usize>,
     /// The places that come in the place of one that acted: kept for its room.
     pub fresh: Vec<usize>,
+    /// The act that it is ready for.
+    pub chosen: Option<Chosen>,
 }
 
 impl Progress {
@@ -25,6 +29,7 @@ impl Progress {
     ghost use Rattle.std.specs.Option.{ForSome};
     ghost use Rattle.flat_code.specs.Codes.{process_of};
     ghost use Rattle.flat_role.specs.Progress.{IsFound, IsProgress, runs_by};
+    ghost use Rattle.flat_role.specs.Updates.{deepest};
     ghost use Rattle.process_steps.specs.Steps.{ended, is_offered, offers};
 
     /// Nothing was done yet. It takes memory by the size of the process.
@@ -32,6 +37,8 @@ impl Progress {
         ensures is { IfOk result (IsProgress me.now plan.now) }
         ensures runs { IfOk result (λ progress. runs_by me.now plan.now progress
             ≡ process_of plan.now.code) }
+        ensures shallow { IfOk result (λ progress. deepest progress.marks.items ≡ 0) }
+        ensures unready { IfOk result (λ progress. progress.chosen ≡ None) }
     {
         let places = plan.places();
         let marks = untouched(alloc, places)?;
@@ -42,6 +49,7 @@ impl Progress {
                 marks,
                 active,
                 fresh,
+                chosen: None,
             }),
             Err(_) => give_up((marks, active), Memory),
         }
@@ -60,6 +68,7 @@ impl Progress {
 
     /// Where the first place that offers the act stands among those that can act. There is none
     /// exactly where the process doesn't offer the act.
+    #[cycle(find)]
     pub(crate) fn find(&self, me: &Role, plan: &Plan, act: &Act) -> Option<usize>
         requires { IsProgress me.now plan.now self.now }
         ensures found { ForSome result (λ at. IsFound me.now plan.now self.now act.now at
@@ -68,9 +77,13 @@ impl Progress {
             (offers me.now (runs_by me.now plan.now self.now)) ≡ false }
     {
         let marks = self.marks.as_slice();
-        self.active
-            .iter()
-            .position(|place| offers_at(me, plan, marks, *place, act))
+        for at in 0..self.active.len() {
+            let place = self.active[at];
+            if place_offers(me, plan, marks, place, act) {
+                return Some(at);
+            }
+        }
+        None
     }
 
     /// Whether nothing is left to do.

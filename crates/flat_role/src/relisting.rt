@@ -2,14 +2,15 @@
 
 ghost use Rattle.std.specs.Prelude.{◌≡◌, ◌<◌, ◌≤◌, ◌+◌, ◌-◌, ◌++◌, ◌∷◌, [], true, false, drop, get_or, take, OnOk, length};
 ghost use Rattle.std.specs.List.{between};
-ghost use Rattle.flat_role.specs.Leaves.{is_leaf, is_update};
+ghost use Rattle.flat_role.specs.Leaves.{is_leaf};
 ghost use Rattle.flat_role.specs.PlanMarks.{plan_len, plan_marks, static_at};
 ghost use Rattle.flat_role.specs.Progress.{IsProgress, acts_at, acts_there, marks_by, runs_by};
 ghost use Rattle.process_steps.specs.Steps.{offers};
 
-use crate::leaves::{Next, add_acts_at, next_at, offers_next};
+use crate::leaves::offers_at;
 use crate::marks::Mark;
 use crate::progress::Progress;
+use crate::updates::add_place;
 use dioc_terms::{Act, Memory, Role};
 use flat_code::Plan;
 use std::alloc::Global;
@@ -79,6 +80,7 @@ fn same_back(progress: &Progress, me: &Role, plan: &Plan, acts: &[Act], front: u
 }
 
 /// Adds the acts that the places offer from the one of this number to that of another.
+#[cycle(acts)]
 pub(crate) fn add_acts(
     progress: &Progress,
     alloc: Global,
@@ -97,7 +99,7 @@ pub(crate) fn add_acts(
     let marks = progress.marks.as_slice();
     for at in from..to {
         let place = progress.active[at];
-        add_acts_at(alloc, me, plan, marks, place, acts)?;
+        add_place(alloc, me, plan, marks, place, acts)?;
     }
     Ok(())
 }
@@ -123,19 +125,10 @@ fn offers_just(me: &Role, plan: &Plan, marks: &[Mark], place: usize, act: &Act) 
     ensures { result ≡ true → acts_there me.now plan.now (plan_marks me.now plan.now marks.now)
         place ≡ act.now ∷ [] }
 {
-    let next = next_at(me, plan, marks, place);
-    if is_update(next) {
-        false
-    } else {
-        offers_next(me, act, next)
+    match &marks[place] {
+        Mark::Became(_) => false,
+        _ => offers_at(me, plan, marks, place, act),
     }
-}
-
-/// Whether an update is next.
-fn is_update(next: Next<'_>) -> bool
-    ensures { result ≡ is_update next.entry }
-{
-    matches!(next, Next::Update(_))
 }
 
 /// Puts acts in the place of all but so many at the front and so many at the back.

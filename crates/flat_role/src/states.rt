@@ -4,7 +4,7 @@ ghost use Rattle.std.specs.Prelude.{◌≡◌, ◌≤◌, true, IfOk, length, ve
 ghost use Rattle.dioc_terms.specs.KeptStores.{store_of};
 ghost use Rattle.flat_code.specs.Codes.{process_of};
 ghost use Rattle.flat_role.specs.PlanMarks.{plan_len};
-ghost use Rattle.flat_role.specs.Progress.{marks_by};
+ghost use Rattle.flat_role.specs.Progress.{AreOf, AreOf-prop, marks_by};
 ghost use Rattle.role_statuses.specs.KeptTests.{is_kept};
 ghost use Rattle.role_statuses.specs.ListLaws.{active};
 
@@ -13,7 +13,8 @@ use crate::filling::fill_acts;
 use crate::progress::Progress;
 use crate::readying::make_ready;
 use crate::relisting::refresh_acts;
-use crate::steps::{Ready, clear};
+use crate::steps::{Own, clear};
+use crate::updates::count_ops;
 use dioc_terms::{Act, Memory, Role, Store, give_up};
 use dpoc_process::{Got, PrepareFault, Prepared, Runs};
 use flat_code::{Code, Plan};
@@ -28,13 +29,14 @@ pub struct FlatRole {
     plan: Plan,
     progress: Progress,
     store: Store,
-    ready: Option<Ready>,
+    ready: Option<Own>,
     ghost as_long: { length progress.marks.items ≡ plan_len plan },
     ghost kept: { is_kept role (marks_by role plan progress) (process_of plan.code) ≡ true },
     ghost listed: { progress.active.items ≡ active role (marks_by role plan progress)
         (process_of plan.code) },
     ghost room: { plan_len plan ≤ vec_capacity progress.active },
     ghost spare: { plan_len plan ≤ vec_capacity progress.fresh },
+    ghost mine: { AreOf role progress.marks.items } by { AreOf-prop role progress.marks.items },
 }
 
 impl Drop for FlatRole {
@@ -81,11 +83,7 @@ impl FlatRole {
     pub fn code_len(&self) -> usize
         ensures { result ≡ code_len self.now }
     {
-        let mut len = self.plan.code.ops.len();
-        for mark in self.progress.marks.as_slice() {
-            len = len.saturating_add(mark.update_len());
-        }
-        len
+        count_ops(&self.plan, &self.progress)
     }
 }
 
@@ -129,14 +127,14 @@ impl Runs for FlatRole {
     }
 
     fn advance(&mut self, act: &Act, got: Got) {
-        let ready = self.ready.take().unwrap();
+        let own = self.ready.take().unwrap();
         advance(
             &self.role,
             &self.plan,
             act,
             &mut self.progress,
             &mut self.store,
-            ready,
+            own,
             got,
         );
     }

@@ -72,10 +72,10 @@ fn lengths_of_part(alloc: Global) -> Result<Vec<(usize, usize)>, Fail> {
 }
 
 #[test]
-fn a_part_is_linked_once(rt: HostRuntime) -> Result<(), Fail> {
+fn a_part_is_compiled_once(rt: HostRuntime) -> Result<(), Fail> {
     let found = lengths_of_part(rt.alloc())?;
-    // The scope has two ops, an update begins with one of nothing to do, and the part has two.
-    let want = [(2, 3), (5, 5), (5, 5), (5, 5), (5, 5)];
+    // The scope has two ops. The part has two, what follows it three, and a sequence holds both.
+    let want = [(2, 2), (8, 8), (8, 8), (8, 8), (8, 8)];
     assert!(rt; found.as_slice() == want.as_slice());
     Ok(())
 }

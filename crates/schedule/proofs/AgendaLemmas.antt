@@ -1,13 +1,12 @@
 -- An agenda lists the acts of a net, and is brought up to date after the last act.
 use Rattle.std.proofs.Common.{◌≡◌, ◌<◌, ◌≤◌, ◌+◌, ◌-◌, ℕ, zero, suc, List, [], ◌∷◌, ◌++◌, length, Bool, true, false, ◌&&◌, not, Option, Some, slice_get, refl, sym, ap, ap₂, ◌∙◌, subst, map, arith, take, drop, get_or}
 use Rattle.std.specs.Prelude.{◌||◌, flat_map, if◌then◌else◌, slice_set, vec_len}
-use Rattle.std.specs.List.{between, list_all}
-use Rattle.std.proofs.lemmas.Bool.{and_from, both_ways, cond-false, or_left, or_right}
+use Rattle.std.specs.List.{list_all}
+use Rattle.std.proofs.lemmas.Bool.{and_from, both_ways, or_left, or_right}
 use Rattle.std.proofs.lemmas.List.{append-nil, drop_more, get_or-map, get_or_at, length-append, length-map, length-take, map-set, take_all, take_more}
 use Rattle.std.proofs.lemmas.List.Edits.{map_over_more}
 use Rattle.std.proofs.lemmas.List.Folds.{flat_map-map, list_all_at}
 use Rattle.std.proofs.lemmas.Option.{slice_get_read}
-use Rattle.std.proofs.lemmas.Slice.{between_to_end}
 use Rattle.dioc_terms.specs.declared.entries.Act.{Act}
 use Rattle.dioc_terms.specs.declared.entries.Act.TheVariants as act
 use Rattle.dioc_terms.specs.declared.names.Role.{Role}

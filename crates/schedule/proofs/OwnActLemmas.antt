@@ -1,5 +1,5 @@
 -- What a role lists that acted, once its act is taken out of its list.
-use Rattle.std.proofs.Common.{◌≡◌, ◌+◌, ◌-◌, ◌<◌, ◌≤◌, ℕ, List, ◌∷◌, ◌++◌, Bool, false, not, length, take, drop, Some, None, refl, ap, ap₂, ◌∙◌, sym, arith}
+use Rattle.std.proofs.Common.{◌≡◌, ◌+◌, ◌-◌, ◌<◌, ◌≤◌, ℕ, List, ◌∷◌, ◌++◌, false, not, length, take, drop, Some, ap, ap₂, ◌∙◌, sym, arith}
 use Rattle.std.specs.Prelude.{filter, nat_eq}
 use Rattle.std.specs.List.{position, remove}
 use Rattle.std.proofs.Math.Seq.{drop-append_seam, take-append_seam}

@@ -1,5 +1,5 @@
 -- The places of what a role can do, where other acts stand in place of the one that it did.
-use Rattle.std.proofs.Common.{◌≡◌, ◌+◌, ◌-◌, ◌<◌, ◌≤◌, ℕ, zero, suc, List, [], ◌∷◌, ◌++◌, Bool, true, false, not, length, map, take, drop, get_or, Some, refl, ap, ap₂, ◌∙◌, sym, arith, subst, ⊎_elim}
+use Rattle.std.proofs.Common.{◌≡◌, ◌+◌, ◌-◌, ◌<◌, ◌≤◌, ℕ, zero, suc, List, [], ◌∷◌, ◌++◌, Bool, true, false, not, length, map, take, drop, get_or, Some, refl, ap, ap₂, ◌∙◌, sym, arith, ⊎_elim}
 use Rattle.std.specs.Prelude.{◌||◌, filter, if◌then◌else◌, nat_eq, nat_le, nat_lt, slice_set}
 use Rattle.std.specs.List.{list_all, position, position_from}
 use Rattle.std.proofs.Math.Seq.{drop-append-add, drop-append_seam, take-append_seam}

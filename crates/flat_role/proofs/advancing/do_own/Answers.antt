@@ -7,3 +7,6 @@ returns-clause-moved c = λ me a d y acts. (
   c.go_on_itself.ensures.moved me (store_of c.args.store.now) a d y acts.goes,
   c.go_on_itself.ensures.stored,
 )
+
+pub returns-clause-mine : goal.returns-clause-mine
+returns-clause-mine c = λ me mine role. c.go_on_itself.ensures.mine me mine

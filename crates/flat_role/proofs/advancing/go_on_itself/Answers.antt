@@ -2,10 +2,10 @@
 use Rattle.std.proofs.Common.{◌≡◌, ap, refl, sym, subst, ◌∙◌, arith}
 use Rattle.std.proofs.lemmas.List.{get_or_read}
 use Rattle.dpoc_process.specs.Handed.{given_like, handed}
-use Rattle.flat_role.specs.Advancing.{mark_in}
 use Rattle.flat_role.specs.declared.marks.Mark.TheVariants as kept
 use Rattle.flat_role.specs.MovedMarks.{IsMovedTo, IsMoving}
-use Rattle.flat_role.specs.PlanMarks.{low_at, plan_marks, static_at}
+use Rattle.flat_role.specs.PlanMarks.{low_at, mark_in, plan_marks, static_at}
+use Rattle.flat_role.proofs.MineLemmas.{own_mine}
 use Rattle.flat_role.proofs.advancing.go_on_itself.Goals as goal
 use Rattle.role_statuses.specs.Local.{write}
 
@@ -35,3 +35,7 @@ returns-clause-moved c = λ me s a d y goes.
           ∙ ap (write (plan_marks me plan old) (low_at plan place) place P) (sym to.mark_is);
       over_is = sym to.over_is;
     }
+
+pub returns-clause-mine : goal.returns-clause-mine
+returns-clause-mine c = λ me mine. c.write.ensures.mine me mine
+    (own_mine me c.moved-mark.result.0 c.moved-mark.ensures.own)

@@ -16,3 +16,7 @@ returns-clause-put c = λ me room comes.
           (c.filled-mark.ensures.mark me P P room comes);
       over_is = c.filled-mark.ensures.over me P room comes;
     }
+
+pub returns-clause-mine : goal.returns-clause-mine
+returns-clause-mine c = λ me mine role. c.write.ensures.mine me mine
+    (c.filled-mark.ensures.mine me role)

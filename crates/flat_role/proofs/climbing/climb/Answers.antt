@@ -21,6 +21,7 @@ loop-up-preserved c =
       way = subst (λ p. IsWay me (plan_layout plan) n start c.args.place c.args.over new c.in-Some.up c.in-Some.up_ended p) (sym c.first_left-left.ensures)
           (way_rises me (plan_layout plan) n start c.args.place c.args.over (plan_marks me plan l.marks.items) new l.at l.ended l.left (c.in-Some.up, c.in-Some.up_ended)
           l.invariant.way l.invariant.inside c.in-Some.ensures.above (c.in-Some.ensures.rises me));
+      mine = λ mine. c.rise.ensures.mine me (l.invariant.mine mine);
     }
 
 pub returns-clause-walked : goal.returns-clause-walked
@@ -39,3 +40,7 @@ returns-clause-stop c =
     c.first_left.ensures
     ∙ (way_ends me (plan_layout plan) (plan_len plan) (plan_marks me plan c.args.marks.now.items) c.args.place c.args.over (plan_marks me plan l.marks.items)
     (plan_marks me plan c.rise.new.marks.items) l.at l.ended l.left l.invariant.way l.invariant.inside (c.in_default.ensures.rises me)).stopped
+
+pub returns-clause-mine : goal.returns-clause-mine
+returns-clause-mine c = λ mine.
+    c.rise.ensures.mine c.args.me.now (c.loop-up.invariant.mine mine)

@@ -1,9 +1,10 @@
 -- The mark is written, or stays as it is.
-use Rattle.std.proofs.Common.{◌≡◌, ◌+◌, ◌<◌, ◌∙◌, ℕ, suc, not, Bool, ap, sym, refl, arith}
-use Rattle.std.specs.Prelude.{nat_eq}
+use Rattle.std.proofs.Common.{◌≡◌, ◌+◌, ◌<◌, ◌∙◌, ℕ, suc, not, Bool, ap, sym, subst, refl, arith}
+use Rattle.std.specs.Prelude.{IfSome, nat_eq}
 use Rattle.std.proofs.lemmas.List.{get_or_read}
 use Rattle.flat_role.specs.declared.marks.Mark.TheVariants as kept
 use Rattle.flat_role.specs.PlanMarks.{plan_len, static_at}
+use Rattle.flat_role.specs.Progress.{IsOf}
 use Rattle.flat_role.proofs.ClimbLemmas.{behind, rises_leaving, rises_writing}
 use Rattle.flat_role.proofs.climbing.rise.Goals as goal
 
@@ -42,3 +43,7 @@ returns-in_default-clause-rises c me =
     (get_or_read old up c.index-mark.result.now (omega (arith, inside, c.requires.as_long)) c.index-mark.ensures kept.Untouched)
     which (sym (c.goes_up.ensures me (static_at plan up)) ∙ c.if-not-goes_up.false) (c.after_part-new.ensures.over me) (c.after_part-new.ensures.marked me)
     (c.after_part-new.ensures.left me) refl
+
+pub returns-in-Some-clause-mine : goal.returns-in-Some-clause-mine
+returns-in-Some-clause-mine c = λ me mine. c.write.ensures.mine me mine
+    (subst (λ o. IfSome o (IsOf me)) c.in-Some.is (c.after_part-new.ensures.mine me))

@@ -1,9 +1,10 @@
 -- A place that can act offers what the process in front of it offers.
 use Rattle.std.proofs.Common.{sym, ap, ◌∙◌}
 use Rattle.flat_role.proofs.LeafActs.{leaf_offers}
+use Rattle.flat_role.proofs.FoundLemmas.{meant_own}
 use Rattle.flat_role.proofs.NextLemmas.{single_next}
 use Rattle.flat_role.specs.Leaves.{front}
-use Rattle.flat_role.specs.PlanMarks.{plan_marks, static_at}
+use Rattle.flat_role.specs.PlanMarks.{mark_in, plan_marks, static_at}
 use Rattle.process_steps.specs.Steps.{is_offered}
 use Rattle.flat_role.proofs.leaves.offers_at.Goals as goal
 
@@ -12,11 +13,13 @@ offers_next-requires c =
     single_next c.args.me.now
     (plan_marks c.args.me.now c.args.plan.now c.args.marks.now c.args.place)
     (static_at c.args.plan.now c.args.place) c.next_at-next.result c.requires.leaf
-    c.next_at-next.ensures.is c.next_at-next.ensures.apart
+    (meant_own c.args.me.now (static_at c.args.plan.now c.args.place)
+    (mark_in c.args.marks.now c.args.place) c.requires.own)
+    c.next_at-next.ensures
 
 pub returns : goal.returns
 returns c =
     let m = plan_marks c.args.me.now c.args.plan.now c.args.marks.now c.args.place in
     let P = static_at c.args.plan.now c.args.place in
-    c.offers_next.ensures (front c.args.me.now m P) c.next_at-next.ensures.is
+    c.offers_next.ensures (front c.args.me.now m P) c.next_at-next.ensures
     ∙ ap (is_offered c.args.act.now) (sym (leaf_offers c.args.me.now m P c.requires.leaf))

@@ -1,50 +1,58 @@
 -- Room for what comes in the place of an op is room in the place of its process.
-use Rattle.std.proofs.Common.{◌≡◌, length, refl, sym, ap, ◌∙◌, subst}
+use Rattle.std.proofs.Common.{◌≡◌, refl, sym, ap, ◌∙◌, subst}
 use Rattle.std.proofs.lemmas.Result.{IfOk-weaker}
-use Rattle.dioc_terms.specs.declared.names.Role.{Role}
 use Rattle.dioc_terms.specs.Processes.{More, Process, Tell, letters, load}
-use Rattle.flat_code.specs.Places.{at, op_process, processes}
-use Rattle.flat_role.proofs.ReplacingLemmas.{follows_room}
-use Rattle.flat_role.specs.declared.replacing.Room.{Room}
-use Rattle.flat_role.specs.Replacing.{IsRoom, IsRoomFor}
+use Rattle.dpoc_process.specs.Growth.{leader_end}
+use Rattle.flat_code.specs.Places.{at, op_process}
+use Rattle.flat_role.proofs.ReplacingLemmas.{follows_room, leads_room, made_for, tells_room}
+use Rattle.flat_role.specs.declared.replacing.What.TheVariants as what
+use Rattle.flat_role.specs.Replacing.{IsRoomFor}
 use Rattle.flat_role.proofs.making_room.room_of.Goals as goal
 
--- by another name of the process
-room_by : (me : Role) (R S : Process) (room : Room) → S ≡ R → IsRoom me R room → IsRoom me S room
-room_by me R S room is = subst (λ (P : Process). IsRoom me P room) (sym is)
-
-pub invariant_of-result-in-Ok-followed_scope : goal.invariant_of-result-in-Ok-followed_scope
-invariant_of-result-in-Ok-followed_scope c =
-    let ops = c.in_ok-update-in-ScopeFollow.update.value.code.code.ops.items in
-    record {
-      placed = (c.in-Ok-followed_scope.ensures (processes ops) (length ops)
-          c.in_ok-update-in-ScopeFollow.ensures).placed;
-    }
-
-pub returns-in-Ok-followed_scope : goal.returns-in-Ok-followed_scope
-returns-in-Ok-followed_scope c done =
-    let op = c.in-ScopeFollow in
+pub returns-in_ok-lead-in-ScopeLead : goal.returns-in_ok-lead-in-ScopeLead
+returns-in_ok-lead-in-ScopeLead c done =
     let me = c.args.me.now in
-    let ops = c.in_ok-update-in-ScopeFollow.update.value.code.code.ops.items in
-    room_by me _ _ _ (ap (op_process done) op.is)
-    (follows_room me op.index op.leader (at done op.body) (at (processes ops) 0) _ refl
-    (c.in-Ok-followed_scope.ensures (processes ops) (length ops)
-    c.in_ok-update-in-ScopeFollow.ensures))
+    let op = c.in-ScopeLead in
+    let lead = c.in_ok-lead-in-ScopeLead.lead in
+    IfOk-weaker c.room.result _
+    (IsRoomFor me (op_process done c.args.op.now))
+    (λ o made. subst (λ (R : Process). IsRoomFor me R o) (sym (ap (op_process done) op.is))
+    (made_for me _ (what.Leads lead) o
+    (λ room role is. leads_room me op.head op.others (at done op.body) lead room role is
+    (c.in_ok-lead-in-ScopeLead.ensures
+    ∙ ap (λ os. leader_end me os op.head.index) c.as_slice.ensures)) made))
+    c.room.ensures
 
-pub returns-in-Ok-copy : goal.returns-in-Ok-copy
-returns-in-Ok-copy c done =
+pub returns-in_ok-follow-in-ScopeFollow : goal.returns-in_ok-follow-in-ScopeFollow
+returns-in_ok-follow-in-ScopeFollow c done =
+    let me = c.args.me.now in
+    let op = c.in-ScopeFollow in
+    let follow = c.in_ok-follow-in-ScopeFollow.follow in
+    IfOk-weaker c.room-in-ScopeFollow.result _
+    (IsRoomFor me (op_process done c.args.op.now))
+    (λ o made. subst (λ (R : Process). IsRoomFor me R o) (sym (ap (op_process done) op.is))
+    (made_for me _ (what.Follows follow) o
+    (λ room role is. follows_room me op.index op.leader (at done op.body) follow room role is
+    c.in_ok-follow-in-ScopeFollow.ensures) made))
+    c.room-in-ScopeFollow.ensures
+
+pub returns-in_ok-left-in-Tell-More : goal.returns-in_ok-left-in-Tell-More
+returns-in_ok-left-in-Tell-More c done =
     let me = c.args.me.now in
     let op = c.in-Tell-More in
     let l = load op.messages-1.value in
-    let rest = letters c.in-Ok-copy.rest in
+    let left = c.in_ok-left-in-Tell-More.left in
+    let rest = letters left.value in
     let same : rest ≡ letters op.rest.value =
-    c.in-Ok-copy.ensures ∙ ap letters c.deref-in-Tell-More.ensures in
+    ap letters c.in_ok-left-in-Tell-More.ensures ∙ c.in_ok-copy-in-Tell-More.ensures
+    ∙ ap letters c.deref.ensures in
     let told = rw op.is at op.messages-is in
     let stands : op_process done c.args.op.now ≡ Tell (More op.messages-0 l rest) =
     ap (op_process done) op.is ∙ ap (λ ms. Tell (letters ms)) {x = op.messages} told
     ∙ ap (λ ms. Tell (More op.messages-0 l ms)) (sym same) in
-    IfOk-weaker c.told_room.result
-    (λ room. (me : Role) → IsRoomFor me (Tell (More op.messages-0 l rest)) room)
+    IfOk-weaker c.room-in-Tell-More.result _
     (IsRoomFor me (op_process done c.args.op.now))
-    (λ room is. subst (λ (R : Process). IsRoomFor me R room) (sym stands) (is me))
-    (c.told_room.ensures op.messages-0 l)
+    (λ o made. subst (λ (R : Process). IsRoomFor me R o) (sym stands)
+    (made_for me _ (what.Tells left) o
+    (λ room role is. tells_room me op.messages-0 l rest room role is refl) made))
+    c.room-in-Tell-More.ensures

@@ -9,6 +9,8 @@ use Rattle.flat_role.specs.MovedMarks.{Moves, awaited_or, came, count_from, take
 use Rattle.flat_role.proofs.MovedLemmas.{moves_as}
 use Rattle.flat_role.proofs.OpMoveLemmas.{choice_followed, gather_moves, plain_moves, plain_op}
 use Rattle.process_steps.specs.Steps.{ended}
+use Rattle.flat_role.specs.MovedMarks.{runs_update}
+use Rattle.flat_role.proofs.OwnMarks.{awaited_own, own_by}
 use Rattle.flat_role.proofs.moved.moved.Goals as goal
 
 pub returns-in-IfLead : goal.returns-in-IfLead
@@ -21,8 +23,9 @@ returns-in-IfLead c =
     let got = handed c.args.got.now in
     record {
       moved = subst (λ P. Moves P c.args.mark.now c.args.pick got c.led_choice.result) (sym here)
-          (c.led_choice.ensures op.index (expression op.guard) op.others (at done op.yes)
+          (c.led_choice.ensures.1 op.index (expression op.guard) op.others (at done op.yes)
           (at done op.no) got (cc) (cc) (cc));
+      own = c.led_choice.ensures.0;
     }
 
 pub returns-in-IfFollow : goal.returns-in-IfFollow
@@ -42,6 +45,7 @@ returns-in-IfFollow c =
           refl is
           (choice_followed op.index op.leader (at done op.yes) (at done op.no) c.args.mark.now
           c.args.pick got (ended (at done op.yes)) (ended (at done op.no)) refl refl));
+      own = own_by is refl;
     }
 
 pub returns-in-WhileLead : goal.returns-in-WhileLead
@@ -53,8 +57,9 @@ returns-in-WhileLead c =
     let got = handed c.args.got.now in
     record {
       moved = subst (λ P. Moves P c.args.mark.now c.args.pick got c.led_loop.result) (sym here)
-          (c.led_loop.ensures op.index (expression op.guard) op.others (at done op.body) got
+          (c.led_loop.ensures.1 op.index (expression op.guard) op.others (at done op.body) got
           (cc) (cc));
+      own = c.led_loop.ensures.0;
     }
 
 pub returns-in-WhileFollow : goal.returns-in-WhileFollow
@@ -66,8 +71,9 @@ returns-in-WhileFollow c =
     let got = handed c.args.got.now in
     record {
       moved = subst (λ P. Moves P c.args.mark.now c.args.pick got c.followed_loop.result) (sym here)
-          (c.followed_loop.ensures op.index op.leader (at done op.body) got (cc) (cc)
+          (c.followed_loop.ensures.1 op.index op.leader (at done op.body) got (cc) (cc)
           c.args.pick);
+      own = c.followed_loop.ensures.0;
     }
 
 pub returns-in-ScopeLead : goal.returns-in-ScopeLead
@@ -79,7 +85,8 @@ returns-in-ScopeLead c =
     let got = handed c.args.got.now in
     record {
       moved = subst (λ P. Moves P c.args.mark.now c.args.pick got c.led_scope.result) (sym here)
-          (c.led_scope.ensures op.head op.others (at done op.body) got (cc) (cc) c.args.pick);
+          (c.led_scope.ensures.1 op.head op.others (at done op.body) got (cc) (cc) c.args.pick);
+      own = c.led_scope.ensures.0;
     }
 
 pub returns-in-ScopeFollow : goal.returns-in-ScopeFollow
@@ -91,7 +98,8 @@ returns-in-ScopeFollow c =
     let got = handed c.args.got.now in
     record {
       moved = subst (λ P. Moves P c.args.mark.now c.args.pick got c.followed_scope.result) (sym here)
-          (c.followed_scope.ensures op.index op.leader (at done op.body) got (cc) c.args.pick);
+          (c.followed_scope.ensures.1 op.index op.leader (at done op.body) got (cc) c.args.pick);
+      own = c.followed_scope.ensures.0;
     }
 
 pub returns-in-Gather : goal.returns-in-Gather
@@ -107,6 +115,7 @@ returns-in-Gather c =
       moved = subst (λ P. Moves P c.args.mark.now c.args.pick got c.waiting.result) (sym here)
           (moves_as (Gather op.keys) c.args.pick got refl is
           (gather_moves op.keys c.args.mark.now c.args.pick got));
+      own = own_by is (awaited_own _);
     }
 
 pub returns-in_default : goal.returns-in_default
@@ -122,4 +131,5 @@ returns-in_default c =
           (plain_op done c.op_at.result.now other.not-IfLead other.not-IfFollow other.not-WhileLead
           other.not-WhileFollow other.not-ScopeLead other.not-ScopeFollow
           other.not-Gather));
+      own = refl;
     }

@@ -1,8 +1,8 @@
 -- The acts that were filled in stand between those before them and those behind.
-use Rattle.std.proofs.Common.{◌≡◌, ◌+◌, ◌-◌, ◌<◌, ℕ, List, map, take, drop, true, length, sym, ap, ◌∙◌, subst, arith}
+use Rattle.std.proofs.Common.{◌≡◌, ◌+◌, ◌-◌, ◌<◌, ℕ, List, map, take, drop, length, sym, ap, ◌∙◌, arith}
 use Rattle.std.specs.Prelude.{nat_le}
 use Rattle.std.specs.List.{list_all}
-use Rattle.std.proofs.lemmas.List.{length-append, length-drop, length-map, length-take-le}
+use Rattle.std.proofs.lemmas.List.{length-drop, length-map, length-take-le}
 use Rattle.dioc_terms.specs.declared.entries.Act.{Act}
 use Rattle.net_core.specs.Nets.{network_of}
 use Rattle.network_steps.specs.Schedule.{is_ready}

@@ -1,9 +1,10 @@
 -- Nothing was done yet, and the places that can act are those of the whole.
-use Rattle.std.proofs.Common.{◌≡◌, ◌+◌, ◌≤◌, ◌++◌, length, replicate, arith, ap, ap₂, ◌∙◌}
+use Rattle.std.proofs.Common.{◌≡◌, None, ◌+◌, ◌≤◌, ◌++◌, length, replicate, arith, ap, ap₂, ◌∙◌}
 use Rattle.std.specs.Prelude.{vec_capacity}
 use Rattle.std.proofs.lemmas.List.{length-replicate}
 use Rattle.flat_role.specs.declared.marks.Mark.TheVariants as kept
 use Rattle.flat_role.specs.PlanMarks.{places_at, plan_len}
+use Rattle.flat_role.proofs.MineLemmas.{fresh_shallow, mine_fresh}
 use Rattle.flat_role.proofs.ProgressLemmas.{begins, begins-with, few-places}
 use Rattle.flat_role.proofs.progress.Progress.new.Goals as goal
 
@@ -36,8 +37,12 @@ returns-in-Ok-clause-is c =
     begins me plan _ (c.in_ok-marks.ensures ∙ ap (λ n. replicate n kept.Untouched) many)
     (c.enter.ensures.entered ∙ ap₂ (λ xs ms. xs ++ places_at me plan ms plan.code.start) c.in_ok-active.ensures.items c.as_slice.ensures.value)
     (omega (arith, many, capacity, same)) (omega (arith, many, spare))
+    (mine_fresh me _ _ c.in_ok-marks.ensures)
+
+pub returns-in-Ok-clause-shallow : goal.returns-in-Ok-clause-shallow
+returns-in-Ok-clause-shallow c = fresh_shallow _ _ c.in_ok-marks.ensures
 
 pub returns-in-Ok-clause-runs : goal.returns-in-Ok-clause-runs
 returns-in-Ok-clause-runs c =
-    begins-with c.args.me.now c.args.plan.now (record { marks = c.in_ok-marks.marks; active = c.enter.new.places; fresh = c.in-Ok.fresh })
+    begins-with c.args.me.now c.args.plan.now (record { marks = c.in_ok-marks.marks; active = c.enter.new.places; fresh = c.in-Ok.fresh; chosen = None })
     (c.in_ok-marks.ensures ∙ ap (λ n. replicate n kept.Untouched) c.places-places.ensures)

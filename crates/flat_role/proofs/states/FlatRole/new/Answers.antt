@@ -15,4 +15,5 @@ invariant_of-result c =
       listed = is.listed;
       room = is.room;
       spare = is.spare;
+      mine = is.mine;
     }

@@ -19,4 +19,5 @@ invariant_of-self c =
       listed = is.listed;
       room = is.room;
       spare = is.spare;
+      mine = is.mine;
     }

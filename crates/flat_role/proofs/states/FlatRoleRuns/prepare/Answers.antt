@@ -29,6 +29,7 @@ invariant_of-self-then-is_err c =
       listed = is.listed;
       room = is.room;
       spare = is.spare;
+      mine = is.mine;
     }
 
 pub invariant_of-self-else-is_err : goal.invariant_of-self-else-is_err
@@ -42,6 +43,7 @@ invariant_of-self-else-is_err c =
       listed = is.listed;
       room = is.room;
       spare = is.spare;
+      mine = is.mine;
     }
 
 not_both : true ≡ false → ⊥
