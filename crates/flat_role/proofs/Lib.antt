@@ -3,6 +3,7 @@ pub mod AdvanceLemmas
 pub mod ChosenLemmas
 pub mod ClimbLemmas
 pub mod CountLemmas
+pub mod Crossing
 pub mod Edited
 pub mod EnterLemmas
 pub mod FillLemmas
