@@ -26,3 +26,4 @@ pub mod LinesThrough
 pub mod SectionsThrough
 pub mod Prefixes
 pub mod Begins
+pub mod Sent

@@ -25,6 +25,11 @@ pub many_last : {A : Type 0} {Reads : List Lexeme → A → List Lexeme → Type
 many_last no_more r = one_more r no_more
 many_last (one_more r s) t = one_more r (many_last s t)
 
+-- more items
+pub many_append : {A : Type 0} {Reads : List Lexeme → A → List Lexeme → Type 0} {from middle to : List Lexeme} {items more : List A} → Many Reads from items middle → Many Reads middle more to → Many Reads from (items ++ more) to
+many_append no_more s = s
+many_append (one_more r s) t = one_more r (many_append s t)
+
 -- what stands behind the first items of all
 pub record Behind {A : Type 0} (Reads : List Lexeme → A → List Lexeme → Type 0) (items all : List A) (from to : List Lexeme) : Type 0 where
   pub rest : List A

@@ -1,9 +1,10 @@
 -- What the readers of sessions answer.
-use Rattle.std.specs.Prelude.{◌≡◌, ℕ, ◌<◌, ◌≤◌, List, length, drop}
-use Rattle.dioc_terms.specs.Plain.{PlainBundle}
+use Rattle.std.specs.Prelude.{◌≡◌, ℕ, ◌<◌, ◌≤◌, List, length, map, drop}
+use Rattle.dioc_terms.specs.Plain.{PlainBundle, plain}
 use Rattle.aioc_tokens.specs.declared.words.Punctuator.TheVariants as punctuator
 use Rattle.aioc_tokens.specs.declared.words.Sort.TheVariants as sorts
 use Rattle.aioc_tokens.specs.Lexemes.{Lexeme, sort_of}
+use Rattle.bundle_text.specs.declared.runs.Run.{Run}
 use Rattle.bundle_text.specs.Many.{Many}
 use Rattle.bundle_text.specs.Grammar.{closed_before, Section, IsSection, Joined, joined_sections, IsMadeOf}
 use Rattle.bundle_text.specs.Sessions.{IsSession}
@@ -34,3 +35,8 @@ pub record TakesSession (text : List Lexeme) (at : ℕ) (b : PlainBundle) (next 
   pub stands : IsSession (drop at text) b (drop next text)
   pub after : at < next
   pub within : next ≤ length text
+
+-- the sessions of a run stand between its places of the text
+abbrev pub IsRunIn : List Lexeme → Run → Type 0
+IsRunIn text run =
+    Many IsSession (drop run.from text) (map plain run.sessions.items) (drop run.to text)

@@ -6,6 +6,7 @@ mod items;
 mod laws;
 mod parts;
 mod reader;
+mod runs;
 mod sections;
 mod sessions;
 mod stops;
@@ -17,5 +18,6 @@ pub use laws::{
     written_is_spelled,
 };
 pub use reader::{read_bundle, read_bundle_with_tokens};
+pub use runs::read_sessions_by;
 pub use sessions::read_sessions;
 pub use writer::write_bundle;

@@ -93,7 +93,7 @@ fn sessions_of(alloc: Global, text: &Lexed<'_>) -> Result<Vec<Bundle>, Stop>
 }
 
 /// The bundle of the session at a place of the text, and the place behind the session.
-fn session_at(alloc: Global, text: &Lexed<'_>, at: usize) -> Result<(Bundle, usize), Stop>
+pub fn session_at(alloc: Global, text: &Lexed<'_>, at: usize) -> Result<(Bundle, usize), Stop>
     requires few { length text.now ≤ greatest_place }
     requires within { at ≤ length text.now }
     ensures found { IfOk result (λ read. TakesSession text.now at (plain read.0) read.1) }

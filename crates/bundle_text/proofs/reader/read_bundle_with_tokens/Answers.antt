@@ -1,5 +1,5 @@
 -- What the looks show, said of the bytes.
-use Rattle.std.proofs.Common.{◌≡◌, ◌≢◌, ℕ, ◌≤◌, List, [], length, Result, Err, refl, sym, subst, ap, ◌∙◌, arith}
+use Rattle.std.proofs.Common.{◌≡◌, ◌≢◌, ℕ, ◌≤◌, List, length, Result, Err, refl, sym, subst, ap, ◌∙◌, arith}
 use Rattle.limits.specs.Limits.{most_bytes}
 use Rattle.dioc_terms.specs.Plain.{plain}
 use Rattle.aioc_tokens.specs.declared.kinds.Token.{Token}
@@ -10,7 +10,6 @@ use Rattle.dioc_terms.specs.declared.faults.SyntaxFault.TheVariants as fault
 use Rattle.wanted_tokens.specs.declared.goals.Goal.TheVariants as goals
 use Rattle.bundle_text.specs.declared.stops.Stop.{Stop}
 use Rattle.bundle_text.specs.declared.stops.Stop.TheVariants as stop
-use Rattle.bundle_text.specs.Grammar.{IsBundle}
 use Rattle.bundle_text.specs.Stops.{place_in, EndsAt, EndsAtByte, bad_byte, at_token, named_place}
 use Rattle.bundle_text.proofs.Wholes.{bad_byte_none, byte_none}
 use Rattle.bundle_text.proofs.Formed.{read_formed}

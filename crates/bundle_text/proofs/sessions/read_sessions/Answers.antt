@@ -1,7 +1,6 @@
 -- What the looks show, said of the bytes.
-use Rattle.std.proofs.Common.{◌≡◌, ◌≢◌, ℕ, ◌≤◌, List, [], length, map, Result, Err, refl, sym, subst, ap, ◌∙◌, arith}
+use Rattle.std.proofs.Common.{◌≡◌, ◌≢◌, ℕ, ◌≤◌, List, length, Result, Err, refl, sym, subst, ap, ◌∙◌, arith}
 use Rattle.limits.specs.Limits.{most_bytes}
-use Rattle.dioc_terms.specs.Plain.{plain}
 use Rattle.aioc_tokens.specs.declared.kinds.Token.{Token}
 use Rattle.aioc_tokens.specs.Lexing.{Lexes, place_of}
 use Rattle.aioc_tokens.specs.Lexemes.{Lexeme, lexemes}
@@ -10,8 +9,7 @@ use Rattle.dioc_terms.specs.declared.faults.SyntaxFault.TheVariants as fault
 use Rattle.wanted_tokens.specs.declared.goals.Goal.TheVariants as goals
 use Rattle.bundle_text.specs.declared.stops.Stop.{Stop}
 use Rattle.bundle_text.specs.declared.stops.Stop.TheVariants as stop
-use Rattle.bundle_text.specs.Many.{Many}
-use Rattle.bundle_text.specs.Sessions.{IsSession, EndsAmongSessions, SessionsEndAtByte, at_token}
+use Rattle.bundle_text.specs.Sessions.{EndsAmongSessions, SessionsEndAtByte, at_token}
 use Rattle.bundle_text.specs.Stops.{place_in, named_place}
 use Rattle.bundle_text.proofs.SessionLists.{bad_byte_no_sessions, byte_no_sessions, sessions_formed}
 use Rattle.bundle_text.proofs.sessions.read_sessions.Goals as goal
