@@ -167,12 +167,14 @@ added_last old mid o P parts =
       );
     }
 
+pub added_behind : (old mid new : List Op) (o : Op) (P : Process) (place : ℕ) → AreAdded old mid o P → IsPushed mid new o place → IsAdded old new place P
+added_behind old mid new o P place parts p =
+    subst (λ ops. IsAdded old ops place P) (sym p.longer) (subst (λ n. IsAdded old (mid ++ o ∷ []) n P) (sym p.place_is) (added_last old mid o P parts))
+
 pub added_pushed : {E : Type 0} (made : Result ℕ E) (old mid new : List Op) (o : Op) (P : Process) → AreAdded old mid o P
     → IfOk made (λ place. IsPushed mid new o place) → IfOk made (λ place. IsAdded old new place P)
 added_pushed made old mid new o P parts pushed =
-    IfOk-weaker made (λ place. IsPushed mid new o place) (λ place. IsAdded old new place P)
-    (λ place p. subst (λ ops. IsAdded old ops place P) (sym p.longer)
-    (subst (λ n. IsAdded old (mid ++ o ∷ []) n P) (sym p.place_is) (added_last old mid o P parts))) pushed
+    IfOk-weaker made (λ place. IsPushed mid new o place) (λ place. IsAdded old new place P) (λ place. added_behind old mid new o P place parts) pushed
 
 -- one part behind another
 pub two_added : (old mid new : List Op) (p q : ℕ) (P Q : Process) → IsAdded old mid p P → Extends mid new → IsAdded mid new q Q

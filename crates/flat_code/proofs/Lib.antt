@@ -4,3 +4,4 @@ pub mod HangLemmas
 pub mod PlaceLemmas
 pub mod PartLemmas
 pub mod WayLemmas
+pub mod RoleLemmas

@@ -4,3 +4,4 @@ pub mod Levels
 pub mod Parts
 pub mod Places
 pub mod Plans
+pub mod RoleCode

@@ -137,7 +137,7 @@ fn add_body(alloc: Global, whole: &Proc, ops: &mut Vec<Op>) -> Result<usize, Mem
 }
 
 /// Appends an op whose parts stand before it, and gives its place.
-fn push(ops: &mut Vec<Op>, op: Op) -> Result<usize, Memory>
+pub(crate) fn push(ops: &mut Vec<Op>, op: Op) -> Result<usize, Memory>
     requires placed { are_placed 0 ops.old.items ≡ true }
     requires earlier { AreBelow (length ops.old.items) (part_places op) }
     ensures placed { are_placed 0 ops.new.items ≡ true }

@@ -59,7 +59,7 @@ pub(crate) fn joining(alloc: Global, whole: &Proc, parts: (usize, usize)) -> Res
             guard,
             others,
             ..
-        } => lead_choice(alloc, *index, guard, others, parts),
+        } => lead_choice(alloc, *index, guard, others.copy(alloc)?, parts),
         Proc::IfFollow { index, leader, .. } => follow_choice(alloc, *index, leader, parts),
         _ => unreachable!(),
     }
@@ -77,16 +77,24 @@ pub(crate) fn around(alloc: Global, whole: &Proc, body: usize) -> Result<Op, Mem
             guard,
             others,
             ..
-        } => lead_loop(alloc, *index, guard, others, body),
+        } => lead_loop(alloc, *index, guard, others.copy(alloc)?, body),
         Proc::WhileFollow { index, leader, .. } => follow_loop(alloc, *index, leader, body),
-        Proc::ScopeLead { head, others, .. } => lead_scope(alloc, head, others, body),
+        Proc::ScopeLead { head, others, .. } => {
+            Ok(lead_scope(head.copy(alloc)?, others.copy(alloc)?, body))
+        }
         Proc::ScopeFollow { index, leader, .. } => follow_scope(alloc, *index, leader, body),
         _ => unreachable!(),
     }
 }
 
 /// Sends the value of the expression.
-fn send(alloc: Global, index: Index, op: &Name, to: &Role, expr: &Expr) -> Result<Op, Memory>
+pub(crate) fn send(
+    alloc: Global,
+    index: Index,
+    op: &Name,
+    to: &Role,
+    expr: &Expr,
+) -> Result<Op, Memory>
     ensures { IfOk result (λ form.
         IsForm form [] (λ done. Send index op.now to.now (expression expr.now))) }
 {
@@ -99,7 +107,13 @@ fn send(alloc: Global, index: Index, op: &Name, to: &Role, expr: &Expr) -> Resul
 }
 
 /// Takes a value into the variable.
-fn receive(alloc: Global, index: Index, op: &Name, from: &Role, var: &Name) -> Result<Op, Memory>
+pub(crate) fn receive(
+    alloc: Global,
+    index: Index,
+    op: &Name,
+    from: &Role,
+    var: &Name,
+) -> Result<Op, Memory>
     ensures { IfOk result (λ form.
         IsForm form [] (λ done. Recv index op.now from.now var.now)) }
 {
@@ -112,7 +126,7 @@ fn receive(alloc: Global, index: Index, op: &Name, from: &Role, var: &Name) -> R
 }
 
 /// Sets the variable to the value of the expression.
-fn assign(alloc: Global, index: Index, var: &Name, expr: &Expr) -> Result<Op, Memory>
+pub(crate) fn assign(alloc: Global, index: Index, var: &Name, expr: &Expr) -> Result<Op, Memory>
     ensures { IfOk result (λ form.
         IsForm form [] (λ done. Assign index var.now (expression expr.now))) }
 {
@@ -124,7 +138,7 @@ fn assign(alloc: Global, index: Index, var: &Name, expr: &Expr) -> Result<Op, Me
 }
 
 /// Sets the variable to the next input.
-fn read(alloc: Global, index: Index, var: &Name) -> Result<Op, Memory>
+pub(crate) fn read(alloc: Global, index: Index, var: &Name) -> Result<Op, Memory>
     ensures { IfOk result (λ form. IsForm form [] (λ done. Read index var.now)) }
 {
     Ok(Op::Read {
@@ -134,28 +148,28 @@ fn read(alloc: Global, index: Index, var: &Name) -> Result<Op, Memory>
 }
 
 /// Leads a choice between the processes at two places.
-fn lead_choice(
+pub(crate) fn lead_choice(
     alloc: Global,
     index: Index,
     guard: &Expr,
-    others: &Roles,
+    others: Roles,
     branches: (usize, usize),
 ) -> Result<Op, Memory>
     ensures { IfOk result (λ form. IsForm form (branches.0 ∷ branches.1 ∷ [])
-        (λ done. IfLead index (expression guard.now) others.now (at done branches.0)
+        (λ done. IfLead index (expression guard.now) others (at done branches.0)
         (at done branches.1))) }
 {
     Ok(Op::IfLead {
         index,
         guard: guard.copy(alloc)?,
-        others: others.copy(alloc)?,
+        others,
         yes: branches.0,
         no: branches.1,
     })
 }
 
 /// Follows a choice between the processes at two places.
-fn follow_choice(
+pub(crate) fn follow_choice(
     alloc: Global,
     index: Index,
     leader: &Role,
@@ -173,26 +187,31 @@ fn follow_choice(
 }
 
 /// Leads a loop whose body stands at a place.
-fn lead_loop(
+pub(crate) fn lead_loop(
     alloc: Global,
     index: Index,
     guard: &Expr,
-    others: &Roles,
+    others: Roles,
     body: usize,
 ) -> Result<Op, Memory>
     ensures { IfOk result (λ form. IsForm form (body ∷ [])
-        (λ done. WhileLead index (expression guard.now) others.now (at done body))) }
+        (λ done. WhileLead index (expression guard.now) others (at done body))) }
 {
     Ok(Op::WhileLead {
         index,
         guard: guard.copy(alloc)?,
-        others: others.copy(alloc)?,
+        others,
         body,
     })
 }
 
 /// Follows a loop whose body stands at a place.
-fn follow_loop(alloc: Global, index: Index, leader: &Role, body: usize) -> Result<Op, Memory>
+pub(crate) fn follow_loop(
+    alloc: Global,
+    index: Index,
+    leader: &Role,
+    body: usize,
+) -> Result<Op, Memory>
     ensures { IfOk result (λ form. IsForm form (body ∷ [])
         (λ done. WhileFollow index leader.now (at done body))) }
 {
@@ -204,19 +223,19 @@ fn follow_loop(alloc: Global, index: Index, leader: &Role, body: usize) -> Resul
 }
 
 /// Leads a scope whose body stands at a place.
-fn lead_scope(alloc: Global, head: &ScopeHead, others: &Roles, body: usize) -> Result<Op, Memory>
-    ensures { IfOk result (λ form. IsForm form (body ∷ [])
-        (λ done. ScopeLead head.now others.now (at done body))) }
+pub(crate) fn lead_scope(head: ScopeHead, others: Roles, body: usize) -> Op
+    ensures { IsForm result (body ∷ []) (λ done. ScopeLead head others (at done body)) }
 {
-    Ok(Op::ScopeLead {
-        head: head.copy(alloc)?,
-        others: others.copy(alloc)?,
-        body,
-    })
+    Op::ScopeLead { head, others, body }
 }
 
 /// Follows a scope whose body stands at a place.
-fn follow_scope(alloc: Global, index: Index, leader: &Role, body: usize) -> Result<Op, Memory>
+pub(crate) fn follow_scope(
+    alloc: Global,
+    index: Index,
+    leader: &Role,
+    body: usize,
+) -> Result<Op, Memory>
     ensures { IfOk result (λ form. IsForm form (body ∷ [])
         (λ done. ScopeFollow index leader.now (at done body))) }
 {

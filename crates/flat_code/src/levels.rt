@@ -74,7 +74,7 @@ fn add_levels(
 }
 
 // (Apart, since a test among the arguments would make for two ways to the call.)
-fn both(first: bool, second: bool) -> bool
+pub(crate) fn both(first: bool, second: bool) -> bool
     ensures { result ≡ (first && second) }
 {
     first && second

@@ -60,7 +60,7 @@ fn raise_flag(flag: &mut bool, is_raised: bool)
 }
 
 /// The roles whose flags are raised, in the cast's order.
-pub fn roles_in(alloc: Global, cast: &[Role], named: &[bool]) -> Result<Roles, Memory>
+pub(crate) fn roles_in(alloc: Global, cast: &[Role], named: &[bool]) -> Result<Roles, Memory>
     ensures { IfOk result (λ roles. roles ≡ flagged cast.now named.now) }
 {
     let mut roles = Vec::new(alloc);

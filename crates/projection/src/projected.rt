@@ -7,11 +7,12 @@ ghost use Rattle.dioc_terms.specs.Processes.{process, IfFollow, ScopeFollow, Ski
 ghost use Rattle.dioc_terms.specs.Terms.{term, is_in};
 ghost use Rattle.process_steps.specs.Steps.{ended};
 ghost use Rattle.projection.specs.Leaders.{is_construct, leads};
-ghost use Rattle.projection.specs.Named.{flagged, named_in, names_inside, names_itself, raised};
+ghost use Rattle.projection.specs.Named.{named_in, names_inside, names_itself, raised};
 ghost use Rattle.projection.specs.Projection.{projected};
 
-use crate::named::{names_itself, others, own_flags, raise, raise_own, roles_in};
-use dioc_terms::{Bindings, Choreo, Index, Memory, Messages, Proc, Role, ScopeHead, new_box};
+use crate::leaders::{head, leads};
+use crate::named::{names_itself, others, own_flags, raise, raise_own};
+use dioc_terms::{Choreo, Index, Memory, Messages, Proc, Role, new_box};
 use std::alloc::Global;
 
 /// The process of a role: the constructs of the choreography in which it takes part, and nothing in
@@ -106,18 +107,6 @@ fn construct(
     follow(alloc, whole, role, cast, named)
 }
 
-/// Whether the role leads the part.
-fn leads(part: &Choreo, role: &Role) -> bool
-    ensures { result ≡ leads role.now (term part.now) }
-{
-    match part {
-        Choreo::If { leader, .. } => role == leader,
-        Choreo::While { leader, .. } => role == leader,
-        Choreo::Scope { leader, .. } => role == leader,
-        _ => false,
-    }
-}
-
 /// The process of the leader. The flags are raised of the roles that the construct itself names,
 /// and then of those that stand inside.
 #[cycle(project)]
@@ -172,34 +161,6 @@ fn lead(
         }
         _ => unreachable!(),
     }
-}
-
-/// What the leader of a scope shows the book.
-fn head(
-    alloc: Global,
-    index: Index,
-    leader: &Role,
-    props: &Bindings,
-    level: u32,
-    cast: &[Role],
-    named: &[bool],
-) -> Result<ScopeHead, Memory>
-    ensures { IfOk result (λ head. head ≡
-        record {
-          index = index;
-          leader = leader.now;
-          roles = flagged cast.now named.now;
-          props = props.now;
-          level = level;
-        }) }
-{
-    Ok(ScopeHead {
-        index,
-        leader: leader.copy(alloc)?,
-        roles: roles_in(alloc, cast, named)?,
-        props: props.copy(alloc)?,
-        level,
-    })
 }
 
 /// The process of a role that doesn't lead the construct. The flags are raised of the roles that
