@@ -1,10 +1,11 @@
--- Texts that several threads wrote.
-use Rattle.std.specs.Prelude.{◌≡◌, ℕ, List, Vec, ◌∷◌, [], ◌++◌, Result, Ok, Err}
-use Rattle.std.specs.declared.alloc.Global.{Global}
+-- Texts one behind another.
+use Rattle.std.specs.Prelude.{ℕ, List, [], ◌∷◌, ◌++◌}
+use Rattle.aioc_top.specs.declared.commands.sessions.SessionText.{SessionText}
 
--- all were written, and the bytes are those of one behind another
-abbrev pub IsJoined : {E : Type 0} → List (Result (Vec ℕ Global) E) → List ℕ → Type 0
-IsJoined [] bytes = bytes ≡ []
-IsJoined (Err why ∷ texts) bytes = ⊥
-IsJoined (Ok text ∷ texts) bytes =
-    (rest : List ℕ) × (bytes ≡ text.items ++ rest) × IsJoined texts rest
+-- what contracts see of the text of a session
+abbrev pub text_seen : SessionText → List ℕ
+text_seen session = session.text.items
+
+abbrev pub joined : List (List ℕ) → List ℕ
+joined [] = []
+joined (text ∷ texts) = text ++ joined texts

@@ -1,9 +1,10 @@
 -- Lists read by their places.
-use Rattle.std.proofs.Common.{◌≡◌, ◌≢◌, ℕ, zero, suc, ◌<◌, List, [], ◌∷◌, ◌++◌, length, map, set, get_or, Option, Some, None, true, refl, sym, ap, arith}
+use Rattle.std.proofs.Common.{◌≡◌, ◌≢◌, ℕ, zero, suc, ◌<◌, List, [], ◌∷◌, ◌++◌, length, map, set, get_or, Option, Some, None, true, refl, sym, ap, ◌∙◌, ◌+◌, arith}
 use Rattle.std.specs.Prelude.{slice_get, All, IfOk, Result, Ok, Err}
 use Rattle.std.specs.List.{AllByRecursion}
 use Rattle.std.specs.Option.{is_some}
 use Rattle.std.proofs.lemmas.List.Elements.{recursion_from_All}
+use Rattle.session_pool.specs.Answers.{numbered}
 
 pub some_same : {A : Type 0} {x y : A} → Some x ≡ Some y → x ≡ y
 some_same e = cc
@@ -79,6 +80,21 @@ module _ {A : Type 0} where
   get_mapped f [] i d lt = absurd (omega arith)
   get_mapped f (x ∷ xs) zero d lt = refl
   get_mapped f (x ∷ xs) (suc i) d lt = get_mapped f xs i d (omega arith)
+
+  -- what is made of the element at a place by its number, counted from the first's
+  pub get_numbered : {B : Type 0} (f : ℕ → A → B) (first : ℕ) (xs : List A) (i : ℕ) (x : A) → slice_get xs i ≡ Some x → slice_get (numbered f first xs) i ≡ Some (f (first + i) x)
+  get_numbered f first [] i x at = absurd cc
+  get_numbered f first (y ∷ ys) zero x at = ap Some (ap (f first) (some_same at) ∙ ap (λ n. f n x) (omega arith))
+  get_numbered f first (y ∷ ys) (suc i) x at = get_numbered f (suc first) ys i x at ∙ ap Some (ap (λ n. f n x) (omega arith))
+
+  pub length_numbered : {B : Type 0} (f : ℕ → A → B) (first : ℕ) (xs : List A) → length (numbered f first xs) ≡ length xs
+  length_numbered f first [] = refl
+  length_numbered f first (x ∷ xs) = ap suc (length_numbered f (suc first) xs)
+
+  -- what is made of each is the element itself
+  pub numbered_same : (first : ℕ) (xs : List A) → numbered (λ _ x. x) first xs ≡ xs
+  numbered_same first [] = refl
+  numbered_same first (x ∷ xs) = ap (λ l. x ∷ l) (numbered_same (suc first) xs)
 
   pub all_more : (P : A → Type 0) (xs : List A) (x : A) → AllByRecursion P xs → P x → AllByRecursion P (xs ++ x ∷ [])
   all_more P [] x all here = (here, tt)

@@ -1,5 +1,5 @@
 -- What a session is answered.
-use Rattle.std.specs.Prelude.{ℕ, List, map, Bool, Option, Some, None, Result, Ok, Err}
+use Rattle.std.specs.Prelude.{ℕ, suc, List, [], ◌∷◌, map, Bool, Option, Some, None, Result, Ok, Err}
 use Rattle.dioc_terms.specs.declared.entries.Entry.{Entry}
 use Rattle.dioc_terms.specs.Plain.{PlainBundle}
 use Rattle.network_steps.specs.Network.{network_ended}
@@ -34,3 +34,8 @@ answer_seen (Refused why) = Err why
 -- the answers of sessions, in their order
 abbrev pub answers_of : Option ℕ → ℕ → List PlainBundle → List PlainAnswer
 answers_of seed limit bundles = map (λ b. answer_of b seed limit) bundles
+
+-- what is made of each by its number and itself, where the first has this number
+abbrev pub numbered : {A B : Type 0} → (ℕ → A → B) → ℕ → List A → List B
+numbered f n [] = []
+numbered f n (x ∷ xs) = f n x ∷ numbered f (suc n) xs

@@ -8,36 +8,36 @@ use Rattle.ticket_table.specs.Words.{IsDrawerOf, drawn_by, parts_of, view}
 use Rattle.session_pool.specs.declared.jobs.Job.{Job}
 use Rattle.session_pool.specs.declared.jobs.Numbered.{Numbered}
 use Rattle.session_pool.specs.declared.jobs.Order.{Order}
-use Rattle.session_pool.specs.Answers.{PlainAnswer, answer_seen, answers_of}
+use Rattle.session_pool.specs.Answers.{PlainAnswer, answers_of, numbered}
 
--- the answers of all sessions of an order
-abbrev pub expected : Order → List PlainAnswer
-expected order = answers_of order.seed order.limit (map plain order.bundles.now)
+-- what is to be made of the answers of all sessions of an order
+abbrev pub expected : {V : Type 0} → (ℕ → PlainAnswer → V) → Order → List V
+expected made_of order = numbered made_of 0 (answers_of order.seed order.limit (map plain order.bundles.now))
 
 -- a worker that has claimed nothing
-pub record HasClaimedNothing (tickets : Tickets) (job : Job) : Type 0 where
+pub record HasClaimedNothing {T : Type 0} (tickets : Tickets) (job : Job T) : Type 0 where
   pub of : IsDrawerOf tickets job.drawer
   pub view : view job.drawer ≡ holding 1 []
-  pub none : job.answers.items ≡ []
+  pub none : job.made.items ≡ []
 
--- the answer is that of the session of its number
-abbrev pub IsRight : List PlainAnswer → Numbered → Type 0
-IsRight answers numbered = slice_get answers numbered.number ≡ Some (answer_seen numbered.answer)
+abbrev pub numbers_of : {T : Type 0} → List (Numbered T) → List ℕ
+numbers_of {T} made = map (λ (one : Numbered T). one.number) made
 
-abbrev pub numbers_of : List Numbered → List ℕ
-numbers_of answers = map (λ (numbered : Numbered). numbered.number) answers
+module _ {T V : Type 0} (seen : T → V) where
+  -- it is what was to be made of the answer of the session of its number
+  abbrev pub IsRight : List V → Numbered T → Type 0
+  IsRight wanted one = slice_get wanted one.number ≡ Some (seen one.made)
 
--- each session that was claimed was answered, but for the last claim, which was past the last
--- session
-pub record HasWorked (answers : List PlainAnswer) (claims : List ℕ) (kept : List Numbered) :
-    Type 0 where
-  pub last : ℕ
-  pub past : length answers ≤ last
-  pub drawn : claims ≡ numbers_of kept ++ last ∷ []
-  pub right : AllByRecursion (IsRight answers) kept
+  -- of each session that was claimed the right was made, but for the last claim, which was past the
+  -- last session
+  pub record HasWorked (wanted : List V) (claims : List ℕ) (kept : List (Numbered T)) : Type 0 where
+    pub last : ℕ
+    pub past : length wanted ≤ last
+    pub drawn : claims ≡ numbers_of kept ++ last ∷ []
+    pub right : AllByRecursion (IsRight wanted) kept
 
--- what a worker leaves that has done its work
-pub record IsWorkDone (tickets : Tickets) (answers : List PlainAnswer) (job : Job) : Type 0 where
-  pub of : IsDrawerOf tickets job.drawer
-  pub one : parts_of job.drawer ≡ 1
-  pub worked : HasWorked answers (drawn_by job.drawer) job.answers.items
+  -- what a worker leaves that has done its work
+  pub record IsWorkDone (tickets : Tickets) (wanted : List V) (job : Job T) : Type 0 where
+    pub of : IsDrawerOf tickets job.drawer
+    pub one : parts_of job.drawer ≡ 1
+    pub worked : HasWorked wanted (drawn_by job.drawer) job.made.items

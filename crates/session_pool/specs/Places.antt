@@ -1,9 +1,8 @@
--- Answers put at their places.
+-- What was made, put at its places.
 use Rattle.std.specs.Prelude.{List, [], ◌∷◌, Option, Some, slice_set}
-use Rattle.session_pool.specs.declared.answers.Answer.{Answer}
 use Rattle.session_pool.specs.declared.jobs.Numbered.{Numbered}
 
--- each answer at the place of its number, one after another
-abbrev pub placed : List (Option Answer) → List Numbered → List (Option Answer)
+-- each at the place of its number, one after another
+abbrev pub placed : {T : Type 0} → List (Option T) → List (Numbered T) → List (Option T)
 placed places [] = places
-placed places (first ∷ rest) = placed (slice_set places first.number (Some first.answer)) rest
+placed places (first ∷ rest) = placed (slice_set places first.number (Some first.made)) rest

@@ -3,10 +3,12 @@
 
 mod answers;
 mod jobs;
+mod made;
 mod places;
 mod sessions;
 mod watch;
 
 pub use answers::Answer;
-pub use sessions::run_sessions;
+pub use made::Made;
+pub use sessions::{run_sessions, run_sessions_as};
 pub use watch::{OpenWatch, Watch};

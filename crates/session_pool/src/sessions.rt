@@ -6,12 +6,13 @@ ghost use Rattle.dioc_terms.specs.Bundles.{IsFormed};
 ghost use Rattle.dioc_terms.specs.Plain.{plain};
 ghost use Rattle.ticket_table.specs.Views.{holding};
 ghost use Rattle.ticket_table.specs.Words.{IsDrawerOf, all_parts, view};
-ghost use Rattle.session_pool.specs.Answers.{answer_seen, answers_of};
+ghost use Rattle.session_pool.specs.Answers.{answer_seen, answers_of, numbered};
 ghost use Rattle.session_pool.specs.Jobs.{IsWorkDone, HasClaimedNothing, expected};
 
 use crate::answers::Answer;
 use crate::jobs::{Job, Order, all_done, work_all};
-use crate::places::{empty_places, place_all, take_answers};
+use crate::made::Made;
+use crate::places::{empty_places, place_all, take_all};
 use crate::watch::Watch;
 use dioc_terms::{Bundle, Memory};
 use std::alloc::Global;
@@ -42,6 +43,27 @@ pub fn run_sessions<W: Watch + Sync, R: Threads + Wait + Sync>(
     ensures answers { IfOk result (λ answers.
         map answer_seen answers.items ≡ answers_of seed limit (map plain bundles.now)) }
 {
+    run_sessions_as(rt, alloc, bundles, workers, seed, limit, watch)
+}
+
+/// The same, but gives what is made of each answer. The worker that ran a session makes it at once,
+/// so nothing is kept of the session but that.
+pub fn run_sessions_as<T: Made, W: Watch + Sync, R: Threads + Wait + Sync>(
+    rt: &R,
+    alloc: Global,
+    bundles: &[Bundle],
+    workers: u32,
+    seed: Option<u64>,
+    limit: u64,
+    watch: &W,
+) -> Result<Vec<T>, Memory>
+    requires formed { All (λ b. IsFormed (plain b)) bundles.now }
+    requires few { length bundles.now ≤ 1000 }
+    requires workers { 0 < workers }
+    requires limit { limit ≤ 4294967295 }
+    ensures made { IfOk result (λ made. map T.seen made.items
+        ≡ numbered T.made_of 0 (answers_of seed limit (map plain bundles.now))) }
+{
     let order = Order {
         bundles,
         seed,
@@ -59,12 +81,12 @@ pub fn run_sessions<W: Watch + Sync, R: Threads + Wait + Sync>(
 }
 
 /// So many workers, each with a right to claim that is cut off the first.
-fn ready_jobs(
+fn ready_jobs<T: Made>(
     alloc: Global,
     tickets: &Tickets,
     first: &mut Drawer,
     workers: usize,
-) -> Result<Vec<Job>, Memory>
+) -> Result<Vec<Job<T>>, Memory>
     requires of { IsDrawerOf tickets.now first.old }
     requires view { view first.old ≡ holding (workers + 1) [] }
     ensures count { IfOk result (λ jobs. length jobs.items ≡ workers) }
@@ -77,39 +99,40 @@ fn ready_jobs(
         let drawer = tickets.split(first);
         jobs.push(Job {
             drawer,
-            answers: Vec::new(alloc),
+            made: Vec::new(alloc),
             done: false,
         })?;
     }
     Ok(jobs)
 }
 
-/// The answers of workers that are done, in the order of the sessions. The rights to claim are
+/// What was made by workers that are done, in the order of the sessions. The rights to claim are
 /// joined, and show that each session was claimed.
-fn collect(
+fn collect<T: Made>(
     alloc: Global,
     order: &Order<'_>,
     tickets: Tickets,
     mut first: Drawer,
-    jobs: Vec<Job>,
-) -> Result<Vec<Answer>, Memory>
+    jobs: Vec<Job<T>>,
+) -> Result<Vec<T>, Memory>
     requires of { IsDrawerOf tickets first }
     requires view { view first ≡ holding 1 [] }
     requires all { all_parts tickets ≡ 1 + length jobs.items }
     requires some { 0 < length jobs.items }
-    requires done { AllByRecursion (IsWorkDone tickets (expected order.now)) jobs.items }
-    ensures { IfOk result (λ answers. map answer_seen answers.items ≡ expected order.now) }
+    requires done { AllByRecursion (IsWorkDone T.seen tickets (expected T.made_of order.now))
+        jobs.items }
+    ensures { IfOk result (λ made. map T.seen made.items ≡ expected T.made_of order.now) }
 {
     let mut places = empty_places(alloc, order.bundles.len())?;
     for job in jobs {
         let Job {
             drawer,
-            answers,
+            made,
             done: _,
         } = job;
         tickets.join(&mut first, drawer);
-        place_all(&mut places, answers);
+        place_all(&mut places, made);
     }
     tickets.close(first);
-    take_answers(alloc, places)
+    take_all(alloc, places)
 }

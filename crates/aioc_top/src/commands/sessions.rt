@@ -1,22 +1,22 @@
 //! `sessions`: many bundles on a pool of workers.
 
-ghost use Rattle.std.specs.Prelude.{◌≡◌, ◌+◌, ◌^◌, ◌<◌, ◌≤◌, ◌++◌, All, length, map, IfOk, OnOk};
+ghost use Rattle.std.specs.Prelude.{◌≡◌, ℕ, ◌≤◌, ◌++◌, All, List, length, map, IfOk, OnOk};
 ghost use Rattle.dioc_terms.specs.Bundles.{IsFormed};
 ghost use Rattle.dioc_terms.specs.Plain.{plain};
 ghost use Rattle.session_pool.specs.Answers.{answer_seen};
-ghost use Rattle.aioc_top.specs.Replies.{answer_text, reply_of, session_text, sessions_from, sessions_reply};
-ghost use Rattle.aioc_top.specs.Texts.{IsJoined};
+ghost use Rattle.aioc_top.specs.Replies.{answer_text, reply_of, session_text, sessions_reply};
+ghost use Rattle.aioc_top.specs.Texts.{joined, text_seen};
 ghost use Rattle.aioc_top.specs.Words.{IsShort};
 ghost use Rattle.command_words.specs.declared.commands.Command.TheVariants as command;
 
 use crate::faults::make_refusal_line;
 use crate::replies::{End, Written, last_line};
 use command_words::Options;
-use dioc_terms::{Bundle, Memory};
-use session_pool::{Answer, OpenWatch, run_sessions};
+use dioc_terms::{Bundle, Memory, give_up};
+use session_pool::{Answer, Made, OpenWatch, run_sessions_as};
 use std::alloc::Global;
 use std::sync::Wait;
-use std::thread::{self, Threads};
+use std::thread::Threads;
 use text_pieces::{write_bytes, write_number};
 use trace_text::write_text;
 
@@ -36,7 +36,7 @@ pub fn sessions<R: Threads + Wait + Sync>(
     ensures { IfOk result (λ written. reply_of written
         ≡ sessions_reply options.now (map plain bundles.now)) }
 {
-    let answers = run_sessions(
+    let texts = run_sessions_as(
         rt,
         alloc,
         bundles,
@@ -45,64 +45,43 @@ pub fn sessions<R: Threads + Wait + Sync>(
         options.steps,
         &OpenWatch,
     )?;
-    let text = write_sessions(rt, alloc, answers.as_slice(), options.workers as usize)?;
+    let text = join_texts(alloc, texts)?;
     Ok(Written {
         end: End::Done,
         text,
     })
 }
 
-// The text of the sessions that have these answers. It is written by at most so many threads, each
-// of which writes a run of neighbours, and all runs but the last have as many of them.
-fn write_sessions<R: Threads + Sync>(
-    rt: &R,
-    alloc: Global,
-    answers: &[Answer],
-    workers: usize,
-) -> Result<Vec<u8>, Memory>
-    requires some { 0 < workers }
-    ensures { IfOk result (λ text.
-        text.items ≡ sessions_from 0 (map answer_seen answers.now)) }
-{
-    let size = answers.len().div_ceil(workers).max(1);
-    let texts = thread::map_chunks(
-        rt,
-        alloc,
-        answers,
-        size,
-        &|first, part| write_part(alloc, first as u64, part),
-    )?;
-    join_texts(alloc, texts)
+// The text of a session. Its worker writes it as soon as it has run the session.
+#[derive(Drop)]
+struct SessionText {
+    text: Vec<u8>,
 }
 
-// The text of sessions that have these answers, and of which the first has this number.
-fn write_part(alloc: Global, first: u64, answers: &[Answer]) -> Result<Vec<u8>, Memory>
-    requires room { first + length answers.now < 2 ^ 64 }
-    ensures { IfOk result (λ text.
-        text.items ≡ sessions_from first (map answer_seen answers.now)) }
-{
-    let mut text = Vec::new(alloc);
-    let mut number = first;
-    for answer in answers {
-        write_session(alloc, number, answer, &mut text)?;
-        number += 1;
+impl Made for SessionText {
+    ghost Seen = { List ℕ };
+
+    ghost seen = { text_seen };
+
+    ghost made_of = { session_text };
+
+    fn make(alloc: Global, number: u32, answer: Answer) -> Result<SessionText, Memory> {
+        let mut text = Vec::new(alloc);
+        match write_session(alloc, u64::from(number), &answer, &mut text) {
+            Ok(()) => Ok(SessionText { text }),
+            Err(fault) => give_up(text, fault),
+        }
     }
-    Ok(text)
 }
 
-// The texts one behind another, where all were written. The first isn't copied, so that one worker
-// writes as without threads.
-fn join_texts(alloc: Global, texts: Vec<Result<Vec<u8>, Memory>>) -> Result<Vec<u8>, Memory>
-    ensures { IfOk result (λ text. IsJoined texts.items text.items) }
+// The texts one behind another.
+fn join_texts(alloc: Global, texts: Vec<SessionText>) -> Result<Vec<u8>, Memory>
+    ensures { IfOk result (λ text. text.items ≡ joined (map text_seen texts.items)) }
 {
     let mut joined = Vec::new(alloc);
-    for text in texts {
-        let mut text = text?;
-        if joined.is_empty() {
-            joined = text;
-        } else {
-            joined.append(&mut text)?;
-        }
+    for session in texts {
+        let SessionText { mut text } = session;
+        joined.append(&mut text)?;
     }
     Ok(joined)
 }

@@ -1,4 +1,4 @@
--- Each session that was claimed so far was answered.
+-- Of each session that was claimed so far the right was made.
 use Rattle.std.proofs.Common.{◌≡◌, ◌≤◌, ◌-◌, length}
 use Rattle.std.specs.List.{AllByRecursion}
 use Rattle.ticket_table.specs.Words.{IsDrawerOf, drawn_by, parts_of}
@@ -7,8 +7,8 @@ use Rattle.session_pool.proofs.jobs.answer_all.Given as goal
 
 abbrev pub invariant-sessions : goal.invariant-sessions
 invariant-sessions g l =
-    IsDrawerOf l.tickets l.drawer × (parts_of l.drawer ≡ 1) × (drawn_by l.drawer ≡ numbers_of l.answers.items)
-    × (length l.answers.items ≤ length l.order.bundles.now) × AllByRecursion (IsRight (expected l.order)) l.answers.items
+    IsDrawerOf l.tickets l.drawer × (parts_of l.drawer ≡ 1) × (drawn_by l.drawer ≡ numbers_of l.made.items)
+    × (length l.made.items ≤ length l.order.bundles.now) × AllByRecursion (IsRight g.T.Made.seen (expected g.T.Made.made_of l.order)) l.made.items
 
 abbrev pub decreases-sessions : goal.decreases-sessions
-decreases-sessions g l = length l.order.bundles.now - length l.answers.items
+decreases-sessions g l = length l.order.bundles.now - length l.made.items

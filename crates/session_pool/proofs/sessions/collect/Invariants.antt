@@ -6,5 +6,5 @@ use Rattle.session_pool.proofs.Gathering.{Gathered}
 use Rattle.session_pool.proofs.sessions.collect.Given as goal
 
 abbrev pub invariant-loop-job : goal.invariant-loop-job
-invariant-loop-job l =
-    Gathered l.tickets (expected l.order) (length l.yielded) l.first l.places.items × AllByRecursion (IsWorkDone l.tickets (expected l.order)) l.job-iterator.rest.items
+invariant-loop-job g l =
+    Gathered g.T.Made.seen l.tickets (expected g.T.Made.made_of l.order) (length l.yielded) l.first l.places.items × AllByRecursion (IsWorkDone g.T.Made.seen l.tickets (expected g.T.Made.made_of l.order)) l.job-iterator.rest.items

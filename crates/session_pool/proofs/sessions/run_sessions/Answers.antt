@@ -1,9 +1,9 @@
-use Rattle.std.proofs.Common.{rules, ◌≡◌, true, subst}
-use Rattle.std.specs.List.{AllByRecursion}
-use Rattle.session_pool.proofs.Gathering.{all_are_done}
+-- An answer is made of itself.
+use Rattle.std.proofs.Common.{◌∙◌, map}
+use Rattle.dioc_terms.specs.Plain.{plain}
+use Rattle.session_pool.specs.Answers.{answers_of}
+use Rattle.session_pool.proofs.Lists.{numbered_same, ok_then}
 use Rattle.session_pool.proofs.sessions.run_sessions.Goals as goal
 
-pub collect-requires-clause-done : goal.collect-requires-clause-done
-collect-requires-clause-done g c =
-    all_are_done c.in-Ok.tickets _ c.work_all-jobs.result.items c.work_all-jobs.ensures.done
-    (subst (AllByRecursion (λ job. job.done ≡ true)) c.as_slice.ensures.value (let test = c.if-not-all_done.false in let all = c.if-not-all_done.ensures in search rules))
+pub returns : goal.returns
+returns g c = record { answers = ok_then c.run_sessions_as.result (λ answers are. are ∙ numbered_same 0 (answers_of c.args.seed c.args.limit (map plain c.args.bundles.now))) c.run_sessions_as.ensures.made }

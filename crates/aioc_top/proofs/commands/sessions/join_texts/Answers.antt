@@ -1,21 +1,25 @@
--- Each text comes behind those that were joined, or is the first of them.
-use Rattle.std.proofs.Common.{rules, tests, ◌≡◌, [], ◌++◌, sym, ap, ◌∙◌, subst, append-nil, append_assoc}
-use Rattle.aioc_top.specs.Texts.{IsJoined}
-use Rattle.aioc_top.proofs.Texts.{next_joined, none_joined, nothing}
+-- Each text comes behind those that were joined.
+use Rattle.std.proofs.Common.{◌≡◌, List, [], ◌∷◌, ◌++◌, sym, ap, ◌∙◌, append-nil, append_assoc, arith, length}
+use Rattle.std.specs.Prelude.{map}
+use Rattle.aioc_top.specs.Texts.{joined, text_seen}
 use Rattle.aioc_top.proofs.commands.sessions.join_texts.Goals as goal
 
-pub loop-text-preserved-then-is_empty : goal.loop-text-preserved-then-is_empty
-loop-text-preserved-then-is_empty c rest more =
-    let zero : c.loop-text.joined.len ≡ 0 = (let test = c.if-is_empty.true in let is = c.is_empty.ensures in search (rules, tests)) in
-    let none : c.loop-text.joined.items ≡ [] = nothing c.loop-text.joined.items (sym c.loop-text.joined.ok.0 ∙ zero) in
-    subst (IsJoined c.args.texts.items) (ap (λ bytes. bytes ++ (c.in_ok-text.text.items ++ rest)) none)
-    (c.loop-text.invariant (c.in_ok-text.text.items ++ rest) (next_joined rest c.in-Some.ensures.steps.0 c.in_ok-text.was more))
+pub loop-session-init : goal.loop-session-init
+loop-session-init c = ap (λ texts. joined (map text_seen texts)) c.into_iter-session-iterator.ensures.into_iter_gives.0
 
-pub loop-text-preserved : goal.loop-text-preserved
-loop-text-preserved c rest more =
-    subst (IsJoined c.args.texts.items) (sym (append_assoc c.loop-text.joined.items c.in_ok-text.text.items rest) ∙ ap (λ bytes. bytes ++ rest) (sym c.in_ok-append.ensures.items))
-    (c.loop-text.invariant (c.in_ok-text.text.items ++ rest) (next_joined rest c.in-Some.ensures.steps.0 c.in_ok-text.was more))
+pub loop-session-preserved : goal.loop-session-preserved
+loop-session-preserved c =
+    ap (λ bytes. bytes ++ joined (map text_seen c.next.new.self.rest.items)) c.in_ok-append.ensures.items
+    ∙ append_assoc c.loop-session.joined.items c.in-Some.session.text.items (joined (map text_seen c.next.new.self.rest.items))
+    ∙ ap (λ texts. c.loop-session.joined.items ++ joined (map text_seen texts)) (sym c.in-Some.ensures.steps.0)
+    ∙ c.loop-session.invariant
 
 pub returns : goal.returns
 returns c =
-    subst (IsJoined c.args.texts.items) (append-nil c.loop-text.joined.items) (c.loop-text.invariant [] (none_joined _ (sym c.loop-text.text-iterator.rest.ok.0 ∙ c.in-None.ensures.steps.0)))
+    sym (append-nil c.loop-session.joined.items)
+    ∙ ap (λ texts. c.loop-session.joined.items ++ joined (map text_seen texts)) (sym (none _ (sym c.loop-session.session-iterator.rest.ok.0 ∙ c.in-None.ensures.steps.0)))
+    ∙ c.loop-session.invariant
+  where
+    none : {A : Type 0} (left : List A) → length left ≡ 0 → left ≡ []
+    none [] is = refl
+    none (x ∷ xs) is = absurd (omega arith)

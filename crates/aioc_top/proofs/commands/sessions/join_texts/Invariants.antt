@@ -1,7 +1,10 @@
--- What is joined so far, and any text behind it that the others make.
-use Rattle.std.proofs.Common.{List, ℕ, ◌++◌}
-use Rattle.aioc_top.specs.Texts.{IsJoined}
+-- What is joined so far, with the texts that are left behind it.
+use Rattle.std.proofs.Common.{◌≡◌, ◌++◌}
+use Rattle.std.specs.Prelude.{map}
+use Rattle.aioc_top.specs.Texts.{joined, text_seen}
 use Rattle.aioc_top.proofs.commands.sessions.join_texts.Given as goal
 
-abbrev pub invariant-loop-text : goal.invariant-loop-text
-invariant-loop-text l = (rest : List ℕ) → IsJoined l.text-iterator.rest.items rest → IsJoined l.fn.texts.items (l.joined.items ++ rest)
+abbrev pub invariant-loop-session : goal.invariant-loop-session
+invariant-loop-session l =
+    l.joined.items ++ joined (map text_seen l.session-iterator.rest.items)
+    ≡ joined (map text_seen l.fn.texts.items)
