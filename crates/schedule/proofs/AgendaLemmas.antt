@@ -1,22 +1,20 @@
 -- An agenda lists the acts of a net, and is brought up to date after the last act.
-use Rattle.std.proofs.Common.{◌≡◌, ◌<◌, ◌≤◌, ◌+◌, ◌-◌, ℕ, zero, suc, List, [], ◌∷◌, ◌++◌, length, Bool, true, false, ◌&&◌, not, Option, Some, slice_get, refl, sym, ap, ap₂, ◌∙◌, subst, map, arith, take, drop, get_or}
-use Rattle.std.specs.Prelude.{◌||◌, flat_map, if◌then◌else◌, slice_set, vec_len}
-use Rattle.std.specs.List.{list_all}
-use Rattle.std.proofs.lemmas.Bool.{and_from, both_ways, or_left, or_right}
-use Rattle.std.proofs.lemmas.List.{append-nil, drop_more, get_or-map, get_or_at, length-append, length-map, length-take, map-set, take_all, take_more}
-use Rattle.std.proofs.lemmas.List.Edits.{map_over_more}
-use Rattle.std.proofs.lemmas.List.Folds.{flat_map-map, list_all_at}
+use Rattle.std.proofs.Common.{◌≡◌, ◌<◌, ◌≤◌, ◌+◌, ◌-◌, ℕ, zero, suc, List, [], ◌∷◌, ◌++◌, length, Bool, true, false, ◌&&◌, not, Option, Some, slice_get, refl, sym, ap, ap₂, ◌∙◌, subst, map, arith, take, get_or}
+use Rattle.std.specs.Prelude.{◌||◌, flat_map, if◌then◌else◌, vec_len}
+use Rattle.std.proofs.lemmas.List.{append-nil, length-append, length-map, take_all, take_more}
+use Rattle.std.proofs.lemmas.List.Folds.{flat_map-map}
 use Rattle.std.proofs.lemmas.Option.{slice_get_read}
 use Rattle.dioc_terms.specs.declared.entries.Act.{Act}
 use Rattle.dioc_terms.specs.declared.entries.Act.TheVariants as act
 use Rattle.dioc_terms.specs.declared.names.Role.{Role}
 use Rattle.dioc_terms.specs.declared.processes.Key.{Key}
-use Rattle.dioc_terms.specs.Equality.{member, role_eq}
+use Rattle.dioc_terms.specs.Equality.{member}
 use Rattle.dioc_terms.specs.Plain.{PlainBundle, setting}
+use Rattle.dioc_terms.specs.Terms.{distinct_roles}
 use Rattle.network_steps.specs.Network.{Network}
-use Rattle.marked_laws.proofs.Equality.{role_itself, role_same}
+use Rattle.marked_laws.proofs.Choices.{cast_unique}
 use Rattle.marked_laws.proofs.Premise.{Known}
-use Rattle.marked_laws.proofs.Shapes.{some_same}
+use Rattle.marked_laws.proofs.Whole.{distinct_offers}
 use Rattle.network_steps.specs.declared.moves.Move.{Move}
 use Rattle.network_steps.specs.declared.moves.Move.TheVariants as move
 use Rattle.network_steps.specs.Schedule.{change_due, is_ready, move_place, moves}
@@ -26,8 +24,9 @@ use Rattle.net_core.proofs.Choosing.{chosen_long}
 use Rattle.net_core.proofs.PlacesLemmas.{chosen_places}
 use Rattle.net_core.specs.MovesIn.{chosen}
 use Rattle.net_core.specs.Places.{offers_of, places_of}
+use Rattle.schedule.proofs.RoleLemmas.{stands_in}
 use Rattle.schedule.proofs.TouchLemmas.{acted, follows, untouched_by_change}
-use Rattle.schedule.specs.Agendas.{Acted, Follows, IsStale, Shown, WasAgenda, WasListed, WasOwn, agenda_of, moves_of, puts_to, ready_in, ready_seen, refreshed, takes}
+use Rattle.schedule.specs.Agendas.{Acted, Follows, IsFilled, IsStale, Shown, WasListed, agenda_of, moves_of, puts_to, ready_in, ready_seen, takes}
 use Rattle.schedule.specs.Turns.{IsMoveOf, IsScheduled, has_ended}
 
 -- whether a change is listed
@@ -91,7 +90,7 @@ got_back (x ∷ xs) ys zero m past got = absurd (omega (arith, past))
 got_back (x ∷ xs) ys (suc place) m past got = got_back xs ys place m (omega (arith, past)) (ap (slice_get ys) (omega arith) ∙ got)
 
 -- a role has as many moves as places
-ready_long : (ready : ReadyRole) → vec_len ready.ready ≡ length (moves_of (ready_seen ready))
+pub ready_long : (ready : ReadyRole) → vec_len ready.ready ≡ length (moves_of (ready_seen ready))
 ready_long ready =
     let long : length (moves_of (ready_seen ready)) ≡ length ready.ready.items =
     length-map (chosen ready.ready.items ready.acts.items) (move.Act ready.role) ∙ chosen_long ready.acts.items ready.ready.items ready.inside in
@@ -140,12 +139,6 @@ none_left agenda i left place past at within =
     at ∙ ap (λ (l : List ReadyRole). left + length (flat_map moves_of (map ready_seen l))) (take_all i agenda past) in
     omega (arith, all, within)
 
--- a role that stands in the cast
-member_got : (cast : List Role) (i : ℕ) (q : Role) → slice_get cast i ≡ Some q → member q cast ≡ true
-member_got [] i q h = cc
-member_got (r ∷ rs) zero q h = or_left (role_eq q r) (member q rs) (subst (λ x. role_eq q x ≡ true) (sym (some_same h)) (role_itself q))
-member_got (r ∷ rs) (suc i) q h = or_right (role_eq q r) (member q rs) (member_got rs i q h)
-
 -- lists made of one whose members become the same
 map_same : {A B : Type 0} (f h : A → B) (xs : List A) → ((x : A) → f x ≡ h x) → map f xs ≡ map h xs
 map_same f h [] same = refl
@@ -165,99 +158,23 @@ stale_after known old new (move.Act q a) agenda run made is = record {
       (acted known old.bundle old.history (network_of old) run.sound run.runs q a made.outcome made.steps);
   follows = λ r other. subst (λ M. Follows (network_of old) M a r) (sym made.goes.network)
       (follows known old.bundle old.history (network_of old) run.sound run.runs q a made.outcome made.steps r other);
+  roles = subst (λ (b : PlainBundle). distinct_roles b.cast ≡ true) (sym made.goes.bundle) (cast_unique known old.bundle run.sound);
+  acts = distinct_offers known old.bundle old.history (network_of old) run.sound run.runs q;
 }
-
-all_by_roles : (f : Role → Bool) (agenda : List Shown) → list_all f (map (λ (ready : Shown). ready.0) agenda) ≡ list_all (λ (ready : Shown). f ready.0) agenda
-all_by_roles f [] = refl
-all_by_roles f (ready ∷ rest) = ap (λ t. f ready.0 && t) (all_by_roles f rest)
-
-roles_listed : (N : Network) (cast : List Role) → map (λ (ready : Shown). ready.0) (map (ready_in N) cast) ≡ cast
-roles_listed N [] = refl
-roles_listed N (q ∷ qs) = ap (λ l. q ∷ l) (roles_listed N qs)
-
-listed_by_roles : (N : Network) (agenda : List Shown) → refreshed N agenda ≡ map (ready_in N) (map (λ (ready : Shown). ready.0) agenda)
-listed_by_roles N [] = refl
-listed_by_roles N (ready ∷ rest) = ap (λ l. ready_in N ready.0 ∷ l) (listed_by_roles N rest)
-
-all_among : (cast roles : List Role) → ((q : Role) → member q roles ≡ true → member q cast ≡ true) → list_all (λ q. member q cast) roles ≡ true
-all_among cast [] among = refl
-all_among cast (q ∷ qs) among =
-    and_from (member q cast) (list_all (λ r. member r cast) qs) (among q (or_left (role_eq q q) (member q qs) (role_itself q)))
-    (all_among cast qs (λ r h. among r (or_right (role_eq r q) (member r qs) h)))
-
--- an agenda that is to be brought up to date
-module _ (cast : List Role) (N : Network) (q : Role) (a : Act) (agenda : List Shown) (was : WasAgenda cast N q a agenda) where
-  roles_are : map (λ (ready : Shown). ready.0) agenda ≡ cast
-  roles_are = ap (map (λ (ready : Shown). ready.0)) was.listed ∙ roles_listed was.before cast
-
-  -- has the roles of the cast
-  pub roles_of_cast : list_all (λ (ready : Shown). member ready.0 cast) agenda ≡ true
-  roles_of_cast = sym (all_by_roles (λ r. member r cast) agenda) ∙ ap (list_all (λ r. member r cast)) roles_are ∙ all_among cast cast (λ r h. h)
-
-  -- and is up to date with each of them listed anew
-  pub all_refreshed : refreshed N agenda ≡ map (ready_in N) cast
-  all_refreshed = listed_by_roles N agenda ∙ ap (map (ready_in N)) roles_are
-
--- what it lists of a role is what is to be listed of it before
-was_at : (M : Network) (cast : List Role) (i : ℕ) (x : Shown) → i < length (map (ready_in M) cast) → x ≡ get_or (map (ready_in M) cast) i x → x ≡ ready_in M x.0
-was_at M [] i x inside is = absurd (omega (arith, inside))
-was_at M (c ∷ cs) zero x inside is = is ∙ ap (ready_in M) (sym (ap (λ (z : Shown). z.0) is))
-was_at M (c ∷ cs) (suc i) x inside is = was_at M cs i x (omega (arith, inside)) is
-
--- a role that an agenda lists at a place
-module _ (f : Shown → Shown) (old : List Shown) (now : List ReadyRole) (i : ℕ) (ready : ReadyRole) (lt : i < length old) (lt' : i < length now)
-    (so_far : map ready_seen now ≡ map f (take i old) ++ drop i old) (is : ready ≡ get_or now i ready) where
-  here_now : ready_seen ready ≡ get_or (map ready_seen now) i (ready_seen ready)
-  here_now = ap ready_seen is ∙ sym (get_or-map ready_seen now i ready (ready_seen ready) lt')
-
-  here_before : ready_seen ready ≡ get_or old i (ready_seen ready)
-  here_before =
-      let front : List Shown = map f (take i old) in
-      let long : length front ≡ i = length-map (take i old) f ∙ omega (arith, length-take i old) in
-      let parts : map ready_seen now ≡ front ++ get_or old i (ready_seen ready) ∷ drop (i + 1) old = so_far ∙ ap (λ l. front ++ l) (drop_more old i (ready_seen ready) lt) in
-      here_now ∙ ap (λ l. get_or l i (ready_seen ready)) parts ∙ get_or_at front (get_or old i (ready_seen ready)) (drop (i + 1) old) (ready_seen ready) i long
-
-  module _ (cast : List Role) (N : Network) (q : Role) (a : Act) (was : WasAgenda cast N q a old) where
-    -- is as it was before the act
-    listed_before : ready_seen ready ≡ ready_in was.before ready.role
-    listed_before = was_at was.before cast i (ready_seen ready) (subst (λ (l : List Shown). i < length l) was.listed lt)
-        (here_before ∙ ap (λ l. get_or l i (ready_seen ready)) was.listed)
-
-    pub was_listed : role_eq ready.role q ≡ false → WasListed N a (ready_seen ready)
-    was_listed other = record { before = was.before; listed = listed_before; follows = was.follows ready.role other }
-
-    pub was_own : role_eq ready.role q ≡ true → WasOwn N a (ready_seen ready)
-    was_own own = record {
-      before = was.before;
-      listed = listed_before;
-      acted = subst (Acted was.before N a) (sym (role_same ready.role q own)) was.acted;
-    }
-
-  -- stands in the cast where all of them do
-  pub listed_at : (p : Role → Bool) → list_all (λ r. p r.0) old ≡ true → p ready.role ≡ true
-  listed_at p all = by_test (p ready.role) refl
-    where
-      by_test : (t : Bool) → p ready.role ≡ t → p ready.role ≡ true
-      by_test true e = e
-      by_test false e =
-          absurd (both_ways (list_all (λ r. p r.0) old)
-          (list_all_at (λ r. p r.0) old i (ready_seen ready) lt (ap (λ (r : Shown). p r.0) (sym here_before) ∙ e)) all)
-
-  -- and is brought up to date with those before it
-  pub listed_more : (new : ReadyRole) → ready_seen new ≡ f (ready_seen (get_or now i ready)) → map ready_seen (slice_set now i new) ≡ map f (take (i + 1) old) ++ drop (i + 1) old
-  listed_more new same =
-      map-set ready_seen now i new ∙ ap (slice_set (map ready_seen now) i) (same ∙ ap (λ r. f (ready_seen r)) (sym is)) ∙ map_over_more f old (map ready_seen now) i (ready_seen ready) lt so_far here_now
 
 -- a role of the cast
 pub member_at : (cast : List Role) (i : ℕ) (q : Role) → i < length cast → q ≡ get_or cast i q → member q cast ≡ true
-member_at cast i q lt is = member_got cast i q (slice_get_read cast (length cast) i q refl lt is)
+member_at cast i q lt is = stands_in cast i q (slice_get_read cast (length cast) i q refl lt is)
 
 -- what is listed of a role with all its acts and the right places is what is to be
-pub listed_so : (N : Network) (r : Role) (acts : List Act) (places : List ℕ) → acts ≡ offers_of N r → places ≡ places_of (is_ready N) (offers_of N r)
+listed_so : (N : Network) (r : Role) (acts : List Act) (places : List ℕ) → acts ≡ offers_of N r → places ≡ places_of (is_ready N) (offers_of N r)
     → (r, chosen places acts, acts, places) ≡ ready_in N r
 listed_so N r acts places all here =
     ap₂ (λ (xs : List Act) (ps : List ℕ). (r, chosen ps xs, xs, ps)) all here
     ∙ ap (λ (done : List Act). (r, done, offers_of N r, places_of (is_ready N) (offers_of N r))) (chosen_places (is_ready N) (offers_of N r))
+
+pub filled_so : (N : Network) (r : Role) (acts : List Act) (places : List ℕ) → IsFilled N r acts places → (r, chosen places acts, acts, places) ≡ ready_in N r
+filled_so N r acts places is = listed_so N r acts places is.all (is.ready ∙ ap (places_of (is_ready N)) is.all)
 
 -- so it is once the takes of a message that was put to it are put among them
 pub come_listed : (N : Network) (k : Key) (r : Role) (acts : List Act) (places new : List ℕ) → WasListed N (act.Put k) (r, chosen places acts, acts, places)

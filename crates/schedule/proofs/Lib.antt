@@ -1,3 +1,4 @@
+pub mod ActedLemmas
 pub mod AgendaLemmas
 pub mod ComeLemmas
 pub mod FillLemmas
@@ -6,6 +7,7 @@ pub mod OwnActLemmas
 pub mod OwnLemmas
 pub mod PartLemmas
 pub mod PromptLemmas
+pub mod RoleLemmas
 pub mod RunLemmas
 pub mod TouchLemmas
 pub mod TurnLemmas

@@ -1,32 +1,28 @@
 -- The places of what a role can do, where other acts stand in place of the one that it did.
-use Rattle.std.proofs.Common.{◌≡◌, ◌+◌, ◌-◌, ◌<◌, ◌≤◌, ℕ, zero, suc, List, [], ◌∷◌, ◌++◌, Bool, true, false, not, length, map, take, drop, get_or, Some, refl, ap, ap₂, ◌∙◌, sym, arith, ⊎_elim}
-use Rattle.std.specs.Prelude.{◌||◌, filter, if◌then◌else◌, nat_eq, nat_le, nat_lt, slice_set}
-use Rattle.std.specs.List.{list_all, position, position_from}
+use Rattle.std.proofs.Common.{◌≡◌, ◌+◌, ◌-◌, ◌<◌, ◌≤◌, ℕ, zero, suc, List, [], ◌∷◌, ◌++◌, Bool, true, false, length, map, take, drop, get_or, Some, refl, ap, ap₂, ◌∙◌, sym, subst, arith, ⊎_elim, slice_get}
+use Rattle.std.specs.Prelude.{◌||◌, filter, if◌then◌else◌, nat_le, nat_lt, slice_set}
+use Rattle.std.specs.List.{list_all, remove}
 use Rattle.std.proofs.Math.Seq.{drop-append-add, drop-append_seam, take-append_seam}
-use Rattle.std.proofs.lemmas.Bool.{and_from, and_parts, cases_Bool, cond-true, cond-false, eq-eqb, eqb-true, false_from_ne_true, leb-false, leb-true, lt-ltb, ltb-true}
-use Rattle.std.proofs.lemmas.Iterator.Adapters.{position_from-zero}
+use Rattle.std.proofs.lemmas.Bool.{and_from, and_parts, both_ways, cases_Bool, cond-true, cond-false, false_from_ne_true, leb-false, leb-true, lt-ltb, ltb-true}
 use Rattle.std.proofs.lemmas.List.{append-nil, append_assoc, drop_all, drop_more, get_or_at, get_or_default, length-append, length-drop, length-map, length-take-le, map-append, take-append-drop, take_all}
-use Rattle.std.proofs.lemmas.List.Edits.{map_over_more}
-use Rattle.std.proofs.lemmas.List.Elements.{filter-append}
+use Rattle.std.proofs.lemmas.List.Edits.{map_over_more, remove-append_right}
 use Rattle.std.proofs.lemmas.List.Folds.{list_all-append}
 use Rattle.dioc_terms.specs.declared.entries.Act.{Act}
 use Rattle.dioc_terms.specs.Equality.{act_eq}
 use Rattle.marked_laws.proofs.Equality.{act_itself}
+use Rattle.marked_laws.proofs.Shapes.{none_some, some_same}
 use Rattle.net_core.proofs.PlacesLemmas.{places_append, places_more, places_stay}
 use Rattle.net_core.specs.MovesIn.{are_places}
 use Rattle.net_core.specs.Places.{places_from, places_of}
 use Rattle.process_steps.specs.Steps.{is_offered}
 use Rattle.schedule.proofs.ComeLemmas.{with_front, with_later}
-use Rattle.schedule.specs.Agendas.{moved, parted, with_place}
+use Rattle.schedule.specs.Agendas.{StandsAt, moved, parted, with_place}
 
 not_less : (n m : ℕ) → m ≤ n → nat_lt n m ≡ false
 not_less n m h = false_from_ne_true (nat_lt n m) (λ less. omega (arith, h, ltb-true n m less))
 
 at_most : (n m : ℕ) → n ≤ m → nat_le n m ≡ true
 at_most n m h = ⊎_elim (λ t. t) (λ f. absurd (omega (arith, h, leb-false n m f))) (cases_Bool (nat_le n m))
-
-apart : (n m : ℕ) → (n ≡ m → ⊥) → not (nat_eq n m) ≡ true
-apart n m h = ap not (false_from_ne_true (nat_eq n m) (λ same. h (eqb-true n m same)))
 
 neither : (s t : Bool) → (s || t) ≡ false → (s ≡ false) × (t ≡ false)
 neither true t h = cc
@@ -46,16 +42,6 @@ module _ (p : Act → Bool) where
   pub places_inside : (acts : List Act) → are_places (places_of p acts) acts ≡ true
   places_inside acts = each_place (λ k. nat_lt k (length acts)) 0 acts (λ k above below. lt-ltb k (length acts) (omega (arith, below)))
 
-  all_kept : (f : ℕ → Bool) (n : ℕ) (acts : List Act) → ((k : ℕ) → n ≤ k → k < n + length acts → f k ≡ true) → filter f (places_from p n acts) ≡ places_from p n acts
-  all_kept f n [] holds = refl
-  all_kept f n (a ∷ acts) holds = by_test (p a) (all_kept f (n + 1) acts (λ k above below. holds k (omega (arith, above)) (omega (arith, below))))
-    where
-      by_test : (t : Bool) → filter f (places_from p (n + 1) acts) ≡ places_from p (n + 1) acts
-          → filter f (if t then n ∷ places_from p (n + 1) acts else places_from p (n + 1) acts) ≡ (if t then n ∷ places_from p (n + 1) acts else places_from p (n + 1) acts)
-      by_test true rest =
-          cond-true (f n) (n ∷ filter f (places_from p (n + 1) acts)) (filter f (places_from p (n + 1) acts)) (holds n (omega arith) (omega arith)) ∙ ap (λ l. n ∷ l) rest
-      by_test false rest = rest
-
   all_moved : (f : ℕ → ℕ) (n m : ℕ) (acts : List Act) → ((k : ℕ) → k < length acts → f (n + k) ≡ m + k) → map f (places_from p n acts) ≡ places_from p m acts
   all_moved f n m [] goes = refl
   all_moved f n m (a ∷ acts) goes =
@@ -66,24 +52,87 @@ module _ (p : Act → Bool) where
       by_test true rest = ap₂ (λ (x : ℕ) l. x ∷ l) (ap f (omega arith) ∙ goes 0 (omega arith) ∙ omega arith) rest
       by_test false rest = rest
 
-  -- once the place of one act is taken out
-  pub taken_out : (front back : List Act) (a : Act) (at : ℕ) → at ≡ length front
-      → filter (λ k. not (nat_eq k at)) (places_of p (front ++ a ∷ back)) ≡ parted p (at + 1) front back
-  taken_out front back a at is =
-      let f : ℕ → Bool = λ k. not (nat_eq k at) in
-      ap (filter f) (places_append p 0 front (a ∷ back) ∙ ap (λ n. places_of p front ++ places_from p n (a ∷ back)) (omega (arith, is)))
-      ∙ filter-append f (places_of p front) (places_from p at (a ∷ back))
-      ∙ ap₂ (λ (xs : List ℕ) ys. xs ++ ys) (all_kept f 0 front (λ k above below. apart k at (λ same. omega (arith, is, same, below)))) (own (p a))
-    where
-      others : filter (λ k. not (nat_eq k at)) (places_from p (at + 1) back) ≡ places_from p (at + 1) back
-      others = all_kept (λ k. not (nat_eq k at)) (at + 1) back (λ k above below. apart k at (λ same. omega (arith, same, above)))
+  -- an act that stands once in a list, among those of it that pass
+  module _ (a : Act) where
+    not_first : (x : Act) (xs : List Act) (i : ℕ) → act_eq a x ≡ false → ((j : ℕ) → slice_get xs j ≡ Some a → ⊥) → slice_get (x ∷ xs) i ≡ Some a → ⊥
+    not_first x xs zero other later h =
+        both_ways (act_eq a x) other (subst (λ y. act_eq a y ≡ true) (sym (some_same h)) (act_itself a))
+    not_first x xs (suc i) other later h = later i h
 
-      own : (t : Bool) → filter (λ k. not (nat_eq k at)) (if t then at ∷ places_from p (at + 1) back else places_from p (at + 1) back) ≡ places_from p (at + 1) back
-      own true =
-          cond-false (not (nat_eq at at)) (at ∷ filter (λ k. not (nat_eq k at)) (places_from p (at + 1) back)) (filter (λ k. not (nat_eq k at)) (places_from p (at + 1) back))
-          (ap not (eq-eqb at at refl))
-          ∙ others
-      own false = others
+    not_there : (acts : List Act) (i : ℕ) → is_offered a acts ≡ false → slice_get (filter p acts) i ≡ Some a → ⊥
+    not_there [] i none h = none_some h
+    not_there (x ∷ xs) i none h =
+        let parts = neither (act_eq a x) (is_offered a xs) none in
+        ⊎_elim
+        (λ yes. not_first x (filter p xs) i parts.0 (λ j. not_there xs j parts.1) (sym (ap (λ l. slice_get l i) (cond-true (p x) (x ∷ filter p xs) (filter p xs) yes)) ∙ h))
+        (λ no. not_there xs i parts.1 (sym (ap (λ l. slice_get l i) (cond-false (p x) (x ∷ filter p xs) (filter p xs) no)) ∙ h))
+        (cases_Bool (p x))
+
+    at_once : (n : ℕ) (back : List Act) (i : ℕ) → is_offered a back ≡ false → slice_get (filter p (a ∷ back)) i ≡ Some a → (p a ≡ true) × (i ≡ 0)
+    at_once n back i none h = ⊎_elim
+        (λ yes. (yes, first i (sym (ap (λ l. slice_get l i) (cond-true (p a) (a ∷ filter p back) (filter p back) yes)) ∙ h)))
+        (λ no. absurd (not_there back i none (sym (ap (λ l. slice_get l i) (cond-false (p a) (a ∷ filter p back) (filter p back) no)) ∙ h)))
+        (cases_Bool (p a))
+      where
+        first : (i : ℕ) → slice_get (a ∷ filter p back) i ≡ Some a → i ≡ 0
+        first zero k = refl
+        first (suc i) k = absurd (not_there back i none k)
+
+    pub stands_once : (n : ℕ) (front back : List Act) (i : ℕ) → is_offered a front ≡ false → is_offered a back ≡ false
+        → slice_get (filter p (front ++ a ∷ back)) i ≡ Some a → (p a ≡ true) × (i ≡ length (places_from p n front))
+    stands_once n [] back i before behind h = at_once n back i behind h
+    stands_once n (x ∷ front) back i before behind h =
+        let parts = neither (act_eq a x) (is_offered a front) before in
+        ⊎_elim
+        (λ yes.
+        let there = later i parts.0 (sym (ap (λ l. slice_get l i) (cond-true (p x) (x ∷ filter p (front ++ a ∷ back)) (filter p (front ++ a ∷ back)) yes)) ∙ h) in
+        let found = stands_once (n + 1) front back there.0 parts.1 behind there.2 in
+        (found.0, there.1 ∙ ap suc found.1 ∙ ap length (sym (cond-true (p x) (n ∷ places_from p (n + 1) front) (places_from p (n + 1) front) yes))))
+        (λ no.
+        let found = stands_once (n + 1) front back i parts.1 behind
+        (sym (ap (λ l. slice_get l i) (cond-false (p x) (x ∷ filter p (front ++ a ∷ back)) (filter p (front ++ a ∷ back)) no)) ∙ h) in
+        (found.0, found.1 ∙ ap length (sym (cond-false (p x) (n ∷ places_from p (n + 1) front) (places_from p (n + 1) front) no))))
+        (cases_Bool (p x))
+      where
+        later : (i : ℕ) → act_eq a x ≡ false → slice_get (x ∷ filter p (front ++ a ∷ back)) i ≡ Some a
+            → (j : ℕ) × (i ≡ suc j) × (slice_get (filter p (front ++ a ∷ back)) j ≡ Some a)
+        later zero other k = absurd (both_ways (act_eq a x) other (subst (λ y. act_eq a y ≡ true) (sym (some_same k)) (act_itself a)))
+        later (suc j) other k = (j, refl, k)
+
+  -- once the place of an act that was taken out is taken out
+  module _ (acts : List Act) (place at : ℕ) (places : List ℕ) (stands : StandsAt p place at acts places) where
+    pub taken_out : remove places place ≡ parted p (at + 1) (take at acts) (drop at acts)
+    taken_out =
+        let front : List ℕ = places_of p (take at acts) in
+        let rest : List ℕ = at ∷ places_from p (at + 1) (drop at acts) in
+        let none : place - place ≡ 0 = omega arith in
+        ap (λ l. remove l place) stands.split ∙ remove-append_right front rest place place (sym stands.long) (omega arith)
+        ∙ ap (λ n. front ++ remove rest n) none
+
+    pub place_inside : place < length places
+    place_inside =
+        omega (arith, stands.long, ap length stands.split, length-append (places_of p (take at acts)) (at ∷ places_from p (at + 1) (drop at acts)))
+
+    left_or_out : (t : Bool) → (if t then places else remove places place)
+        ≡ places_of p (take at acts) ++ (if t then at ∷ places_from p (at + 1) (drop at acts) else places_from p (at + 1) (drop at acts))
+    left_or_out true = stands.split
+    left_or_out false = taken_out
+
+    -- where one act stands in its place
+    pub one_came : (new news : List Act) (b : Act) → at ≤ length acts → length news ≡ 1 → new ≡ take at acts ++ (news ++ drop at acts)
+        → b ≡ get_or new at b → (if p b then places else remove places place) ≡ places_of p new
+    one_came new [] b inside one is here = absurd (omega (arith, one))
+    one_came new (n ∷ []) b inside one is here =
+        let front : List Act = take at acts in
+        let back : List Act = drop at acts in
+        let long : length front ≡ at = length-take-le at acts inside in
+        let same : b ≡ n = here ∙ ap (λ (l : List Act). get_or l at b) is ∙ get_or_at front n back b at long in
+        left_or_out (p b)
+        ∙ ap (λ (x : Act). places_of p front ++ (if p x then at ∷ places_from p (at + 1) back else places_from p (at + 1) back)) same
+        ∙ ap (λ m. places_of p front ++ places_from p m (n ∷ back)) (sym (omega (arith, long)))
+        ∙ sym (places_append p 0 front (n ∷ back))
+        ∙ ap (places_of p) (sym is)
+    one_came new (n ∷ m ∷ news) b inside one is here = absurd (omega (arith, one))
 
   -- where so many stand in its place
   pub all_behind : (front back : List Act) (at count : ℕ) → at ≡ length front → map (moved at count) (parted p (at + 1) front back) ≡ parted p (at + count) front back
@@ -178,14 +227,3 @@ small_at count bound (k ∷ ks) (suc i) inside all =
 pub written : (n : ℕ) (xs ys : List ℕ) → n ≡ length ys → length xs ≡ length ys → take n (xs ++ drop (length xs) ys) ≡ xs
 written n xs ys is long =
     ap (λ l. take n (xs ++ l)) (drop_all (length xs) ys (omega (arith, long))) ∙ ap (take n) (append-nil xs) ∙ take_all n xs (omega (arith, is, long))
-
--- the first act like one that no act before it is like
-found_from : (a : Act) (n : ℕ) (front back : List Act) → is_offered a front ≡ false → position_from (act_eq a) n (front ++ a ∷ back) ≡ Some (n + length front)
-found_from a n [] back none = cond-true (act_eq a a) (Some n) (position_from (act_eq a) (n + 1) back) (act_itself a) ∙ ap Some (omega arith)
-found_from a n (x ∷ front) back none =
-    let parts = neither (act_eq a x) (is_offered a front) none in
-    cond-false (act_eq a x) (Some n) (position_from (act_eq a) (n + 1) (front ++ a ∷ back)) parts.0
-    ∙ found_from a (n + 1) front back parts.1 ∙ ap Some (omega arith)
-
-pub found : (a : Act) (front back : List Act) → is_offered a front ≡ false → position (act_eq a) (front ++ a ∷ back) ≡ Some (length front)
-found a front back none = position_from-zero (act_eq a) (front ++ a ∷ back) ∙ found_from a 0 front back none ∙ ap Some (omega arith)

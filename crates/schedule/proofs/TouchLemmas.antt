@@ -30,7 +30,7 @@ use Rattle.net_core.specs.MovesIn.{ready_of}
 use Rattle.net_core.specs.Places.{offers_of, places_from, places_of}
 use Rattle.schedule.proofs.FillLemmas.{makes_way}
 use Rattle.schedule.proofs.OwnLemmas.{own_takes}
-use Rattle.schedule.specs.Agendas.{Acted, Follows, MakesWay, brings, parted, puts_to, ready_in, takes, disturbs}
+use Rattle.schedule.specs.Agendas.{Acted, Follows, MakesWay, brings, puts_to, ready_in, takes, disturbs}
 
 -- a put under another key
 pending_put : (j k : Key) (l : Load) (pending : List (Key × Load)) → key_eq j k ≡ false → pending_at j (pending ++ (k, l) ∷ []) ≡ pending_at j pending
@@ -252,12 +252,15 @@ module _ (N : Network) (q : Role) (a : Act) (outcome : NextNetwork) (done : Did 
   in_back : (c : Act) (more : List Act) → is_offered c more ≡ true → is_offered c (way.front ++ more) ≡ true
   in_back c more k = list_any-append (act_eq c) way.front more ∙ or_right (is_offered c way.front) (is_offered c more) k
 
-  acted_stays : parted (is_ready (after_deed N q done.deed done.process)) (length way.front + 1) way.front way.back ≡ parted (is_ready N) (length way.front + 1) way.front way.back
-  acted_stays = ap₂ (λ (xs : List ℕ) ys. xs ++ ys)
-      (places_same (is_ready (after_deed N q done.deed done.process)) (is_ready N) 0 way.front
-      (λ c k. one c (in_front c way.back k) (in_front c (a ∷ way.back) k)))
-      (places_same (is_ready (after_deed N q done.deed done.process)) (is_ready N) (length way.front + 1) way.back
-      (λ c k. one c (in_back c way.back k) (in_back c (a ∷ way.back) (or_right (act_eq c a) (is_offered c way.back) k))))
+  front_stays : places_of (is_ready (after_deed N q done.deed done.process)) way.front ≡ places_of (is_ready N) way.front
+  front_stays =
+      places_same (is_ready (after_deed N q done.deed done.process)) (is_ready N) 0 way.front
+      (λ c k. one c (in_front c way.back k) (in_front c (a ∷ way.back) k))
+
+  back_stays : places_from (is_ready (after_deed N q done.deed done.process)) (length way.front + 1) way.back ≡ places_from (is_ready N) (length way.front + 1) way.back
+  back_stays =
+      places_same (is_ready (after_deed N q done.deed done.process)) (is_ready N) (length way.front + 1) way.back
+      (λ c k. one c (in_back c way.back k) (in_back c (a ∷ way.back) (or_right (act_eq c a) (is_offered c way.back) k)))
 
 -- what a role can do that acted is what it could before, but for what stands in place of its act
 pub acted : Known → (b : PlainBundle) (H : List Entry) (N : Network) → IsSound b → network_run b H ≡ Some N → (q : Role) (a : Act) (outcome : NextNetwork)
@@ -266,7 +269,11 @@ acted known b H N sound run q a outcome h =
     let done = did known b H N sound run q a outcome h in
     let way = acted_way N q a outcome done in
     subst (λ M. Acted N M a q) (sym done.network)
-    (record { way = way; stays = λ none. acted_stays N q a outcome done (own_takes known b H N sound run q) way none })
+    (record {
+      way = way;
+      front = λ none. front_stays N q a outcome done (own_takes known b H N sound run q) way none;
+      back = λ none. back_stays N q a outcome done (own_takes known b H N sound run q) way none;
+    })
 
 outcome_entry : (b : Setting) (N : Network) (timed : Timed) (o : Option Entry) (outcome : NextNetwork) → entry_outcome b N timed o ≡ Some outcome
     → outcome.network ≡ after_change b N timed

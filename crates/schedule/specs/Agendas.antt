@@ -1,5 +1,5 @@
 -- The agenda of a net: what each role can do now, and what of it an act may change.
-use Rattle.std.specs.Prelude.{◌≡◌, ◌+◌, ◌-◌, ℕ, List, [], length, map, Bool, false, ◌∷◌, ◌++◌, ◌||◌, nat_le, nat_lt, Option, Some, None, if◌then◌else◌}
+use Rattle.std.specs.Prelude.{◌≡◌, true, ◌+◌, ◌-◌, ℕ, List, [], length, map, drop, take, Bool, false, ◌∷◌, ◌++◌, ◌||◌, nat_le, nat_lt, Option, Some, None, if◌then◌else◌, option_and_then, slice_get}
 use Rattle.std.specs.List.{list_any}
 use Rattle.dioc_terms.specs.declared.entries.Act.{Act}
 use Rattle.dioc_terms.specs.declared.entries.Act.TheVariants as act
@@ -14,6 +14,10 @@ use Rattle.net_core.specs.MovesIn.{chosen, ready_of}
 use Rattle.net_core.specs.Nets.{NetState, network_of}
 use Rattle.net_core.specs.Places.{offers_of, places_from, places_of}
 use Rattle.process_steps.specs.Steps.{is_offered}
+use Rattle.dioc_terms.specs.Terms.{distinct_roles}
+use Rattle.marked_laws.specs.Offers.{distinct_acts}
+use Rattle.schedule.specs.declared.roles.Listed.{Listed}
+use Rattle.schedule.specs.declared.roles.Listed.TheVariants as listed
 use Rattle.schedule.specs.declared.roles.ReadyRole.{ReadyRole}
 
 -- a role, the acts that it can do, all acts that its process offers, and the places among them of
@@ -37,6 +41,19 @@ ready_in N q = (q, ready_of N q, offers_of N q, places_of (is_ready N) (offers_o
 abbrev pub agenda_of : NetState → List Shown
 agenda_of net = map (ready_in (network_of net)) net.bundle.cast
 
+-- the move that an agenda lists there
+abbrev pub move_at : List Shown → Listed → Option Move
+move_at agenda listed.Change = Some move.Change
+move_at agenda (listed.Act doer place) =
+    option_and_then (λ ready. slice_get (moves_of ready) place) (slice_get agenda doer)
+
+-- it is the one of this number among these moves
+pub record IsListedAs (agenda : List Shown) (all : List Move) (number : ℕ) (made : Listed)
+    : Type 0 where
+  pub move : Move
+  pub there : move_at agenda made ≡ Some move
+  pub is : slice_get all number ≡ Some move
+
 -- whether the act puts a message to the role
 abbrev pub puts_to : Act → Role → Bool
 puts_to (act.Put k) r = role_eq r k.to
@@ -58,13 +75,21 @@ with_place n [] = n ∷ []
 with_place n (m ∷ ms) =
     if nat_le n m then if nat_le m n then m ∷ ms else n ∷ m ∷ ms else m ∷ with_place n ms
 
--- an agenda with each role listed as it is to be in a network
-abbrev pub refreshed : Network → List Shown → List Shown
-refreshed N agenda = map (λ (ready : Shown). ready_in N ready.0) agenda
-
 -- the places of some acts, and of others behind them of which the first has this place
 abbrev pub parted : (Act → Bool) → ℕ → List Act → List Act → List ℕ
 parted p n front back = places_of p front ++ places_from p n back
+
+-- of these places one is that of an act that was taken out, and the others are those of the acts
+-- before it and behind it
+pub record StandsAt (p : Act → Bool) (place at : ℕ) (acts : List Act) (places : List ℕ)
+    : Type 0 where
+  pub split : places ≡ places_of p (take at acts) ++ (at ∷ places_from p (at + 1) (drop at acts))
+  pub long : place ≡ length (places_of p (take at acts))
+
+-- these are all acts that a role offers, and the places of those that it can do
+pub record IsFilled (N : Network) (q : Role) (acts : List Act) (places : List ℕ) : Type 0 where
+  pub all : acts ≡ offers_of N q
+  pub ready : places ≡ places_of (is_ready N) acts
 
 -- where a place behind this one is, once so many acts stand there in place of one
 abbrev pub moved : ℕ → ℕ → ℕ → ℕ
@@ -99,9 +124,11 @@ pub record Follows (M N : Network) (a : Act) (r : Role) : Type 0 where
 -- its place; and of the rest it can do what it could, unless the act disturbs it
 pub record Acted (M N : Network) (a : Act) (r : Role) : Type 0 where
   pub way : MakesWay a (offers_of M r) (offers_of N r)
-  pub stays : disturbs r a (way.front ++ way.back) ≡ false
-      → parted (is_ready N) (length way.front + 1) way.front way.back
-      ≡ parted (is_ready M) (length way.front + 1) way.front way.back
+  pub front : disturbs r a (way.front ++ way.back) ≡ false
+      → places_of (is_ready N) way.front ≡ places_of (is_ready M) way.front
+  pub back : disturbs r a (way.front ++ way.back) ≡ false
+      → places_from (is_ready N) (length way.front + 1) way.back
+      ≡ places_from (is_ready M) (length way.front + 1) way.back
 
 -- what is listed of a role is that from before the act of another, in some network
 pub record WasListed (N : Network) (a : Act) (ready : Shown) : Type 0 where
@@ -115,13 +142,44 @@ pub record WasOwn (N : Network) (a : Act) (ready : Shown) : Type 0 where
   pub listed : ready ≡ ready_in before ready.0
   pub acted : Acted before N a ready.0
 
--- an agenda is that of a network before an act of the role
+-- the same where the act stands at one of the places of those that the role can do
+pub record DidAt (N : Network) (place : ℕ) (ready : Shown) : Type 0 where
+  pub act : Act
+  pub listed : slice_get ready.1 place ≡ Some act
+  pub own : WasOwn N act ready
+  pub distinct : distinct_acts (offers_of own.before ready.0) ≡ true
+
+-- an agenda is that of a network before an act of the role: no role and no act stands twice in it
 pub record WasAgenda (cast : List Role) (N : Network) (q : Role) (a : Act) (agenda : List Shown)
     : Type 0 where
   pub before : Network
   pub listed : agenda ≡ map (ready_in before) cast
   pub acted : Acted before N a q
   pub follows : (r : Role) → role_eq r q ≡ false → Follows before N a r
+  pub roles : distinct_roles cast ≡ true
+  pub acts : distinct_acts (offers_of before q) ≡ true
+
+-- it lists the act there
+pub record DidIn (cast : List Role) (N : Network) (doer place : ℕ) (agenda : List Shown)
+    : Type 0 where
+  pub role : Role
+  pub act : Act
+  pub there : move_at agenda (listed.Act doer place) ≡ Some (move.Act role act)
+  pub was : WasAgenda cast N role act agenda
+
+-- what is listed of a role once this role is listed as after its act
+abbrev pub half : Network → Network → Role → Role → Shown
+half M N q r = if role_eq r q then ready_in N r else ready_in M r
+
+-- an agenda lists the role that acted as after its act, and the others as before it
+pub record HasActed (cast : List Role) (N : Network) (doer : ℕ) (a : Act) (agenda : List Shown)
+    : Type 0 where
+  pub before : Network
+  pub role : Role
+  pub here : slice_get cast doer ≡ Some role
+  pub listed : agenda ≡ map (half before N role) cast
+  pub follows : (r : Role) → role_eq r role ≡ false → Follows before N a r
+  pub roles : distinct_roles cast ≡ true
 
 -- an agenda from before the last move, which was this one; before the first there is none
 abbrev pub IsStale : NetState → Option Move → List Shown → Type 0
@@ -129,3 +187,13 @@ IsStale net None agenda = Unit {0}
 IsStale net (Some move.Change) agenda = agenda ≡ agenda_of net
 IsStale net (Some (move.Act q a)) agenda =
     WasAgenda net.bundle.cast (network_of net) q a agenda
+
+-- it lists the move there
+pub record IsStaleAt (net : NetState) (made : Listed) (agenda : List Shown) : Type 0 where
+  pub move : Move
+  pub there : move_at agenda made ≡ Some move
+  pub stale : IsStale net (Some move) agenda
+
+abbrev pub IsBehind : NetState → Option Listed → List Shown → Type 0
+IsBehind net None agenda = Unit {0}
+IsBehind net (Some made) agenda = IsStaleAt net made agenda

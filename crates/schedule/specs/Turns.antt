@@ -1,5 +1,5 @@
 -- What a turn of a schedule is: a move that has no fault, and the net after it.
-use Rattle.std.specs.Prelude.{◌≡◌, ℕ, Bool, Option, Some, None, length, slice_get}
+use Rattle.std.specs.Prelude.{◌≡◌, ℕ, List, Bool, Option, Some, None, length, slice_get}
 use Rattle.dioc_terms.specs.Plain.{setting}
 use Rattle.network_steps.specs.Network.{NextNetwork, network_ended}
 use Rattle.network_steps.specs.declared.moves.Move.{Move}
@@ -8,6 +8,8 @@ use Rattle.network_steps.specs.Schedule.{move_place, move_step, moves, scheduled
 use Rattle.net_core.specs.Changes.{change_fault}
 use Rattle.net_core.specs.Nets.{NetState, network_of}
 use Rattle.net_core.specs.Steps.{GoesOn, fault_of}
+use Rattle.schedule.specs.declared.roles.Listed.{Listed}
+use Rattle.schedule.specs.Agendas.{IsListedAs, Shown, move_at}
 
 -- whether the network of a net has ended
 abbrev pub has_ended : NetState → Bool
@@ -23,6 +25,18 @@ abbrev pub IsScheduled : NetState → Option ℕ → Move → Type 0
 IsScheduled net seed next =
     let listed = moves (setting net.bundle) (network_of net) in
     slice_get listed (move_place seed (length listed)) ≡ Some next
+
+-- the agenda lists it there
+abbrev pub IsNext : NetState → Option ℕ → List Shown → Listed → Type 0
+IsNext net seed agenda made =
+    let all = moves (setting net.bundle) (network_of net) in
+    IsListedAs agenda all (move_place seed (length all)) made
+
+-- the move that an agenda lists there has no fault
+pub record CanMakeListed (net : NetState) (agenda : List Shown) (made : Listed) : Type 0 where
+  pub move : Move
+  pub there : move_at agenda made ≡ Some move
+  pub can : CanMake net move
 
 -- the net has made this move
 pub record IsMoveOf (old : NetState) (m : Move) (new : NetState) : Type 0 where

@@ -4,42 +4,55 @@
 //! It keeps all acts that a role's process offers, and beside them which of them can be done. After
 //! an act the role that did it offers what it did, but in place of the act what comes in its place:
 //! the net is asked only for these acts. What a receiver can do is what it could, and the takes of
-//! the message.
+//! the message. An act that is done is known by its place in the agenda, so nothing is compared to
+//! find it.
 
-ghost use Rattle.std.specs.Prelude.{◌≡◌, ◌<◌, ◌≤◌, ◌^◌, ◌-◌, ◌+◌, ◌||◌, true, false, not, Bool, Some, IfOk, OnErr, OnOk, drop, filter, flat_map, get_or, length, map, nat_eq, nat_le, slice_get, take, vec_len};
-ghost use Rattle.std.specs.List.{list_all, list_any, position};
-ghost use Rattle.dioc_terms.specs.Equality.{act_eq, member, role_eq};
+ghost use Rattle.std.specs.Prelude.{◌≡◌, ◌<◌, ◌≤◌, ◌^◌, ◌-◌, ◌+◌, ◌||◌, true, false, Bool, Some, IfOk, IfSome, OnErr, OnOk, drop, flat_map, get_or, if◌then◌else◌, length, map, nat_le, slice_get, take, vec_len};
+ghost use Rattle.std.specs.List.{list_all, position, remove};
+ghost use Rattle.dioc_terms.specs.Equality.{member, role_eq};
 ghost use Rattle.dioc_terms.specs.declared.entries.Act.{Act as OneAct};
 ghost use Rattle.network_steps.specs.Network.{Network as OneNetwork};
 ghost use Rattle.dpoc_process.specs.LocalStates.{LacksAt};
 ghost use Rattle.network_steps.specs.Schedule.{is_ready};
-ghost use Rattle.net_core.specs.MovesIn.{are_places, chosen, ready_of};
+ghost use Rattle.net_core.specs.MovesIn.{are_places, chosen};
 ghost use Rattle.net_core.specs.Nets.{network_of};
 ghost use Rattle.net_core.specs.Places.{offers_of, places_of};
-ghost use Rattle.schedule.specs.Agendas.{IsStale, WasAgenda, WasListed, WasOwn, agenda_of, moved, moves_of, parted, ready_in, ready_seen, refreshed, takes, disturbs, with_place};
+ghost use Rattle.schedule.specs.Agendas.{DidAt, DidIn, HasActed, IsBehind, IsFilled, IsListedAs, IsStale, IsStaleAt, StandsAt, WasAgenda, WasListed, agenda_of, move_at, moved, moves_of, parted, puts_to, ready_in, ready_seen, takes, with_place};
 
-use crate::roles::ReadyRole;
+use crate::roles::{Listed, ReadyRole};
 use dioc_terms::{Act, Key, Memory, Role, give_up};
 use dpoc_process::Runs;
 use net_core::Net;
 use network_steps::Move;
 use std::alloc::Global;
 
-/// The agenda after a move, from the one before it. Before the first move it makes one.
+/// Brings an agenda up to date after the last move, which it lists there. Before the first move it
+/// makes one. After `Memory` the agenda may be half done.
 pub(crate) fn keep_up<R: Runs>(
     net: &Net<R>,
-    made: &Option<Move>,
-    agenda: Vec<ReadyRole>,
-) -> Result<Vec<ReadyRole>, Memory>
-    requires { IsStale net.now made.now (map ready_seen agenda.items) }
-    ensures { IfOk result (λ agenda. map ready_seen agenda.items ≡ agenda_of net.now) }
+    made: Option<Listed>,
+    agenda: &mut Vec<ReadyRole>,
+) -> Result<(), Memory>
+    requires { IsBehind net.now made (map ready_seen agenda.old.items) }
+    ensures { OnOk result (map ready_seen agenda.new.items ≡ agenda_of net.now) }
 {
     match made {
         None => {
-            drop(agenda);
-            list_ready(net)
+            *agenda = list_ready(net)?;
+            Ok(())
         }
-        Some(made) => keep_up_with(net, made, agenda),
+        Some(made) => catch_up(net, made, agenda.as_mut_slice()),
+    }
+}
+
+/// Brings an agenda up to date after the move that it lists there.
+fn catch_up<R: Runs>(net: &Net<R>, made: Listed, agenda: &mut [ReadyRole]) -> Result<(), Memory>
+    requires { IsStaleAt net.now made (map ready_seen agenda.old) }
+    ensures { OnOk result (map ready_seen agenda.new ≡ agenda_of net.now) }
+{
+    match made {
+        Listed::Change => Ok(()),
+        Listed::Act(doer, place) => refresh(net, doer, place, agenda),
     }
 }
 
@@ -59,7 +72,7 @@ pub fn keep_up_with<R: Runs>(
     }
 }
 
-/// The agenda brought up to date after an act of a role.
+/// The agenda after an act of a role, or all of it anew where it doesn't list the act.
 fn refreshed<R: Runs>(
     net: &Net<R>,
     role: &Role,
@@ -68,14 +81,49 @@ fn refreshed<R: Runs>(
 ) -> Result<Vec<ReadyRole>, Memory>
     requires { WasAgenda net.now.bundle.cast (network_of net.now) role.now act.now
         (map ready_seen agenda.items) }
-    ensures { IfOk result (λ new. map ready_seen new.items
-        ≡ refreshed (network_of net.now) (map ready_seen agenda.items)) }
+    ensures { IfOk result (λ agenda. map ready_seen agenda.items ≡ agenda_of net.now) }
 {
+    let Some((doer, place)) = find_act(agenda.as_slice(), role, act) else {
+        drop(agenda);
+        return list_ready(net);
+    };
     let mut new = agenda;
-    match refresh(net, role, act, new.as_mut_slice()) {
+    match refresh(net, doer, place, new.as_mut_slice()) {
         Ok(()) => Ok(new),
         Err(fault) => give_up(new, fault),
     }
+}
+
+/// Where an agenda lists an act of a role: the place of the role, and the place of the act among
+/// those that the role can do.
+fn find_act(agenda: &[ReadyRole], role: &Role, act: &Act) -> Option<(usize, usize)>
+    ensures { IfSome result (λ at. move_at (map ready_seen agenda.now) (Listed.Act at.0 at.1)
+        ≡ Some (Move.Act role.now act.now)) }
+{
+    let doer = find_role(agenda, role)?;
+    let ready = &agenda[doer];
+    let place = find_place(ready.acts.as_slice(), ready.ready.as_slice(), act)?;
+    Some((doer, place))
+}
+
+/// Where an agenda has a role.
+fn find_role(agenda: &[ReadyRole], role: &Role) -> Option<usize>
+    ensures { result ≡ position (λ ready. role_eq ready.role role.now) agenda.now }
+{
+    agenda.iter().position(|ready| ready.role == *role)
+}
+
+/// Which of the places is that of the act.
+fn find_place(acts: &[Act], places: &[usize], act: &Act) -> Option<usize>
+    requires { are_places places.now acts.now ≡ true }
+    ensures { IfSome result (λ place. slice_get (chosen places.now acts.now) place ≡ Some act.now) }
+{
+    for place in 0..places.len() {
+        if acts[places[place]] == *act {
+            return Some(place);
+        }
+    }
+    None
 }
 
 /// The agenda of a net: the acts that each role can do now, in the cast's order.
@@ -104,57 +152,53 @@ fn list_role<R: Runs>(net: &Net<R>, role: &Role) -> Result<ReadyRole, Memory>
     Ok(ReadyRole { role, acts, ready })
 }
 
-/// Brings up to date what the roles can do after an act of a role.
+/// Brings an agenda up to date after the act that it lists there.
 fn refresh<R: Runs>(
     net: &Net<R>,
-    role: &Role,
-    act: &Act,
+    doer: usize,
+    place: usize,
     agenda: &mut [ReadyRole],
 ) -> Result<(), Memory>
-    requires { WasAgenda net.now.bundle.cast (network_of net.now) role.now act.now
+    requires { DidIn net.now.bundle.cast (network_of net.now) doer place
         (map ready_seen agenda.old) }
-    ensures { OnOk result (map ready_seen agenda.new
-        ≡ refreshed (network_of net.now) (map ready_seen agenda.old)) }
+    ensures { OnOk result (map ready_seen agenda.new ≡ agenda_of net.now) }
 {
-    for ready in agenda.iter_mut() {
-        list_again(net, role, act, ready)?;
-    }
-    Ok(())
+    let done = act_on(net, place, &mut agenda[doer])?;
+    let received = receive(net, &done, doer, agenda);
+    drop(done);
+    received
 }
 
-/// Brings up to date what a role can do after an act, its own or another's.
-fn list_again<R: Runs>(
+/// Brings up to date what the others can do after the act of a role: of a put its receiver can do
+/// the takes of the message.
+fn receive<R: Runs>(
     net: &Net<R>,
-    role: &Role,
     act: &Act,
-    ready: &mut ReadyRole,
+    doer: usize,
+    agenda: &mut [ReadyRole],
 ) -> Result<(), Memory>
-    requires member { member ready.old.role net.now.bundle.cast ≡ true }
-    requires own { role_eq ready.old.role role.now ≡ true
-        → WasOwn (network_of net.now) act.now (ready_seen ready.old) }
-    requires other { role_eq ready.old.role role.now ≡ false
-        → WasListed (network_of net.now) act.now (ready_seen ready.old) }
-    ensures { OnOk result (ready_seen ready.new ≡ ready_in (network_of net.now) ready.old.role) }
-{
-    if ready.role == *role {
-        return act_on(net, act, ready);
-    }
-    receive(act, ready)
-}
-
-/// Brings up to date what a role can do after the act of another: its process is as it was, and
-/// the message that the act may put to it can be taken.
-fn receive(act: &Act, ready: &mut ReadyRole) -> Result<(), Memory>
-    ensures { OnOk result ((N : OneNetwork) → WasListed N act.now (ready_seen ready.old)
-        → ready_seen ready.new ≡ ready_in N ready.old.role) }
+    requires { HasActed net.now.bundle.cast (network_of net.now) doer act.now
+        (map ready_seen agenda.old) }
+    ensures { OnOk result (map ready_seen agenda.new ≡ agenda_of net.now) }
 {
     let Act::Put(key) = act else {
         return Ok(());
     };
-    if ready.role == key.to {
-        return add_takes(ready.acts.as_slice(), key, &mut ready.ready);
+    let Some(to) = find_role(agenda, &key.to) else {
+        return Ok(());
+    };
+    if to == doer {
+        return Ok(());
     }
-    Ok(())
+    come(key, &mut agenda[to])
+}
+
+/// Puts the takes of a message among what its receiver can do.
+fn come(key: &Key, ready: &mut ReadyRole) -> Result<(), Memory>
+    ensures { OnOk result ((N : OneNetwork) → WasListed N (Act.Put key.now) (ready_seen ready.old)
+        → ready_seen ready.new ≡ ready_in N ready.old.role) }
+{
+    add_takes(ready.acts.as_slice(), key, &mut ready.ready)
 }
 
 /// Adds the places of the takes of a message to those of other acts.
@@ -205,93 +249,80 @@ fn place_for(places: &[usize], at: usize) -> Option<usize>
     places.iter().position(|place| at <= *place)
 }
 
-/// Brings up to date what a role of the cast can do after its own act.
-fn act_on<R: Runs>(net: &Net<R>, act: &Act, ready: &mut ReadyRole) -> Result<(), Memory>
+/// Brings up to date what a role of the cast can do after its own act, which stands at that one of
+/// its places, and takes the act out.
+fn act_on<R: Runs>(net: &Net<R>, place: usize, ready: &mut ReadyRole) -> Result<Act, Memory>
     requires member { member ready.old.role net.now.bundle.cast ≡ true }
-    requires own { WasOwn (network_of net.now) act.now (ready_seen ready.old) }
-    ensures { OnOk result (ready_seen ready.new ≡ ready_in (network_of net.now) ready.old.role) }
+    requires own { DidAt (network_of net.now) place (ready_seen ready.old) }
+    ensures act { IfOk result (λ act. slice_get (ready_seen ready.old).1 place ≡ Some act) }
+    ensures listed { OnOk result
+        (ready_seen ready.new ≡ ready_in (network_of net.now) ready.old.role) }
 {
-    fill_or_clear(net, &ready.role, act, &mut ready.acts, &mut ready.ready)
+    fill_in(net, &ready.role, place, &mut ready.acts, &mut ready.ready)
 }
 
-/// The same, of its acts and the places of those that it can do. After `Memory` it can do none.
-fn fill_or_clear<R: Runs>(
+/// Puts the acts that a role offers after its act in place of that act, which it takes out. After
+/// `Memory` the role can do none.
+fn fill_in<R: Runs>(
     net: &Net<R>,
     role: &Role,
-    act: &Act,
+    place: usize,
     acts: &mut Vec<Act>,
     ready: &mut Vec<usize>,
-) -> Result<(), Memory>
+) -> Result<Act, Memory>
     requires member { member role.now net.now.bundle.cast ≡ true }
-    requires own { WasOwn (network_of net.now) act.now
+    requires inside { are_places ready.old.items acts.old.items ≡ true }
+    requires own { DidAt (network_of net.now) place
         (role.now, chosen ready.old.items acts.old.items, acts.old.items, ready.old.items) }
-    ensures ready { OnOk result (chosen ready.new.items acts.new.items
-        ≡ ready_of (network_of net.now) role.now) }
-    ensures acts { OnOk result (acts.new.items ≡ offers_of (network_of net.now) role.now) }
-    ensures places { OnOk result (ready.new.items
-        ≡ places_of (is_ready (network_of net.now)) acts.new.items) }
+    ensures act { IfOk result
+        (λ act. slice_get (chosen ready.old.items acts.old.items) place ≡ Some act) }
+    ensures filled { OnOk result
+        (IsFilled (network_of net.now) role.now acts.new.items ready.new.items) }
     ensures inside { are_places ready.new.items acts.new.items ≡ true }
 {
-    match fill_in(net, role, act, acts, ready) {
-        Ok(()) => Ok(()),
+    let at = ready[place];
+    let act = acts.remove(at);
+    match fill_others(net, role, &act, place, at, acts, ready) {
+        Ok(()) => Ok(act),
         Err(fault) => {
             ready.clear();
-            Err(fault)
+            give_up(act, fault)
         }
     }
 }
 
-/// Puts the acts that a role offers after an act in place of that act. Where the act disturbs
-/// another, all are listed anew.
-fn fill_in<R: Runs>(
+/// Fills in the acts that a role offers in place of one that was taken out. Where that puts a
+/// message to the role itself, all are listed anew.
+fn fill_others<R: Runs>(
     net: &Net<R>,
     role: &Role,
     act: &Act,
+    place: usize,
+    at: usize,
     acts: &mut Vec<Act>,
     ready: &mut Vec<usize>,
 ) -> Result<(), Memory>
     requires member { member role.now net.now.bundle.cast ≡ true }
-    requires own { WasOwn (network_of net.now) act.now
-        (role.now, chosen ready.old.items acts.old.items, acts.old.items, ready.old.items) }
-    ensures acts { OnOk result (acts.new.items ≡ offers_of (network_of net.now) role.now) }
-    ensures places { OnOk result (ready.new.items
-        ≡ places_of (is_ready (network_of net.now)) acts.new.items) }
+    requires inside { at ≤ length acts.old.items }
+    requires lacks { LacksAt at acts.old.items (offers_of (network_of net.now) role.now) }
+    requires stands { puts_to act.now role.now ≡ false
+        → StandsAt (is_ready (network_of net.now)) place at acts.old.items ready.old.items }
+    ensures { OnOk result (IsFilled (network_of net.now) role.now acts.new.items ready.new.items) }
 {
-    let Some(at) = place_of(acts.as_slice(), act) else {
-        unreachable!()
-    };
-    drop(acts.remove(at));
-    if disturbs(role, act, acts.as_slice()) {
+    if puts_to(act, role) {
         return net.refresh_ready(role, acts, ready);
     }
-    take_place(ready, at);
-    fill_place(net, role, acts, ready, at)
+    fill_place(net, role, place, at, acts, ready)
 }
 
-/// Where the first of the acts stands that is this one.
-fn place_of(acts: &[Act], act: &Act) -> Option<usize>
-    ensures { result ≡ position (act_eq act.now) acts.now }
-{
-    acts.iter().position(|one| act == one)
-}
-
-/// Whether an act of a role may change which of its other acts it can do: it puts a message to the
-/// role itself, or takes one that another of them takes.
-fn disturbs(role: &Role, act: &Act, others: &[Act]) -> bool
-    ensures { result ≡ disturbs role.now act.now others.now }
+/// Whether the act puts a message to the role.
+fn puts_to(act: &Act, role: &Role) -> bool
+    ensures { result ≡ puts_to act.now role.now }
 {
     match act {
-        Act::Put(key) => key.to == *role,
-        Act::Take(key) => others.iter().any(|other| takes(key, other)),
+        Act::Put(key) => *role == key.to,
         _ => false,
     }
-}
-
-/// Takes a place out of others.
-fn take_place(ready: &mut Vec<usize>, at: usize)
-    ensures { ready.new.items ≡ filter (λ place. not (nat_eq place at)) ready.old.items }
-{
-    ready.retain(|place| *place != at);
 }
 
 /// Fills in the acts that a role offers in place of one that was taken out, and asks which of them
@@ -299,24 +330,39 @@ fn take_place(ready: &mut Vec<usize>, at: usize)
 fn fill_place<R: Runs>(
     net: &Net<R>,
     role: &Role,
+    place: usize,
+    at: usize,
     acts: &mut Vec<Act>,
     ready: &mut Vec<usize>,
-    at: usize,
 ) -> Result<(), Memory>
     requires member { member role.now net.now.bundle.cast ≡ true }
     requires inside { at ≤ length acts.old.items }
     requires lacks { LacksAt at acts.old.items (offers_of (network_of net.now) role.now) }
-    requires parted { ready.old.items ≡ parted (is_ready (network_of net.now)) (at + 1)
-        (take at acts.old.items) (drop at acts.old.items) }
-    ensures acts { OnOk result (acts.new.items ≡ offers_of (network_of net.now) role.now) }
-    ensures places { OnOk result (ready.new.items
-        ≡ places_of (is_ready (network_of net.now)) acts.new.items) }
+    requires stands { StandsAt (is_ready (network_of net.now)) place at acts.old.items
+        ready.old.items }
+    ensures { OnOk result (IsFilled (network_of net.now) role.now acts.new.items ready.new.items) }
 {
     let before = acts.len();
     net.fill_acts(role, acts, at)?;
     let count = acts.len() - before;
+    if count == 1 {
+        ask_one(net, &acts[at], place, ready);
+        return Ok(());
+    }
+    ready.remove(place);
     move_behind(ready.as_mut_slice(), at, count);
     ask(net, acts.as_slice(), at, at + count, ready)
+}
+
+/// Takes a place out unless the act that stands there now can be done.
+fn ask_one<R: Runs>(net: &Net<R>, act: &Act, place: usize, ready: &mut Vec<usize>)
+    requires { place < length ready.old.items }
+    ensures { ready.new.items ≡ (if is_ready (network_of net.now) act.now then ready.old.items
+        else remove ready.old.items place) }
+{
+    if !net.is_ready(act) {
+        ready.remove(place);
+    }
 }
 
 /// Moves the places behind one to where they are once so many acts stand there in place of one.
@@ -378,31 +424,19 @@ pub(crate) fn count_acts(agenda: &[ReadyRole]) -> u128
     count
 }
 
-/// The act of that number, of all in an agenda, as a move.
-pub(crate) fn move_at(alloc: Global, agenda: &[ReadyRole], place: u128) -> Result<Move, Memory>
-    requires { place < length (flat_map moves_of (map ready_seen agenda.now)) }
-    ensures { IfOk result
-        (λ next. slice_get (flat_map moves_of (map ready_seen agenda.now)) place ≡ Some next) }
+/// Where an agenda lists the act of that number, of all in it.
+pub(crate) fn find_number(agenda: &[ReadyRole], number: u128) -> Listed
+    requires { number < length (flat_map moves_of (map ready_seen agenda.now)) }
+    ensures { IsListedAs (map ready_seen agenda.now) (flat_map moves_of (map ready_seen agenda.now))
+        number result }
 {
-    let mut left = place;
-    for ready in agenda {
-        let count = ready.ready.len() as u128;
+    let mut left = number;
+    for doer in 0..agenda.len() {
+        let count = agenda[doer].ready.len() as u128;
         if left < count {
-            return move_of(alloc, ready, left as usize);
+            return Listed::Act(doer, left as usize);
         }
         left -= count;
     }
     unreachable!()
-}
-
-/// The act of that number of one role, as a move.
-fn move_of(alloc: Global, ready: &ReadyRole, place: usize) -> Result<Move, Memory>
-    requires { place < length ready.now.ready.items }
-    ensures { IfOk result (λ next. slice_get (moves_of (ready_seen ready.now)) place ≡ Some next) }
-{
-    let act = ready.acts[ready.ready[place]].copy(alloc)?;
-    match ready.role.copy(alloc) {
-        Ok(role) => Ok(Move::Act(role, act)),
-        Err(fault) => give_up(act, fault),
-    }
 }

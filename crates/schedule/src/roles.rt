@@ -5,6 +5,16 @@ ghost use Rattle.net_core.specs.MovesIn.{are_places};
 
 use dioc_terms::{Act, Role};
 
+/// A move, by where an agenda lists it.
+#[derive(Clone, Copy)]
+pub(crate) enum Listed {
+    /// The script's next change, which stands in no agenda.
+    Change,
+    /// An act: the place of its role in the agenda, and the place of the act among those that the
+    /// role can do.
+    Act(usize, usize),
+}
+
 /// A role with the acts that it can do now.
 #[derive(Drop)]
 pub struct ReadyRole {

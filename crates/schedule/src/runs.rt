@@ -3,19 +3,17 @@
 ghost use Rattle.std.specs.Prelude.{◌≡◌, ◌≤◌, ◌<◌, ◌↔◌, [], true, false, None, Some, IfOk, OnErr, OnOk, length, map};
 ghost use Rattle.network_steps.specs.Schedule.{IsPrompt, sched_from};
 ghost use Rattle.net_core.specs.Nets.{IsSoundRun};
-ghost use Rattle.schedule.specs.Agendas.{IsStale, ready_seen};
+ghost use Rattle.schedule.specs.Agendas.{IsBehind, ready_seen};
 ghost use Rattle.schedule.specs.Runs.{HasGone, IsOnTheWay, finish_at};
 ghost use Rattle.schedule.specs.Turns.{Advances, has_ended};
 
 use crate::agenda::keep_up;
 use crate::numbers::next_seed;
-use crate::roles::ReadyRole;
+use crate::roles::{Listed, ReadyRole};
 use crate::turns::take_next;
 use dioc_terms::Memory;
 use dpoc_process::Runs;
 use net_core::Net;
-use network_steps::Move;
-use std::mem;
 
 /// How a run finished: its network has ended, or its history is full.
 #[derive(Clone, Copy)]
@@ -49,7 +47,7 @@ pub fn run_seeded<R: Runs>(net: &mut Net<R>, seed: Option<u64>) -> Result<Finish
     let mut made = None;
     let mut agenda = Vec::new(net.allocator());
     let finish = take_turns(net, seed, &mut made, &mut agenda);
-    drop((made, agenda));
+    drop(agenda);
     finish
 }
 
@@ -58,11 +56,11 @@ pub fn run_seeded<R: Runs>(net: &mut Net<R>, seed: Option<u64>) -> Result<Finish
 fn take_turns<R: Runs>(
     net: &mut Net<R>,
     seed: Option<u64>,
-    made: &mut Option<Move>,
+    made: &mut Option<Listed>,
     agenda: &mut Vec<ReadyRole>,
 ) -> Result<Finish, Memory>
     requires limit { net.old.limit ≤ 4294967295 }
-    requires stale { IsStale net.old made.old (map ready_seen agenda.old.items) }
+    requires stale { IsBehind net.old made.old (map ready_seen agenda.old.items) }
     ensures goes { HasGone net.old seed net.new }
     ensures finish { IfOk result (λ finish. finish_at net.new ≡ Some finish) }
     ensures run { IsSoundRun net.new }
@@ -78,26 +76,25 @@ fn take_turns<R: Runs>(
 }
 
 /// Takes one turn: brings the agenda up to date after the last move, and makes the next one. After
-/// a refusal the net is unchanged, and the agenda may be lost.
+/// a refusal the net is unchanged, and the agenda may be half done.
 fn take_turn<R: Runs>(
     net: &mut Net<R>,
     seed: Option<u64>,
-    made: &mut Option<Move>,
+    made: &mut Option<Listed>,
     agenda: &mut Vec<ReadyRole>,
 ) -> Result<(), Memory>
     requires run { IsSoundRun net.old }
     requires goes { has_ended net.old ≡ false }
     requires room { length net.old.history < net.old.limit }
     requires limit { net.old.limit ≤ 4294967295 }
-    requires stale { IsStale net.old made.old (map ready_seen agenda.old.items) }
+    requires stale { IsBehind net.old made.old (map ready_seen agenda.old.items) }
     ensures advanced { OnOk result (Advances net.old seed net.new) }
-    ensures stale { OnOk result (IsStale net.new made.new (map ready_seen agenda.new.items)) }
+    ensures stale { OnOk result (IsBehind net.new made.new (map ready_seen agenda.new.items)) }
     ensures err { OnErr result (net.new ≡ net.old) }
 {
-    let before = mem::replace(agenda, Vec::new(net.allocator()));
-    *agenda = keep_up(net, made, before)?;
+    keep_up(net, *made, agenda)?;
     let next = take_next(net, agenda.as_slice(), seed)?;
-    drop(mem::replace(made, Some(next)));
+    *made = Some(next);
     Ok(())
 }
 

@@ -1,27 +1,46 @@
--- The takes of the message are put among the places, and where none is put nothing changes.
-use Rattle.std.proofs.Common.{◌≡◌, Bool, List, sym, ap, ◌∙◌, subst}
+-- The message is put to none, to the role itself, or to another.
+use Rattle.std.proofs.Common.{sym, ap, ◌∙◌, subst}
 use Rattle.std.proofs.lemmas.Result.{on_ok_weaker}
-use Rattle.std.specs.Prelude.{◌||◌}
-use Rattle.dioc_terms.specs.declared.entries.Act.{Act}
-use Rattle.net_core.specs.Places.{places_of}
-use Rattle.schedule.proofs.AgendaLemmas.{come_listed, none_put, stay_listed}
-use Rattle.schedule.specs.Agendas.{WasListed, puts_to, ready_seen, takes}
+use Rattle.dioc_terms.specs.declared.entries.Act.TheVariants as act
+use Rattle.net_core.specs.Nets.{network_of}
+use Rattle.schedule.proofs.ActedLemmas.{came_listed, came_to, came_to_itself, came_to_none, none_came, some_at, to_inside}
+use Rattle.schedule.specs.declared.roles.ReadyRole.{ReadyRole}
+use Rattle.schedule.specs.Agendas.{WasListed, ready_in, ready_seen}
 use Rattle.schedule.proofs.agenda.receive.Goals as goal
 
-pub returns-then-eq : goal.returns-then-eq
-returns-then-eq c =
-    let ready = c.args.ready.now in
-    on_ok_weaker c.add_takes.result
-    (λ put N was. come_listed N c.in-Put.key ready.role ready.acts.items ready.ready.items c.add_takes.new.ready.items
-    (subst (λ (a : Act). WasListed N a (ready_seen ready)) c.in-Put.is was)
-    (subst (λ (acts : List Act). (p : Act → Bool) → ready.ready.items ≡ places_of p acts → c.add_takes.new.ready.items ≡ places_of (λ a. takes c.in-Put.key a || p a) acts)
-    c.as_slice.ensures.value put))
-    c.add_takes.ensures.places
+pub returns-in_default : goal.returns-in_default
+returns-in_default g c =
+    let net = c.args.net.now in
+    none_came net.bundle.cast (network_of net) c.args.doer c.args.act.now c.args.agenda.now c.requires c.in_default.not-Put
+
+pub returns-in_default-find_role : goal.returns-in_default-find_role
+returns-in_default-find_role g c =
+    let net = c.args.net.now in
+    came_to_none net.bundle.cast (network_of net) c.args.doer c.args.act.now c.args.agenda.now c.requires c.in-Put.key c.in-Put.is
+    (sym c.find_role.ensures ∙ c.in_default-find_role.is)
+
+pub returns-then-to-doer : goal.returns-then-to-doer
+returns-then-to-doer g c =
+    let net = c.args.net.now in
+    let agenda = c.args.agenda.now in
+    let some = sym c.find_role.ensures ∙ c.in-Some.is in
+    let here = some_at agenda c.in-Some.to
+    (to_inside net.bundle.cast (network_of net) c.args.doer c.args.act.now agenda c.requires c.in-Put.key c.in-Put.is c.in-Some.to some) in
+    came_to_itself net.bundle.cast (network_of net) c.args.doer c.args.act.now agenda c.requires c.in-Put.key c.in-Put.is c.in-Some.to some here.0 here.1
+    c.if-to-doer.true
 
 pub returns : goal.returns
-returns c = λ N was.
-    stay_listed N c.args.act.now (ready_seen c.args.ready.now) was (ap (λ a. puts_to a c.args.ready.now.role) c.in-Put.is ∙ sym c.eq.ensures ∙ c.if-eq.false)
-
-pub returns-in_default : goal.returns-in_default
-returns-in_default c = λ N was.
-    stay_listed N c.args.act.now (ready_seen c.args.ready.now) was (none_put c.args.act.now c.args.ready.now.role c.in_default.not-Put)
+returns g c =
+    let net = c.args.net.now in
+    let N = network_of net in
+    let agenda = c.args.agenda.now in
+    let some = sym c.find_role.ensures ∙ c.in-Some.is in
+    let ready = c.index-agenda-to.result in
+    let is = c.index-agenda-to.is in
+    on_ok_weaker c.come.result
+    (λ so. came_to net.bundle.cast N c.args.doer c.args.act.now agenda c.requires c.in-Put.key c.in-Put.is c.in-Some.to some ready is c.if-to-doer.false c.come.new.ready
+    (so N
+    (subst (λ (x : ReadyRole). WasListed N (act.Put c.in-Put.key) (ready_seen x)) is
+    (came_listed net.bundle.cast N c.args.doer c.args.act.now agenda c.requires c.in-Put.key c.in-Put.is c.in-Some.to some ready is c.if-to-doer.false))
+    ∙ ap (λ (x : ReadyRole). ready_in N x.role) (sym is)))
+    c.come.ensures

@@ -2,7 +2,7 @@
 use Rattle.std.proofs.Common.{◌≡◌, ◌+◌, length, take}
 use Rattle.std.specs.Prelude.{flat_map, map}
 use Rattle.schedule.specs.Agendas.{moves_of, ready_seen}
-use Rattle.schedule.proofs.agenda.move_at.Given as goal
+use Rattle.schedule.proofs.agenda.find_number.Given as goal
 
-abbrev pub invariant-loop-ready : goal.invariant-loop-ready
-invariant-loop-ready l = l.place ≡ l.left + length (flat_map moves_of (map ready_seen (take l.ready-index l.agenda)))
+abbrev pub invariant-loop-doer : goal.invariant-loop-doer
+invariant-loop-doer l = l.number ≡ l.left + length (flat_map moves_of (map ready_seen (take l.doer l.agenda)))

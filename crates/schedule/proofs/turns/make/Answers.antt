@@ -1,0 +1,61 @@
+-- The move that is listed there is the act at its place.
+use Rattle.std.proofs.Common.{◌≡◌, get_or, Some, sym, ap, ◌∙◌, subst, arith}
+use Rattle.std.specs.Prelude.{map}
+use Rattle.std.proofs.lemmas.List.{get_or_default}
+use Rattle.std.proofs.lemmas.Result.{on_ok_weaker}
+use Rattle.network_steps.specs.declared.moves.Move.{Move}
+use Rattle.net_core.proofs.Choosing.{place_inside}
+use Rattle.schedule.proofs.ActedLemmas.{move_is, move_of_role, place_listed}
+use Rattle.schedule.specs.declared.roles.Listed.{Listed}
+use Rattle.schedule.specs.Agendas.{move_at, ready_seen}
+use Rattle.schedule.specs.Turns.{CanMake, IsMoveOf}
+use Rattle.schedule.proofs.turns.make.Goals as goal
+
+pub index-requires : goal.index-requires
+index-requires g c =
+    let ready = c.index-agenda-doer.result in
+    let m = c.requires.can.move in
+    let there = subst (λ (made : Listed). move_at (map ready_seen c.args.agenda.now) made ≡ Some m) c.in-Act.is c.requires.can.there in
+    omega (
+      arith,
+      place_listed ready c.in-Act.place m (move_of_role c.args.agenda.now c.in-Act.doer ready c.index-agenda-doer.is c.in-Act.place m there),
+      ready.ready.ok.0,
+    )
+
+pub index-act-requires : goal.index-act-requires
+index-act-requires g c =
+    let ready = c.index-agenda-doer.result in
+    let place = c.in-Act.place in
+    let m = c.requires.can.move in
+    let there = subst (λ (made : Listed). move_at (map ready_seen c.args.agenda.now) made ≡ Some m) c.in-Act.is c.requires.can.there in
+    let inside = place_listed ready place m (move_of_role c.args.agenda.now c.in-Act.doer ready c.index-agenda-doer.is place m there) in
+    let at : c.index.result.now ≡ get_or ready.ready.items place 0 =
+    c.index.ensures ∙ get_or_default ready.ready.items place c.index.result.now 0 inside in
+    omega (arith, at, place_inside ready.acts.items ready.ready.items place ready.inside inside, ready.acts.ok.0)
+
+pub make_step-requires-clause-can : goal.make_step-requires-clause-can
+make_step-requires-clause-can g c =
+    let ready = c.index-agenda-doer.result in
+    let place = c.in-Act.place in
+    let x = c.index-act.result.now in
+    let m = c.requires.can.move in
+    let there = subst (λ (made : Listed). move_at (map ready_seen c.args.agenda.now) made ≡ Some m) c.in-Act.is c.requires.can.there in
+    let got = move_of_role c.args.agenda.now c.in-Act.doer ready c.index-agenda-doer.is place m there in
+    let at : c.index.result.now ≡ get_or ready.ready.items place 0 =
+    c.index.ensures ∙ get_or_default ready.ready.items place c.index.result.now 0 (place_listed ready place m got) in
+    subst (CanMake c.args.net.now) (move_is ready place m x got (c.index-act.ensures ∙ ap (λ n. get_or ready.acts.items n x) at)) c.requires.can.can
+
+pub returns-in-Act-clause-made : goal.returns-in-Act-clause-made
+returns-in-Act-clause-made g c =
+    let ready = c.index-agenda-doer.result in
+    let place = c.in-Act.place in
+    let x = c.index-act.result.now in
+    on_ok_weaker c.make_step.result
+    (λ made m there.
+    let got = move_of_role c.args.agenda.now c.in-Act.doer ready c.index-agenda-doer.is place m
+    (subst (λ (next : Listed). move_at (map ready_seen c.args.agenda.now) next ≡ Some m) c.in-Act.is there) in
+    let at : c.index.result.now ≡ get_or ready.ready.items place 0 =
+    c.index.ensures ∙ get_or_default ready.ready.items place c.index.result.now 0 (place_listed ready place m got) in
+    subst (λ (k : Move). IsMoveOf c.args.net.now k c.make_step.new.net)
+    (sym (move_is ready place m x got (c.index-act.ensures ∙ ap (λ n. get_or ready.acts.items n x) at))) made)
+    c.make_step.ensures.made
