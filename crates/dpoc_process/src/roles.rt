@@ -1,16 +1,19 @@
 //! What a role that runs can be asked, whatever form its process is kept in.
 
-ghost use Rattle.std.specs.Prelude.{◌≡◌, ◌≤◌, ◌↔◌, false, length, IfOk, IsErrOf, OnErr, OnOk};
+ghost use Rattle.std.specs.Prelude.{◌≡◌, ◌≤◌, ◌↔◌, false, true, length, IfOk, IsErrOf, OnErr, OnOk};
 ghost use Rattle.dioc_terms.specs.declared.entries.Act.{Act as OneAct};
+ghost use Rattle.dioc_terms.specs.declared.names.Role.{Role as OneRole};
+ghost use Rattle.dioc_terms.specs.Equality.{member};
 ghost use Rattle.dioc_terms.specs.KeptStores.{store_of};
-ghost use Rattle.dioc_terms.specs.Processes.{process};
+ghost use Rattle.dioc_terms.specs.Terms.{is_in, term};
 ghost use Rattle.dpoc_process.specs.Handed.{handed, Brings, IsEnabled};
 ghost use Rattle.dpoc_process.specs.RoleSteps.{IsPrepared, IsStep};
 ghost use Rattle.dpoc_process.specs.LocalStates.{LacksAt, LocalState, offered};
 ghost use Rattle.process_steps.specs.Steps.{Given, ended, is_offered};
+ghost use Rattle.projection.specs.Projection.{projected};
 
 use crate::runs::{Got, PrepareFault, Prepared};
-use dioc_terms::{Act, Memory, Proc, Role, Store};
+use dioc_terms::{Act, Choreo, Memory, Role, Store};
 use std::alloc::Global;
 
 /// A role with its process and its store, which runs act by act: an act is prepared, with all the
@@ -74,10 +77,22 @@ pub trait Runs: Drop {
         ensures { store_of result.now ≡ (local self.now).store };
 }
 
-/// A role that runs, made of its process and its store.
+/// A role that runs, made of a choreography and its store.
 pub trait Begins: Runs {
-    /// The role before its first act.
-    fn begin(alloc: Global, role: Role, proc: Proc, store: Store) -> Result<Self, Memory>
+    /// The role before its first act: its process is its projection. The roles of the choreography
+    /// are in the cast.
+    fn begin(
+        alloc: Global,
+        role: Role,
+        choreo: &Choreo,
+        cast: &[Role],
+        store: Store,
+    ) -> Result<Self, Memory>
+        requires { (q : OneRole) → is_in q (term choreo.now) ≡ true → member q cast.now ≡ true }
         ensures { IfOk result (λ state. Self.local state
-            ≡ record { role = role; process = process proc; store = store_of store }) };
+            ≡ record {
+              role = role;
+              process = projected cast.now (term choreo.now) role;
+              store = store_of store;
+            }) };
 }

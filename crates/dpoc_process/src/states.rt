@@ -8,7 +8,8 @@ use crate::offered::{is_ended, offers_of};
 use crate::ready::{Ready, advanced, clear, keep_ready, make_ready};
 use crate::roles::{Begins, Runs};
 use crate::runs::{Got, PrepareFault, Prepared};
-use dioc_terms::{Act, Memory, Proc, Role, Store};
+use dioc_terms::{Act, Choreo, Memory, Proc, Role, Store, give_up};
+use projection::project;
 use std::alloc::Global;
 use std::mem;
 
@@ -98,7 +99,16 @@ impl Runs for RoleState {
 }
 
 impl Begins for RoleState {
-    fn begin(_alloc: Global, role: Role, proc: Proc, store: Store) -> Result<RoleState, Memory> {
-        Ok(RoleState::new(role, proc, store))
+    fn begin(
+        alloc: Global,
+        role: Role,
+        choreo: &Choreo,
+        cast: &[Role],
+        store: Store,
+    ) -> Result<RoleState, Memory> {
+        match project(alloc, choreo, &role, cast) {
+            Ok(proc) => Ok(RoleState::new(role, proc, store)),
+            Err(fault) => give_up((role, store), fault),
+        }
     }
 }

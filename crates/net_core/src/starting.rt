@@ -18,7 +18,6 @@ use dioc_terms::{
     Bundle, Change, Entry, Items, Memory, Role, Rule, Store, Timed, Value, Values, give_up,
 };
 use dpoc_process::Begins;
-use projection::project;
 use std::alloc::Global;
 use std::collections::VecDeque;
 
@@ -68,8 +67,7 @@ pub fn opening_state<R: Begins>(alloc: Global, bundle: &Bundle, role: &Role) -> 
     let mut inputs = Vec::new(alloc);
     take_inputs(alloc, bundle.inputs.as_slice(), role, &mut inputs)?;
     let store = Store::new(alloc, Items::new(inputs));
-    let proc = project(alloc, &bundle.choreo, role, bundle.cast.as_slice())?;
-    R::begin(alloc, name, proc, store)
+    R::begin(alloc, name, &bundle.choreo, bundle.cast.as_slice(), store)
 }
 
 /// Adds copies of all that is given for the role, in its order.

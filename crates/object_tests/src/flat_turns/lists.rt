@@ -101,9 +101,7 @@ fn lists_of_bundles(
     number: u32,
     program: &[Bundle],
     tally: &mut Tally,
-) -> Result<(), Memory>
-    requires { All (λ b. IsFormed (plain b)) program.now }
-{
+) -> Result<(), Memory> {
     let seed = u64::from(number) * 1000 + 500;
     let updates = bundles(alloc, seed, 1, 1 + number % 2)?;
     let done = lists_of_cast(alloc, seed, program, updates.as_slice(), tally);
@@ -119,8 +117,7 @@ fn lists_of_cast(
     updates: &[Bundle],
     tally: &mut Tally,
 ) -> Result<(), Memory>
-    requires program { All (λ b. IsFormed (plain b)) program.now }
-    requires updates { All (λ b. IsFormed (plain b)) updates.now }
+    requires { All (λ b. IsFormed (plain b)) updates.now }
 {
     let Some(bundle) = program.first() else {
         return Ok(());

@@ -6,7 +6,7 @@ ghost use Rattle.dioc_terms.specs.Plain.{plain};
 
 use crate::names::role;
 use bundle_text::read_bundle;
-use dioc_terms::{Bundle, Memory, Proc, Role, give_up, new_boxes};
+use dioc_terms::{Bundle, Choreo, Memory, Proc, Role, give_up, new_boxes};
 use projection::project;
 use std::alloc::Global;
 use std::slice::from_ref;
@@ -25,27 +25,26 @@ const UPDATE: &[u8] = b"aioc { (w@b = 2 | v@b = 3); r: a(4) -> b(w) }";
 pub struct Task {
     /// The role.
     pub role: Role,
-    /// What it does.
-    pub proc: Proc,
-    /// What it does in place of the body of a scope that is replaced.
+    /// What all roles do.
+    pub choreo: Choreo,
+    /// What the role does in place of the body of a scope that is replaced.
     pub update: Proc,
 }
 
 impl Task {
-    /// The role's parts of these bundles, side by side, and its parts of the others, side by side,
-    /// in place of each scope.
+    /// These bundles, side by side, and the role's parts of the others, side by side, in place of
+    /// each scope.
     pub fn new(
         alloc: Global,
         bundles: &[Bundle],
         updates: &[Bundle],
         role: &Role,
     ) -> Result<Task, Memory>
-        requires bundles { All (λ b. IsFormed (plain b)) bundles.now }
-        requires updates { All (λ b. IsFormed (plain b)) updates.now }
+        requires { All (λ b. IsFormed (plain b)) updates.now }
     {
         Ok(Task {
             role: role.copy(alloc)?,
-            proc: parts_of(alloc, bundles, role)?,
+            choreo: side_by_side(alloc, bundles)?,
             update: parts_of(alloc, updates, role)?,
         })
     }
@@ -66,9 +65,7 @@ impl Task {
 }
 
 /// The same in this bundle.
-fn with_update(alloc: Global, bundle: &Bundle, update: &[u8], letter: u8) -> Result<Task, Fail>
-    requires { IsFormed (plain bundle.now) }
-{
+fn with_update(alloc: Global, bundle: &Bundle, update: &[u8], letter: u8) -> Result<Task, Fail> {
     let update = read_bundle(alloc, update)?;
     let task = with_role(alloc, bundle, &update, letter);
     drop(update);
@@ -77,13 +74,33 @@ fn with_update(alloc: Global, bundle: &Bundle, update: &[u8], letter: u8) -> Res
 
 /// The same with this update.
 fn with_role(alloc: Global, bundle: &Bundle, update: &Bundle, letter: u8) -> Result<Task, Fail>
-    requires bundle { IsFormed (plain bundle.now) }
-    requires update { IsFormed (plain update.now) }
+    requires { IsFormed (plain update.now) }
 {
     let role = role(alloc, letter)?;
     let task = Task::new(alloc, from_ref(bundle), from_ref(update), &role);
     drop(role);
     Ok(task?)
+}
+
+/// These bundles, side by side.
+fn side_by_side(alloc: Global, bundles: &[Bundle]) -> Result<Choreo, Memory> {
+    match bundles {
+        [] => Ok(Choreo::Skip),
+        [bundle] => bundle.choreo.copy(alloc),
+        [bundle, rest @ ..] => {
+            let first = bundle.choreo.copy(alloc)?;
+            match side_by_side(alloc, rest) {
+                Ok(second) => both(alloc, first, second),
+                Err(fault) => give_up(first, fault),
+            }
+        }
+    }
+}
+
+/// Two choreographies side by side.
+fn both(alloc: Global, first: Choreo, second: Choreo) -> Result<Choreo, Memory> {
+    let (first, second) = new_boxes(alloc, first, second)?;
+    Ok(Choreo::Par(first, second))
 }
 
 /// The parts of a role of these bundles, side by side.

@@ -10,6 +10,7 @@ use crate::flat_turns::draws::Draw;
 use crate::flat_turns::tasks::Task;
 use dioc_terms::{
     Act, Items, Memory, Messages, Parts, Payload, Role, ScopeHead, Store, Tag, Value, give_up,
+    roles,
 };
 use dpoc_process::makers::letters_to;
 use dpoc_process::{Begins, Got, PrepareFault, Prepared, Runs};
@@ -21,8 +22,11 @@ pub fn begun<R: Begins>(alloc: Global, task: &Task) -> Result<R, Memory> {
     let mut inputs = Vec::new(alloc);
     inputs.push(Value::Int(5))?;
     let store = Store::new(alloc, Items::new(inputs));
-    let proc = task.proc.copy(alloc)?;
-    R::begin(alloc, role, proc, store)
+    let cast = roles(alloc, &task.choreo)?;
+    dioc_terms::casts_are_roles();
+    let state = R::begin(alloc, role, &task.choreo, cast.as_slice(), store);
+    drop(cast);
+    state
 }
 
 /// What comes to an act of a role from outside, as it was drawn: a value, a flag, or what a scope
