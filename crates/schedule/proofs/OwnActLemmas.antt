@@ -1,5 +1,5 @@
 -- What a role lists that acted, once its act is taken out of its list.
-use Rattle.std.proofs.Common.{◌≡◌, ◌+◌, ◌-◌, ◌<◌, ◌≤◌, ℕ, List, [], ◌∷◌, ◌++◌, Bool, true, false, not, length, take, drop, get_or, slice_get, refl, sym, ap, ap₂, ◌∙◌, subst, arith}
+use Rattle.std.proofs.Common.{◌≡◌, ◌+◌, ◌-◌, ◌<◌, ℕ, List, [], ◌∷◌, ◌++◌, Bool, true, false, not, length, take, drop, get_or, slice_get, refl, sym, ap, ap₂, ◌∙◌, subst, arith}
 use Rattle.std.specs.Prelude.{◌||◌}
 use Rattle.std.specs.List.{list_any, remove}
 use Rattle.std.proofs.Math.Seq.{drop-append_seam, take-append_seam}
@@ -130,10 +130,6 @@ module _ (N : Network) (q : Role) (place : ℕ) (acts : List Act) (places : List
 
     back_is : drop at left ≡ way.back
     back_is = ap₂ (λ n (l : List Act). drop n l) (sym at_front) rest ∙ drop-append_seam way.front way.back
-
-    -- the others are those before it and those behind it
-    pub shorter : at ≤ length left
-    shorter = omega (arith, sym at_front, ap length rest, length-append way.front way.back)
 
     -- they lack what comes in its place
     pub lacks : LacksAt at left (offers_of N q)

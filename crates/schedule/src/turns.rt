@@ -32,7 +32,8 @@ pub(crate) fn take_next<R: Runs>(
     requires limit { net.old.limit ≤ 4294967295 }
     requires agenda { map ready_seen agenda.now ≡ agenda_of net.old }
     ensures advanced { OnOk result (Advances net.old seed net.new) }
-    ensures behind { IfOk result (λ made. IsBehind net.new (Some made) (map ready_seen agenda.now)) }
+    ensures behind { IfOk result
+        (λ made. IsBehind net.new (Some made) (map ready_seen agenda.now)) }
     ensures err { OnErr result (net.new ≡ net.old) }
 {
     marked_laws::term_laws();
