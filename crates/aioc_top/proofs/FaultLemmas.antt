@@ -1,5 +1,5 @@
 -- What comes of a command and of what it has read, from what its parts answered.
-use Rattle.std.proofs.Common.{◌≡◌, ◌≢◌, ◌<◌, ◌≤◌, ℕ, suc, List, length, Option, Some, None, IfSome, refl, sym, ap, ◌∙◌, subst, arith}
+use Rattle.std.proofs.Common.{◌≡◌, ◌≢◌, ◌<◌, ◌≤◌, ℕ, suc, List, length, false, Option, Some, None, IfSome, refl, sym, ap, ◌∙◌, subst, arith}
 use Rattle.std.specs.Prelude.{map, option_map, replicate}
 use Rattle.std.proofs.lemmas.List.{length-replicate}
 use Rattle.std.proofs.lemmas.List.Elements.{All-map}
@@ -22,6 +22,7 @@ use Rattle.aioc_top.specs.Reasons.{Reason, MayNotRun, CannotBeMended}
 use Rattle.aioc_top.specs.Replies.{Reply, gen_reply, session_options, unread_reply}
 use Rattle.aioc_top.specs.Spelled.{Admits, Fits, HasRead, IsMendable, IsSpelled, RepliesTo, refusal_in}
 use Rattle.aioc_top.specs.Verdicts.{Verdict, TooLong, Unspelled, Refused, Replied, Comes, ComesBy, ComesOfInput, ComesOfSessions, ComesOfText}
+use Rattle.aioc_top.specs.Words.{needs_threads}
 use Rattle.aioc_top.specs.declared.faults.Fault.{Fault}
 use Rattle.aioc_top.specs.declared.faults.Fault.TheVariants as fault
 use Rattle.aioc_top.specs.declared.reading.Spelled.{Spelled}
@@ -196,6 +197,11 @@ pub reads_one : (asked : Command) → ((number size : ℕ) → asked ≡ command
 reads_one (command.Gen number size) not_gen not_sessions = absurd (not_gen number size refl)
 reads_one (command.Sessions options) not_gen not_sessions = absurd (not_sessions options refl)
 reads_one _ not_gen not_sessions = (refl, refl)
+
+-- a command that needs no threads reads no sessions
+pub reads_no_sessions : (asked : Command) → needs_threads asked ≡ false → session_options asked ≡ None
+reads_no_sessions (command.Sessions options) alone = absurd cc
+reads_no_sessions _ alone = refl
 
 -- bytes that spell no sessions
 pub no_sessions : (options : Options) (source source_after : SourceState) (bytes : List ℕ) → IsRead source bytes → IsAtEnd source_after.left → length bytes ≤ most_bytes

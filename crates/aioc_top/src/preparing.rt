@@ -1,18 +1,19 @@
 //! From words and a source to a command that is ready to be executed.
 
-ghost use Rattle.std.specs.Prelude.{IfErr, IfOk, OnOk};
+ghost use Rattle.std.specs.Prelude.{◌≡◌, false, IfErr, IfOk, OnOk};
 ghost use Rattle.aioc_top.specs.Faults.{IsRefusedSo, Stops};
 ghost use Rattle.aioc_top.specs.Spelled.{Admits, Fits, IsReady, refusal_in};
-ghost use Rattle.aioc_top.specs.Words.{asked};
+ghost use Rattle.aioc_top.specs.Words.{asked, is_threaded};
 ghost use Rattle.command_words.specs.Commands.{word_texts};
 
 use crate::commands::monitor::accept_role;
 use crate::faults::Fault;
-use crate::reading::{Spelled, read_spelled};
+use crate::reading::{Spelled, read_spelled, read_spelled_alone};
 use aioc_io::Source;
 use command_words::{Command, read_words};
 use rule_checks::accept;
 use std::alloc::Global;
+use std::thread::Threads;
 
 /// A command with what it has read.
 #[derive(Drop)]
@@ -24,8 +25,13 @@ pub struct Task {
 }
 
 /// The command that the words ask for, with what it reads of the source, where it takes that; or
-/// why it has no reply.
-pub fn prepare<S: Source>(alloc: Global, words: &[Vec<u8>], source: &mut S) -> Result<Task, Fault>
+/// why it has no reply. Sessions are read by threads of the runtime.
+pub fn prepare<R: Threads + Sync, S: Source>(
+    rt: &R,
+    alloc: Global,
+    words: &[Vec<u8>],
+    source: &mut S,
+) -> Result<Task, Fault>
     ensures ready { IfOk result (IsReady (asked (word_texts words.now))
         (S.state source.old) (S.state source.new)) }
     ensures fault { IfErr result (Stops (asked (word_texts words.now))
@@ -34,7 +40,27 @@ pub fn prepare<S: Source>(alloc: Global, words: &[Vec<u8>], source: &mut S) -> R
     let Some(command) = read_words(alloc, words)? else {
         return Err(Fault::Usage);
     };
-    let spelled = read_spelled(alloc, &command, source)?;
+    let spelled = read_spelled(rt, alloc, &command, source)?;
+    accept_spelled(alloc, &command, &spelled)?;
+    Ok(Task { command, spelled })
+}
+
+/// The same of words that ask for no threads, and without a runtime.
+pub fn prepare_alone<S: Source>(
+    alloc: Global,
+    words: &[Vec<u8>],
+    source: &mut S,
+) -> Result<Task, Fault>
+    requires alone { is_threaded (word_texts words.now) ≡ false }
+    ensures ready { IfOk result (IsReady (asked (word_texts words.now))
+        (S.state source.old) (S.state source.new)) }
+    ensures fault { IfErr result (Stops (asked (word_texts words.now))
+        (S.state source.old) (S.state source.new)) }
+{
+    let Some(command) = read_words(alloc, words)? else {
+        return Err(Fault::Usage);
+    };
+    let spelled = read_spelled_alone(alloc, &command, source)?;
     accept_spelled(alloc, &command, &spelled)?;
     Ok(Task { command, spelled })
 }

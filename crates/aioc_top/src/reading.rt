@@ -1,19 +1,21 @@
 //! From a source to what its bytes spell.
 
-ghost use Rattle.std.specs.Prelude.{◌≤◌, length, Some, IfErr, IfOk};
+ghost use Rattle.std.specs.Prelude.{◌≡◌, ◌≤◌, length, Some, None, IfErr, IfOk};
 ghost use Rattle.std.specs.Io.KnownBytes.{IsAtEnd};
 ghost use Rattle.limits.specs.Limits.{most_bytes};
 ghost use Rattle.aioc_top.specs.Calls.{IsRead, ReadsWithinLimit};
 ghost use Rattle.aioc_top.specs.Faults.{Stops, StopsReading};
+ghost use Rattle.aioc_top.specs.Replies.{session_options};
 ghost use Rattle.aioc_top.specs.Spelled.{HasRead};
 
 use crate::faults::Fault;
 use aioc_io::{ReadAllFault, Source, read_all};
-use bundle_text::{read_bundle, read_sessions};
+use bundle_text::{read_bundle, read_sessions_by};
 use command_words::Command;
 use dioc_terms::Bundle;
 use limits::MOST_BYTES;
 use std::alloc::Global;
+use std::thread::Threads;
 
 /// What the bytes that a command read spell.
 #[derive(Drop)]
@@ -27,7 +29,9 @@ pub enum Spelled {
 }
 
 /// What all the bytes of the source spell for the command, which may be nothing that it reads.
-pub fn read_spelled<S: Source>(
+/// Sessions are read by as many threads as the command has workers.
+pub fn read_spelled<R: Threads + Sync, S: Source>(
+    rt: &R,
     alloc: Global,
     command: &Command,
     source: &mut S,
@@ -37,11 +41,29 @@ pub fn read_spelled<S: Source>(
         (Stops (Some command.now) (S.state source.old) (S.state source.new)) }
 {
     match command {
-        Command::Gen { .. } => Ok(Spelled::Nothing),
-        Command::Sessions(_) => {
+        Command::Sessions(options) => {
             let bytes = read_text(alloc, source)?;
-            Ok(Spelled::Sessions(read_sessions(alloc, &bytes)?))
+            let workers = options.workers as usize;
+            Ok(Spelled::Sessions(read_sessions_by(rt, alloc, &bytes, workers)?))
         }
+        _ => read_spelled_alone(alloc, command, source),
+    }
+}
+
+/// The same of a command that reads no sessions, and without a runtime.
+pub fn read_spelled_alone<S: Source>(
+    alloc: Global,
+    command: &Command,
+    source: &mut S,
+) -> Result<Spelled, Fault>
+    requires alone { session_options command.now ≡ None }
+    ensures read { IfOk result (HasRead command.now (S.state source.old) (S.state source.new)) }
+    ensures fault { IfErr result
+        (Stops (Some command.now) (S.state source.old) (S.state source.new)) }
+{
+    match command {
+        Command::Gen { .. } => Ok(Spelled::Nothing),
+        Command::Sessions(_) => unreachable!(),
         _ => {
             let bytes = read_text(alloc, source)?;
             Ok(Spelled::Bundle(read_bundle(alloc, &bytes)?))

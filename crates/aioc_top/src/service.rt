@@ -13,7 +13,7 @@ ghost use Rattle.command_words.specs.Commands.{word_texts};
 
 use crate::executing::{execute, execute_alone};
 use crate::faults::{Fault, make_mend_refusal_line, make_refusal_line, make_syntax_line};
-use crate::preparing::prepare;
+use crate::preparing::{prepare, prepare_alone};
 use crate::replies::Written;
 use crate::status::Status;
 use aioc_io::{Failed, Sink, Source, write_all};
@@ -64,7 +64,7 @@ pub fn serve<R: Threads + Wait + Sync, S: Source, O: Sink, E: Sink, G: Gate + Sy
     ensures every_run { EveryRun }
 {
     know_laws();
-    match prepare(alloc, words, source) {
+    match prepare(rt, alloc, words, source) {
         Ok(mut task) => {
             let answered = execute(rt, alloc, &task.command, &mut task.spelled, gate);
             tell(alloc, answered, out, err)
@@ -103,7 +103,7 @@ pub fn serve_alone<S: Source, O: Sink, E: Sink>(
     ensures every_run { EveryRun }
 {
     know_laws();
-    match prepare(alloc, words, source) {
+    match prepare_alone(alloc, words, source) {
         Ok(mut task) => {
             let answered = execute_alone(alloc, &task.command, &mut task.spelled);
             tell(alloc, answered, out, err)

@@ -19,7 +19,7 @@ execute_alone-answered-requires g c = record {
 pub returns-in-Ok : goal.returns-in-Ok
 returns-in-Ok g c =
     let answered = c.execute_alone-answered in
-    let happens = finished (asked (word_texts c.args.words.now)) (g.S.Source.state c.args.source.now) (g.S.Source.state c.prepare.new.source)
+    let happens = finished (asked (word_texts c.args.words.now)) (g.S.Source.state c.args.source.now) (g.S.Source.state c.prepare_alone.new.source)
     (g.O.Sink.state c.args.out.now) (g.O.Sink.state c.tell.new.out) (g.E.Sink.state c.args.err.now) (g.E.Sink.state c.tell.new.err)
     c.in-Ok.task c.in-Ok.ensures.ready c.tell.result answered.result answered.ensures.reply answered.ensures.mendable answered.ensures.fault
     c.tell.ensures.printed c.tell.ensures.reported c.tell.ensures.quiet in
@@ -31,7 +31,7 @@ returns-in-Ok g c =
 
 pub returns-in-Err : goal.returns-in-Err
 returns-in-Err g c =
-    let happens = stopped (asked (word_texts c.args.words.now)) (g.S.Source.state c.args.source.now) (g.S.Source.state c.prepare.new.source)
+    let happens = stopped (asked (word_texts c.args.words.now)) (g.S.Source.state c.args.source.now) (g.S.Source.state c.prepare_alone.new.source)
     (g.O.Sink.state c.args.out.now) (g.O.Sink.state c.args.out.now) (g.E.Sink.state c.args.err.now) (g.E.Sink.state c.report.new.err)
     c.in-Err.fault c.report.result refl c.in-Err.ensures.fault c.report.ensures in
     record {
