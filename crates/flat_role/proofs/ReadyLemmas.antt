@@ -3,30 +3,28 @@ use Rattle.std.proofs.Common.{◌≡◌, ◌<◌, ℕ, List, Result, Ok, Err, Bo
 use Rattle.std.specs.Global.{Box}
 use Rattle.dioc_terms.specs.declared.entries.Act.{Act}
 use Rattle.dioc_terms.specs.declared.names.Role.{Role}
-use Rattle.dioc_terms.specs.Processes.{Process}
-use Rattle.dioc_terms.specs.Stores.{Store}
 use Rattle.dpoc_process.specs.Acting.{acting}
-use Rattle.dpoc_process.specs.declared.runs.Prepared.{Prepared}
 use Rattle.flat_code.specs.declared.plan.Plan.{Plan}
 use Rattle.flat_role.specs.declared.marks.Mark.{Mark as KeptMark}
 use Rattle.flat_role.specs.declared.marks.Mark.TheVariants as kept
 use Rattle.flat_role.specs.declared.progress.Progress.{Progress}
 use Rattle.flat_role.specs.declared.steps.Chosen.{Chosen}
-use Rattle.flat_role.specs.declared.steps.Own.{Own}
 use Rattle.flat_role.specs.PlanMarks.{mark_in, plan_len, plan_marks, static_at}
 use Rattle.flat_role.specs.Progress.{AreOf, IsFound, IsProgress, marks_by, runs_by}
-use Rattle.flat_code.specs.Codes.{process_of}
 use Rattle.flat_role.specs.Running.{Running}
-use Rattle.std.specs.Prelude.{IfOk, OnOk, is_ok}
-use Rattle.std.proofs.lemmas.List.{get_or-set_same}
+use Rattle.std.specs.Option.{is_some}
+use Rattle.std.specs.Prelude.{OnOk}
+use Rattle.std.proofs.lemmas.List.{get_or-set_same, get_or_read}
+use Rattle.flat_role.proofs.ChosenLemmas.{IsPlaced, chosen_placed}
+use Rattle.flat_role.specs.declared.leaves.Next.{Next}
+use Rattle.flat_role.specs.KeptMarks.{meant}
+use Rattle.flat_role.specs.Leaves.{IsNext, is_first}
+use Rattle.flat_role.specs.MovedMarks.{runs_update}
+use Rattle.role_statuses.specs.Marks as mark
 use Rattle.std.proofs.lemmas.Result.{on_ok_weaker}
-use Rattle.flat_role.specs.Replacing.{IsRoomWhen}
-use Rattle.role_statuses.specs.Flat.{Marks}
-use Rattle.role_statuses.specs.Kept.{running}
-use Rattle.std.proofs.lemmas.Grind.{get_or_default_zero}
-use Rattle.flat_role.specs.ReadySteps.{IsChosenFor, IsKeptBy, IsKeptOwn, IsOwnOf, IsShownBy, front_at}
+use Rattle.flat_role.specs.ReadySteps.{IsChosenFor, IsNextOf, front_at}
 use Rattle.flat_role.specs.Updates.{IsChosenAt, IsInner, fresh_by, is_fresh}
-use Rattle.flat_role.proofs.FoundLemmas.{at-inside, found-again, found-front, progress-again, read-found}
+use Rattle.flat_role.proofs.FoundLemmas.{at-inside, found-acts, found-again, found-there, found-updates, meant_own, progress-again, read-found, update-acts}
 
 module _ (me : Role) (plan : Plan) (old new : Progress) (k : IsProgress me plan old)
     (a : Act) (at place : ℕ) (found : IsFound me plan old a at place) where
@@ -47,62 +45,63 @@ module _ (me : Role) (plan : Plan) (old new : Progress) (k : IsProgress me plan 
     inner = inner;
   }
 
-  pub ready_on : (s : Store) (c : Chosen) (held : Option Own)
-      → plan_marks me plan new.marks.items ≡ plan_marks me plan old.marks.items
-      → new.active ≡ old.active → new.chosen ≡ Some c → c.act.value ≡ a → c.at ≡ at
-      → IsInner a (mark_in new.marks.items place)
-      → IsKeptOwn me s a (front_at me plan old.marks.items place)
-      (is_fresh (mark_in new.marks.items place)) held
-      → IsKeptBy me plan new s a held
-  ready_on s c held same active_is chosen_is act_is at_is inner own =
-      let runs : acting me a (runs_by me plan new)
-      ≡ acting me a (front_at me plan old.marks.items place) =
-      ap (λ ms. acting me a (runs_of ms)) same ∙ found-front me plan old k a at place found in
-      let there : get_or new.active.items c.at 0 ≡ place =
-      ap (λ v. get_or v.items c.at 0) active_is ∙ ap (λ i. get_or old.active.items i 0) at_is
-      ∙ here in
-      let fresh : fresh_by new new.chosen ≡ is_fresh (mark_in new.marks.items place) =
-      ap (fresh_by new) chosen_is ∙ ap (λ p. is_fresh (mark_in new.marks.items p)) there in
-      record {
-        own = own.own;
-        is = own.is;
-        made = record {
-          chosen = subst (λ o. IsChosenFor me plan new a o) (sym chosen_is) (
-            act_is,
-            subst (λ i. IsChosenAt me plan new a i) (sym at_is)
-                (chosen_on same active_is inner),
-          );
-          made = record {
-            part = own.made.part;
-            acts = runs ∙ own.made.acts;
-            made = own.made.made;
-            room = subst (λ b. IsRoomWhen b me own.made.part own.own.room) (sym fresh)
-                own.made.room;
-          };
-        };
-      }
-    where
-      runs_of : Marks → Process
-      runs_of ms = running me ms (process_of plan.code)
+-- What is next at the place that does the act.
+module _ (me : Role) (plan : Plan) (progress : Progress) (k : IsProgress me plan progress)
+    (a : Act) (chosen : IsChosenFor me plan progress a progress.chosen) (at : ℕ)
+    (is_at : (c : Chosen) → progress.chosen ≡ Some c → at ≡ c.at) (place : ℕ)
+    (read : place ≡ get_or progress.active.items at place) where
+  placed : IsPlaced me plan progress a progress.chosen at
+  placed = chosen_placed me plan progress a progress.chosen at is_at chosen
 
-      here : get_or old.active.items at 0 ≡ place
-      here = read-found me plan old k a at place found (get_or old.active.items at 0)
-          (sym (get_or_default_zero old.active.items at (get_or old.active.items at 0)
-          (at-inside me plan old k a at place found)))
+  pub chosen_found : IsFound me plan progress a at place
+  chosen_found = found-there me plan progress k a at placed.there.place placed.there.found place read
 
--- Of results.
+  place_is : place ≡ placed.there.place
+  place_is = read-found me plan progress k a at placed.there.place placed.there.found place read
 
-pub ok_has : {T E P : Type 0} (r : Result T E) → is_ok r ≡ true → OnOk r P → P
-ok_has (Ok x) ok p = p
-ok_has (Err e) ok p = cc
+  pub chosen_inner : IsInner a (mark_in progress.marks.items place)
+  chosen_inner = subst (λ (p : ℕ). IsInner a (mark_in progress.marks.items p)) (sym place_is)
+      placed.there.inner
 
-pub not_ok : {T E : Type 0} (P : Type 0) (r : Result T E) → is_ok r ≡ false → OnOk r P
-not_ok P (Ok x) failed = cc
-not_ok P (Err e) failed = tt
+  fresh : fresh_by progress progress.chosen ≡ is_fresh (mark_in progress.marks.items place)
+  fresh = placed.fresh ∙ ap (λ p. is_fresh (mark_in progress.marks.items p)) (sym
+      (get_or_read progress.active.items at place
+      (at-inside me plan progress k a at place chosen_found) read 0))
 
-pub none_shown : {T E : Type 0} (P : T → Type 0) (r : Result T E) → is_ok r ≡ false → IfOk r P
-none_shown P (Ok x) failed = cc
-none_shown P (Err e) failed = tt
+  -- of the code
+  pub next_own : (n : Next) → runs_update (mark_in progress.marks.items place) ≡ false
+      → IsNext me n (front_at me plan progress.marks.items place)
+      → is_first n ≡ is_fresh (mark_in progress.marks.items place)
+      → IsNextOf me a (runs_by me plan progress) (fresh_by progress progress.chosen) n
+  next_own n own stands first = record {
+    part = front_at me plan progress.marks.items place;
+    acts = found-acts me plan progress k a at place chosen_found
+        (meant_own me (static_at plan place) (mark_in progress.marks.items place) own);
+    stands = stands;
+    first = first ∙ sym fresh;
+  }
+
+  -- of an update
+  module _ {update : Box Running}
+      (was : mark_in progress.marks.items place ≡ kept.Became update) where
+    runs : marks_by me plan progress place ≡ mark.Became update.value.process
+    runs = ap (meant me (static_at plan place)) was
+
+    pub update_offers : is_some (acting me a update.value.process) ≡ true
+    update_offers = update-acts me plan progress k a at place chosen_found update.value.process runs
+
+    pub update_chosen : update.value.chosen ≡ Some a
+    update_chosen = subst (IsInner a) was chosen_inner
+
+    pub next_inside : (n : Next) → IsNextOf me a update.value.process update.value.fresh n
+        → IsNextOf me a (runs_by me plan progress) (fresh_by progress progress.chosen) n
+    next_inside n is = record {
+      part = is.part;
+      acts = found-updates me plan progress k a at place chosen_found update.value.process runs
+          ∙ is.acts;
+      stands = is.stands;
+      first = is.first ∙ sym (fresh ∙ ap is_fresh was);
+    }
 
 -- The mark of an update that is written stands at its place.
 
@@ -112,15 +111,3 @@ pub inner_set : {T E : Type 0} (marks : List KeptMark) (place : ℕ) (v : Box Ru
     → OnOk shown (IsInner a (mark_in (set marks place (kept.Became v)) place))
 inner_set marks place v inside a shown = on_ok_weaker shown (λ chosen. subst (IsInner a)
     (sym (get_or-set_same marks place (kept.Became v) kept.Untouched inside)) chosen)
-
-pub own_set : {T E : Type 0} (marks : List KeptMark) (place : ℕ) (v : Box Running)
-    → place < length marks → (me : Role) (s : Store) (a : Act) (P Q : Process)
-    (held : Option Own) (shown : Result T E) → P ≡ Q
-    → OnOk shown (IsKeptOwn me s a P v.value.fresh held)
-    → OnOk shown (IsKeptOwn me s a Q
-    (is_fresh (mark_in (set marks place (kept.Became v)) place)) held)
-own_set marks place v inside me s a P Q held shown same = on_ok_weaker shown
-    (λ own. subst (λ (R : Process). IsKeptOwn me s a R
-    (is_fresh (mark_in (set marks place (kept.Became v)) place)) held) same
-    (subst (λ b. IsKeptOwn me s a P b held)
-    (sym (ap is_fresh (get_or-set_same marks place (kept.Became v) kept.Untouched inside))) own))

@@ -11,12 +11,8 @@ use Rattle.flat_role.specs.declared.replacing.Follow.{Follow}
 use Rattle.flat_role.specs.declared.replacing.Lead.{Lead}
 use Rattle.flat_role.specs.declared.replacing.Room.{Room}
 use Rattle.flat_role.specs.declared.replacing.What.TheVariants as what
-use Rattle.flat_role.specs.declared.marks.Mark.{Mark as KeptMark}
-use Rattle.flat_role.specs.declared.marks.Mark.TheVariants as kept
 use Rattle.flat_role.specs.declared.replacing.What.{What}
-use Rattle.flat_role.specs.MovedMarks.{runs_update}
-use Rattle.flat_role.specs.Updates.{is_fresh}
-use Rattle.flat_role.specs.Replacing.{IsRoom, IsRoomFor, IsRoomWhen, comes, coming, replaces, replacing}
+use Rattle.flat_role.specs.Replacing.{IsRoom, IsRoomFor, comes, coming, replaces, replacing}
 use Rattle.process_steps.specs.Steps.{after, telling}
 
 pub leads_room : (me : Role) (head : ScopeHead) (others : List Role) (P : Process) (lead : Lead)
@@ -81,13 +77,6 @@ tells_room me k l ms room {left} role is rest = record {
   grows = λ h came. ap (λ w. coming w h) is ∙ ap telling rest;
   when = λ h. ap (λ w. comes w h) is;
 }
-
--- there is none for a later act of the place
-pub later_room : (me : Role) (m : KeptMark) (R : Process) → (m ≡ kept.Untouched → ⊥)
-    → runs_update m ≡ false → IsRoomWhen (is_fresh m) me R None
-later_room me kept.Untouched R later own = absurd (later refl)
-later_room me (kept.Became update) R later own = cc
-later_room me m R later own = refl
 
 -- room that was made for this is room for it
 pub made_for : (me : Role) (R : Process) (w : What) (o : Option Room)

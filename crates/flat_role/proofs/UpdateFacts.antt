@@ -18,15 +18,11 @@ use Rattle.dpoc_process.specs.RoleLaws.{local}
 use Rattle.dpoc_process.specs.RoleSteps.{IsStep}
 use Rattle.flat_role.specs.declared.replacing.Room.{Room}
 use Rattle.flat_role.specs.declared.steps.Own.{Own}
-use Rattle.std.proofs.Common.{Result, Ok, Err}
-use Rattle.std.specs.Prelude.{IfOk, OnOk}
 use Rattle.dioc_terms.specs.declared.processes.Key.{Key}
-use Rattle.dioc_terms.specs.declared.values.Value.TheVariants as value
 use Rattle.dioc_terms.specs.Processes.{Load}
-use Rattle.dpoc_process.specs.declared.growth.Write.TheVariants as kept_writes
-use Rattle.dpoc_process.specs.declared.runs.Prepared.{Prepared}
-use Rattle.dpoc_process.specs.KeptReady.{IsPreparedFor}
-use Rattle.flat_role.specs.ReadySteps.{IsKeptOwn, IsOwnOf, IsShownBy}
+use Rattle.flat_role.specs.declared.leaves.Next.{Next}
+use Rattle.flat_role.specs.Leaves.{IsNext, is_first}
+use Rattle.flat_role.specs.ReadySteps.{IsNextOf, IsOwnOf}
 use Rattle.flat_role.specs.Replacing.{IsRoomWhen}
 use Rattle.process_steps.specs.Steps.{Given, is_offered, offers, telling}
 use Rattle.std.specs.Prelude.{IfSome, if◌then◌else◌}
@@ -133,31 +129,14 @@ told_acts me a k l ms some = by_case (is_offered a (offers me (Tell (More k l ms
     by_case true s = refl
     by_case false s = cc
 
-pub told_own : {T E : Type 0} (me : Role) (s : Store) (a : Act) (ms : Letters) (r : Result T E)
-    → is_some (acting me a (telling ms)) ≡ true
-    → OnOk r (IsKeptOwn me s a (telling ms) false
-    (Some (record { write = kept_writes.Nothing; pick = false; room = None })))
-told_own me s a ms (Err e) some = tt
-told_own me s a Nothing (Ok x) some = cc
-told_own me s a (More k l ms) (Ok x) some = record {
-  own = _;
-  is = refl;
-  made = record {
-    part = Tell (More k l ms);
-    acts = told_acts me a k l ms some;
-    made = record { write = refl; pick = refl };
-    room = refl;
-  };
-}
-
-pub told_shown : {E : Type 0} (me : Role) (s : Store) (a : Act) (ms : Letters)
-    (r : Result Prepared E) → is_some (acting me a (telling ms)) ≡ true
-    → IfOk r (IsPreparedFor me a value.Nil (Tell ms))
-    → IfOk r (IsShownBy me s a (telling ms))
-told_shown me s a ms (Err e) some shown = tt
-told_shown me s a Nothing (Ok x) some shown = cc
-told_shown me s a (More k l ms) (Ok x) some shown = record {
+-- its next message is what is next
+pub told_next : (me : Role) (a : Act) (ms : Letters) (n : Next) → IsNext me n (Tell ms)
+    → is_first n ≡ false → is_some (acting me a (telling ms)) ≡ true
+    → IsNextOf me a (telling ms) false n
+told_next me a Nothing n stands first some = cc
+told_next me a (More k l ms) n stands first some = record {
   part = Tell (More k l ms);
   acts = told_acts me a k l ms some;
-  shown = shown;
+  stands = stands;
+  first = first;
 }

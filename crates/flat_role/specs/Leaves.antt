@@ -4,7 +4,7 @@ use Rattle.dioc_terms.specs.declared.names.Role.{Role}
 use Rattle.dioc_terms.specs.declared.processes.Key.{Key}
 use Rattle.dioc_terms.specs.declared.processes.Tag.{Tag}
 use Rattle.dioc_terms.specs.declared.processes.Tag.TheVariants as tag
-use Rattle.dioc_terms.specs.Processes.{Process, Skip, IfLead, WhileLead, WhileFollow, ScopeLead, ScopeFollow, Tell, Gather, Letters, More, Load, Flag, Keep, Done}
+use Rattle.dioc_terms.specs.Processes.{Process, Skip, IfLead, WhileLead, WhileFollow, ScopeLead, ScopeFollow, Tell, Gather, Letters, More, Load, Flag, Keep, Done, letters}
 use Rattle.dpoc_process.specs.Acting.{is_single}
 use Rattle.flat_code.specs.declared.ops.Op.{Op}
 use Rattle.flat_code.specs.declared.ops.Op.TheVariants as op
@@ -76,6 +76,11 @@ abbrev pub is_single_next : Next → Bool
 is_single_next (next.Op op) = is_single_op op.now
 is_single_next n = true
 
+-- nothing was done there yet
+abbrev pub is_first : Next → Bool
+is_first (next.Op op) = true
+is_first n = false
+
 -- what is next stands for this process
 abbrev pub IsNext : Role → Next → Process → Type 0
 IsNext me (next.Op op) R = (done : List Process) × (R ≡ op_process done op.now)
@@ -84,4 +89,5 @@ IsNext me (next.Put to i s) R =
 IsNext me (next.Take from i s) R =
     (ks : List Key) × (R ≡ Gather (key from.now me i (tag_of s) ∷ ks))
 IsNext me (next.Gather ks) R = R ≡ Gather ks.now
+IsNext me (next.Tell ms) R = R ≡ Tell (letters ms.now)
 IsNext me next.Nothing R = R ≡ Skip

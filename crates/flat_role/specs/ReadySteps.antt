@@ -15,7 +15,8 @@ use Rattle.flat_role.specs.declared.marks.Mark.{Mark as KeptMark}
 use Rattle.flat_role.specs.declared.progress.Progress.{Progress}
 use Rattle.flat_role.specs.declared.steps.Chosen.{Chosen}
 use Rattle.flat_role.specs.declared.steps.Own.{Own}
-use Rattle.flat_role.specs.Leaves.{front}
+use Rattle.flat_role.specs.declared.leaves.Next.{Next}
+use Rattle.flat_role.specs.Leaves.{IsNext, front, is_first}
 use Rattle.flat_role.specs.PlanMarks.{plan_marks, static_at}
 use Rattle.flat_role.specs.Progress.{runs_by}
 use Rattle.flat_role.specs.Replacing.{IsRoomWhen}
@@ -48,6 +49,14 @@ pub record IsShownBy (me : Role) (s : Store) (a : Act) (P : Process) (p : Prepar
   pub acts : acting me a P ≡ Some part
   pub shown : IsPreparedFor me a (value_at s part) part p
 
+-- this is next of the part of the process that does the act, at a place where nothing was done yet
+-- or where something was
+pub record IsNextOf (me : Role) (a : Act) (P : Process) (fresh : Bool) (n : Next) : Type 0 where
+  pub part : Process
+  pub acts : acting me a P ≡ Some part
+  pub stands : IsNext me n part
+  pub first : is_first n ≡ fresh
+
 -- the process that acts at a place
 abbrev pub front_at : Role → Plan → List KeptMark → ℕ → Process
 front_at me plan marks place =
@@ -64,10 +73,3 @@ pub record IsReadyBy (me : Role) (plan : Plan) (progress : Progress) (s : Store)
     (own : Own) : Type 0 where
   pub chosen : IsChosenFor me plan progress a progress.chosen
   pub made : IsOwnOf me s a (runs_by me plan progress) (fresh_by progress progress.chosen) own
-
--- all that was made ready is kept
-pub record IsKeptBy (me : Role) (plan : Plan) (progress : Progress) (s : Store) (a : Act)
-    (held : Option Own) : Type 0 where
-  pub own : Own
-  pub is : held ≡ Some own
-  pub made : IsReadyBy me plan progress s a own

@@ -1,6 +1,5 @@
 //! An act that is done.
 
-ghost use Rattle.std.specs.Option.{is_some};
 ghost use Rattle.std.specs.Prelude.{◌≡◌, ◌<◌, ◌≤◌, ◌+◌, ◌++◌, ℕ, true, None, Some, IfSome, drop, length, take, vec_capacity};
 ghost use Rattle.dioc_terms.specs.declared.entries.Act.{Act as OneAct};
 ghost use Rattle.dioc_terms.specs.declared.names.Role.{Role as RoleName};
@@ -11,7 +10,6 @@ ghost use Rattle.dpoc_process.specs.Handed.{Brings, IsEnabled, handed};
 ghost use Rattle.dpoc_process.specs.KeptGrowth.{write_of};
 ghost use Rattle.dpoc_process.specs.RoleLaws.{local};
 ghost use Rattle.dpoc_process.specs.RoleSteps.{IsStep};
-ghost use Rattle.flat_role.specs.declared.steps.Chosen.{Chosen};
 ghost use Rattle.flat_role.specs.Advancing.{ComesTo, IsActed, IsActingBy, IsGoing, IsReplacedBy, entered_places};
 ghost use Rattle.flat_role.specs.PlanMarks.{mark_in, plan_len, static_at};
 ghost use Rattle.flat_role.specs.Progress.{AreOf, IsFound, IsProgress, runs_by};
@@ -59,23 +57,12 @@ pub(crate) fn advance(
         (runs_by me.now plan.now progress.old) (store_of store.old)) act.now given (local me.now
         (runs_by me.now plan.now progress.new) (store_of store.new)) }
 {
-    let at = chosen_place(progress);
+    let at = progress.chosen_place();
     let place = progress.active[at];
     let over = act_at(me, plan, act, progress, store, place, (own, got));
     let stop = climb(me, plan, &mut progress.marks, place, over);
     go_on(me, plan, progress, at, stop);
     progress.chosen = None;
-}
-
-/// Where the place of the act that it is ready for stands among those that can act.
-fn chosen_place(progress: &Progress) -> usize
-    requires { is_some progress.now.chosen ≡ true }
-    ensures { (chosen : Chosen) → progress.now.chosen ≡ Some chosen → result ≡ chosen.at }
-{
-    match &progress.chosen {
-        Some(chosen) => chosen.at,
-        None => unreachable!(),
-    }
 }
 
 /// Does the act at the place, and writes its mark alone. The answer is whether nothing is left to

@@ -1,32 +1,31 @@
 //! What is next at a place that can act.
 
-ghost use Rattle.std.specs.Prelude.{◌≡◌, ◌<◌, ◌++◌, ◌∷◌, [], List, None, Some, true, false, drop, IfErr, IfOk, OnOk, length, option_map};
+ghost use Rattle.std.specs.Prelude.{◌≡◌, ◌<◌, ◌++◌, ◌∷◌, [], List, true, false, drop, IfOk, OnOk, length};
 ghost use Rattle.dioc_terms.specs.declared.entries.Act.TheVariants as acts_of;
-ghost use Rattle.dioc_terms.specs.declared.entries.Entry.TheVariants as entries;
 ghost use Rattle.dioc_terms.specs.declared.names.Role.{Role};
 ghost use Rattle.dioc_terms.specs.declared.processes.Key.{Key};
 ghost use Rattle.dioc_terms.specs.KeptStores.{store_of};
 ghost use Rattle.dioc_terms.specs.Processes.{Process, load, noted};
 ghost use Rattle.dpoc_process.specs.Growth.{value_at, write_at};
 ghost use Rattle.dpoc_process.specs.KeptGrowth.{write_of};
-ghost use Rattle.dpoc_process.specs.KeptReady.{IsPreparedFor};
 ghost use Rattle.flat_code.specs.Places.{op_process};
 ghost use Rattle.flat_role.specs.KeptMarks.{awaited, end_keys, first_letters, gathered, last_keys, last_letters, left, letters_from, told};
-ghost use Rattle.flat_role.specs.Leaves.{IsNext, front, is_leaf, is_single_next, load_of, tag_of};
+ghost use Rattle.flat_role.specs.Leaves.{IsNext, front, is_first, is_leaf, is_single_next, load_of, tag_of};
 ghost use Rattle.flat_role.specs.MovedMarks.{runs_update};
 ghost use Rattle.flat_role.specs.PlanMarks.{mark_in, plan_len, plan_marks, static_at};
+ghost use Rattle.flat_role.specs.Updates.{is_fresh};
 ghost use Rattle.process_steps.specs.Steps.{gathering, is_offered, key, letters_to, offers, telling};
 ghost use Rattle.role_statuses.specs.Marks as marks_of;
 ghost use Rattle.role_statuses.specs.PlaceLaws.{status_at};
 ghost use Rattle.role_statuses.specs.Statuses.{keys_of, leaves};
 
 use crate::marks::Mark;
-use crate::parts::{add_gathered, add_offer, add_take, does, value_of, write_of};
-use crate::prepared::{prepared_entry, prepared_follow, prepared_gather, prepared_op};
-use dioc_terms::{Act, Entry, Index, Key, Memory, Note, Payload, Role, Roles, Store, Tag, Value};
+use crate::parts::{add_gathered, add_offer, add_take, add_told, does, value_of, write_of};
+use dioc_terms::{
+    Act, Index, Key, Memory, Messages, Note, Payload, Role, Roles, Store, Tag, Value,
+};
 use dpoc_process::growth::Write;
-use dpoc_process::offered::{gathers, key_of, takes};
-use dpoc_process::{PrepareFault, Prepared};
+use dpoc_process::offered::{gathers, key_of, takes, tells};
 use flat_code::{Op, Plan};
 use std::alloc::Global;
 
@@ -67,12 +66,14 @@ pub(crate) enum Next<'a> {
     },
     /// Takes the message of the first of these keys.
     Gather(&'a [Key]),
+    /// Puts the first of these messages.
+    Tell(&'a Messages),
     /// Nothing.
     Nothing,
 }
 
 impl Sign {
-    fn tag(self) -> Tag
+    pub(crate) fn tag(self) -> Tag
         ensures { result ≡ tag_of self }
     {
         match self {
@@ -85,7 +86,7 @@ impl Sign {
         }
     }
 
-    fn payload(self) -> Payload
+    pub(crate) fn payload(self) -> Payload
         ensures { load result ≡ load_of self }
     {
         match self {
@@ -95,7 +96,7 @@ impl Sign {
         }
     }
 
-    fn note(self) -> Note
+    pub(crate) fn note(self) -> Note
         ensures { result ≡ noted (load_of self) }
     {
         match self {
@@ -111,8 +112,9 @@ pub(crate) fn next_at<'a>(me: &Role, plan: &'a Plan, marks: &'a [Mark], place: u
     requires inside { place < plan_len plan.now }
     requires as_long { length marks.now ≡ plan_len plan.now }
     requires own { runs_update (mark_in marks.now place) ≡ false }
-    ensures { IsNext me.now result
+    ensures next { IsNext me.now result
         (front me.now (plan_marks me.now plan.now marks.now place) (static_at plan.now place)) }
+    ensures first { is_first result ≡ is_fresh (mark_in marks.now place) }
 {
     let op = plan.code.op_at(place);
     match &marks[place] {
@@ -128,8 +130,9 @@ pub(crate) fn next_at<'a>(me: &Role, plan: &'a Plan, marks: &'a [Mark], place: u
 
 /// The message to the role after so many of these.
 fn put_to<'a>(others: &'a Roles, done: usize, index: Index, sign: Sign) -> Next<'a>
-    ensures { (me : Role) → IsNext me result (telling
+    ensures next { (me : Role) → IsNext me result (telling
         (letters_from done (letters_to me others.now index (tag_of sign) (λ q. load_of sign)))) }
+    ensures first { is_first result ≡ false }
 {
     match others.as_slice().get(done) {
         Some(to) => Next::Put { to, index, sign },
@@ -139,8 +142,9 @@ fn put_to<'a>(others: &'a Roles, done: usize, index: Index, sign: Sign) -> Next<
 
 /// The message of the role after so many of these.
 fn take_from<'a>(others: &'a Roles, done: usize, index: Index, sign: Sign) -> Next<'a>
-    ensures { (me : Role) → IsNext me result
+    ensures next { (me : Role) → IsNext me result
         (gathering (drop done (keys_of me others.now index (tag_of sign)))) }
+    ensures first { is_first result ≡ false }
 {
     match others.as_slice().get(done) {
         Some(from) => Next::Take { from, index, sign },
@@ -150,9 +154,10 @@ fn take_from<'a>(others: &'a Roles, done: usize, index: Index, sign: Sign) -> Ne
 
 /// What a leader tells before it goes on, after so many messages.
 fn telling<'a>(op: &'a Op, flag: bool, done: usize) -> Next<'a>
-    ensures { (me : Role) (parts : List Process) → IsNext me result (front me
+    ensures next { (me : Role) (parts : List Process) → IsNext me result (front me
         (told flag (letters_from done (first_letters me (op_process parts op.now) flag)))
         (op_process parts op.now)) }
+    ensures first { is_first result ≡ false }
 {
     match op {
         Op::IfLead { index, others, .. } => put_to(others, done, *index, Sign::Choice(flag)),
@@ -164,8 +169,9 @@ fn telling<'a>(op: &'a Op, flag: bool, done: usize) -> Next<'a>
 
 /// The end that a leader takes, after so many.
 fn gathering<'a>(op: &'a Op, done: usize) -> Next<'a>
-    ensures { (me : Role) (parts : List Process) → IsNext me result (front me
+    ensures next { (me : Role) (parts : List Process) → IsNext me result (front me
         (gathered (drop done (end_keys me (op_process parts op.now)))) (op_process parts op.now)) }
+    ensures first { is_first result ≡ false }
 {
     match op {
         Op::WhileLead { index, others, .. } => take_from(others, done, *index, Sign::Turn),
@@ -176,8 +182,9 @@ fn gathering<'a>(op: &'a Op, done: usize) -> Next<'a>
 
 /// The end that a follower puts.
 fn ending<'a>(op: &'a Op) -> Next<'a>
-    ensures { (me : Role) (parts : List Process) →
+    ensures next { (me : Role) (parts : List Process) →
         IsNext me result (front me marks_of.Ending (op_process parts op.now)) }
+    ensures first { is_first result ≡ false }
 {
     match op {
         Op::WhileFollow { index, leader, .. } => Next::Put {
@@ -196,9 +203,10 @@ fn ending<'a>(op: &'a Op) -> Next<'a>
 
 /// The last that is told, after so many messages.
 fn left<'a>(op: &'a Op, done: usize) -> Next<'a>
-    ensures { (me : Role) (parts : List Process) → IsNext me result (front me
+    ensures next { (me : Role) (parts : List Process) → IsNext me result (front me
         (left (letters_from done (last_letters me (op_process parts op.now))))
         (op_process parts op.now)) }
+    ensures first { is_first result ≡ false }
 {
     match op {
         Op::WhileLead { index, others, .. } => put_to(others, done, *index, Sign::Go(false)),
@@ -209,8 +217,9 @@ fn left<'a>(op: &'a Op, done: usize) -> Next<'a>
 
 /// The last that is taken, after so many messages.
 fn waiting<'a>(op: &'a Op, done: usize) -> Next<'a>
-    ensures { (me : Role) (parts : List Process) → IsNext me result (front me
+    ensures next { (me : Role) (parts : List Process) → IsNext me result (front me
         (awaited (drop done (last_keys me (op_process parts op.now)))) (op_process parts op.now)) }
+    ensures first { is_first result ≡ false }
 {
     match op {
         Op::ScopeFollow { index, leader, .. } => match done {
@@ -228,7 +237,8 @@ fn waiting<'a>(op: &'a Op, done: usize) -> Next<'a>
 
 /// These keys without so many at the front.
 fn gather_from<'a>(keys: &'a [Key], done: usize) -> Next<'a>
-    ensures { (me : Role) → IsNext me result (gathering (drop done keys.now)) }
+    ensures next { (me : Role) → IsNext me result (gathering (drop done keys.now)) }
+    ensures first { is_first result ≡ false }
 {
     if done < keys.len() {
         return Next::Gather(&keys[done..]);
@@ -275,6 +285,7 @@ fn add_offers_of(
         Next::Put { to, index, sign } => add_put(alloc, me, to, index, sign.tag(), acts),
         Next::Take { from, index, sign } => add_take(alloc, from, me, index, sign.tag(), acts),
         Next::Gather(keys) => add_gathered(alloc, me, keys, acts),
+        Next::Tell(messages) => add_told(alloc, me, messages, acts),
         Next::Nothing => Ok(()),
     }
 }
@@ -321,6 +332,7 @@ pub(crate) fn offers_next(me: &Role, act: &Act, next: Next<'_>) -> bool
         Next::Put { to, index, sign } => puts(act, me, to, index, &sign.tag()),
         Next::Take { from, index, sign } => takes(act, from, me, index, &sign.tag()),
         Next::Gather(keys) => gathers(act, me, keys),
+        Next::Tell(messages) => tells(act, me, messages),
         Next::Nothing => false,
     }
 }
@@ -358,56 +370,4 @@ pub(crate) fn write_for(alloc: Global, value: &Value, next: Next<'_>) -> Result<
         Next::Op(op) => write_of(alloc, value, op),
         _ => Ok(Write::Nothing),
     }
-}
-
-/// What is shown of an act before it is done.
-pub(crate) fn prepared_for(
-    alloc: Global,
-    me: &Role,
-    act: &Act,
-    value: &Value,
-    next: Next<'_>,
-) -> Result<Prepared, PrepareFault>
-    ensures shown { (R : Process) → IsNext me.now next.entry R →
-        IfOk result (IsPreparedFor me.now act.now value.now R) }
-    ensures fault { IfErr result (λ fault. fault ≡ PrepareFault.Memory) }
-{
-    match next {
-        Next::Op(op) => prepared_op(alloc, me, act, value, op),
-        Next::Put { to, index, sign } => prepared_put(alloc, me, act, to, index, sign),
-        Next::Take { from, index, sign } => {
-            prepared_follow(alloc, me, act, from, index, sign.tag())
-        }
-        Next::Gather(keys) => prepared_gather(alloc, me, act, value, keys),
-        Next::Nothing => prepared_entry(alloc, act, None),
-    }
-}
-
-/// What is shown of putting an auxiliary message.
-fn prepared_put(
-    alloc: Global,
-    me: &Role,
-    act: &Act,
-    to: &Role,
-    index: Index,
-    sign: Sign,
-) -> Result<Prepared, PrepareFault>
-    ensures act { IfOk result (λ shown. shown.act ≡ act.now) }
-    ensures entry { IfOk result (λ shown. shown.entry
-        ≡ Some (entries.Put (key me.now to.now index (tag_of sign)) (noted (load_of sign)))) }
-    ensures head { IfOk result (λ shown. shown.head ≡ None) }
-    ensures payload { IfOk result (λ shown. option_map load shown.payload ≡ Some (load_of sign)) }
-    ensures fault { IfErr result (λ fault. fault ≡ PrepareFault.Memory) }
-{
-    let key = key_of(alloc, me, to, index, sign.tag())?;
-    let act = act.copy(alloc)?;
-    Ok(Prepared {
-        act,
-        entry: Some(Entry::Put {
-            key,
-            note: sign.note(),
-        }),
-        head: None,
-        payload: Some(sign.payload()),
-    })
 }

@@ -7,47 +7,49 @@ ghost use Rattle.flat_role.specs.declared.replacing.Room.{Room};
 ghost use Rattle.dioc_terms.specs.Processes.{Done, Process, process};
 ghost use Rattle.dpoc_process.specs.Growth.{follower_end, leader_end};
 ghost use Rattle.flat_code.specs.Places.{op_process};
-ghost use Rattle.flat_role.specs.MovedMarks.{runs_update};
-ghost use Rattle.flat_role.specs.PlanMarks.{mark_in, plan_len};
-ghost use Rattle.flat_role.specs.ReadySteps.{front_at};
+ghost use Rattle.flat_role.specs.Leaves.{IsNext, is_first};
 ghost use Rattle.flat_role.specs.Replacing.{IsRoomFor, IsRoomWhen};
-ghost use Rattle.flat_role.specs.Updates.{is_fresh};
 ghost use Rattle.process_steps.specs.Steps.{after, gather, gathering, tell};
 
-use crate::marks::{Mark, State, Update};
+use crate::leaves::Next;
+use crate::marks::{State, Update};
 use crate::replacing::{Follow, Lead, Room, What, telling, then};
 use dioc_terms::{
     Index, Items, Key, Memory, Messages, Payload, Proc, Role, Tag, give_up, new_box, new_boxes,
 };
 use dpoc_process::makers::{keys_from, letters_to};
-use flat_code::{Op, Plan};
+use flat_code::Op;
 use std::alloc::Global;
 use std::slice;
 use std::snapshot::Snapshot;
 
 /// Room for another process, where the first act of a place may put one there.
-pub(crate) fn room_at(
-    alloc: Global,
-    me: &Role,
-    plan: &Plan,
-    marks: &[Mark],
-    place: usize,
-) -> Result<Option<Room>, Memory>
-    requires inside { place < plan_len plan.now }
-    requires as_long { length marks.now ≡ plan_len plan.now }
-    requires own { runs_update (mark_in marks.now place) ≡ false }
-    ensures { IfOk result (IsRoomWhen (is_fresh (mark_in marks.now place)) me.now
-        (front_at me.now plan.now marks.now place)) }
+pub(crate) fn room_for(alloc: Global, me: &Role, next: Next<'_>) -> Result<Option<Room>, Memory>
+    ensures { (R : Process) → IsNext me.now next.entry R →
+        IfOk result (IsRoomWhen (is_first next.entry) me.now R) }
 {
-    match &marks[place] {
-        Mark::Untouched => room_of(alloc, me, plan.code.op_at(place)),
+    match next {
+        Next::Op(op) => room_of(alloc, me, op),
         _ => Ok(None),
     }
 }
 
 /// Room for another process in the place of an op, where its first act may put one there.
-#[inline(never)]
 fn room_of(alloc: Global, me: &Role, op: &Op) -> Result<Option<Room>, Memory>
+    ensures { (done : List Process) → IfOk result (IsRoomFor me.now (op_process done op.now)) }
+{
+    match op {
+        Op::ScopeLead { .. } | Op::ScopeFollow { .. } | Op::Tell { .. } => {
+            replaced_room(alloc, me, op)
+        }
+        _ => Ok(None),
+    }
+}
+
+/// Room for another process in the place of a scope or of a tell.
+// (Apart, since it is rare, and no other op is to make room for it.)
+#[inline(never)]
+fn replaced_room(alloc: Global, me: &Role, op: &Op) -> Result<Option<Room>, Memory>
     ensures { (done : List Process) → IfOk result (IsRoomFor me.now (op_process done op.now)) }
 {
     match op {

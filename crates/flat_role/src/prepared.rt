@@ -1,281 +1,204 @@
 //! What is shown of an act before it is done.
 //!
-//! What is shown is large. So each kind of op has a function of its own, which makes all at once,
-//! and no other op makes room for it.
+//! What is shown is large. So it is made of small pieces, each by what is next.
 
-ghost use Rattle.std.specs.Prelude.{◌≡◌, ◌<◌, List, None, Some, IfErr, IfOk, length, option_map};
+ghost use Rattle.std.specs.Prelude.{◌≡◌, List, None, Some, IfOk, option_map};
 ghost use Rattle.dioc_terms.specs.declared.entries.Entry.TheVariants as entries;
+ghost use Rattle.dioc_terms.specs.declared.names.Role.{Role as RoleName};
 ghost use Rattle.dioc_terms.specs.declared.processes.Tag.TheVariants as tags;
-ghost use Rattle.dioc_terms.specs.Processes.{Process, Gather, Tell, Val, letters, load, noted};
-ghost use Rattle.dioc_terms.specs.Values.{is_true};
-ghost use Rattle.dpoc_process.specs.Growth.{value_at};
-ghost use Rattle.dpoc_process.specs.KeptReady.{IsPreparedFor};
-ghost use Rattle.flat_code.specs.Places.{op_process, processes};
+ghost use Rattle.dioc_terms.specs.Processes.{Process, Val, load, noted};
+ghost use Rattle.dpoc_process.specs.Acting.{lead_head, lead_of};
+ghost use Rattle.dpoc_process.specs.Growth.{entry_at, load_at};
+ghost use Rattle.flat_code.specs.Places.{op_process};
+ghost use Rattle.flat_role.specs.Leaves.{IsNext, load_of, tag_of};
 ghost use Rattle.process_steps.specs.Steps.{key};
 
-use dioc_terms::{
-    Act, Entry, Index, Key, Memory, Messages, Name, Note, Payload, Role, ScopeHead, Store, Tag,
-    Value,
-};
-use dpoc_process::growth::{Write, is_true};
+use crate::leaves::{Next, Sign};
+use dioc_terms::{Entry, Index, Memory, Name, Note, Payload, Role, ScopeHead, Tag, Value};
+use dpoc_process::growth::is_true;
 use dpoc_process::offered::{key_of, operation};
 use dpoc_process::prepared::{
     gather_entry, input_entry, payload_of_tell, pick_entry, set_entry, tell_entry,
 };
-use dpoc_process::{PrepareFault, Prepared};
 use flat_code::Op;
 use std::alloc::Global;
 
-/// What is shown of the act that an op does.
-pub(crate) fn prepared_op(
+/// What is known of the entry of what is next: all of it, but for a scope, whose choice isn't known
+/// yet.
+pub(crate) fn entry_for(
     alloc: Global,
     me: &Role,
-    act: &Act,
     value: &Value,
-    op: &Op,
-) -> Result<Prepared, PrepareFault>
-    ensures shown { IfOk result (λ shown. (done : List Process) →
-        IsPreparedFor me.now act.now value.now (op_process done op.now) shown) }
-    ensures fault { IfErr result (λ fault. fault ≡ PrepareFault.Memory) }
+    next: Next<'_>,
+) -> Result<Option<Entry>, Memory>
+    ensures { (R : Process) → IsNext me.now next.entry R →
+        IfOk result (λ entry. entry ≡ entry_at me.now value.now R) }
+{
+    match next {
+        Next::Op(op) => entry_of(alloc, me, value, op),
+        Next::Put { to, index, sign } => entry_of_put(alloc, me, to, index, sign),
+        Next::Take { from, index, sign } => entry_of_take(alloc, from, me, index, sign.tag()),
+        Next::Gather(keys) => gather_entry(alloc, me, value, keys),
+        Next::Tell(messages) => tell_entry(alloc, me, value, messages),
+        Next::Nothing => Ok(None),
+    }
+}
+
+/// What is known of the entry of an op.
+fn entry_of(alloc: Global, me: &Role, value: &Value, op: &Op) -> Result<Option<Entry>, Memory>
+    ensures { IfOk result (λ entry. (done : List Process) →
+        entry ≡ entry_at me.now value.now (op_process done op.now)) }
 {
     match op {
-        Op::Send { index, op, to, .. } => prepared_send(alloc, me, act, value, to, *index, op),
+        Op::Send { index, op, to, .. } => entry_of_send(alloc, me, to, *index, op, value),
         Op::Recv {
             index,
             op,
             from,
             var,
-        } => prepared_receive(alloc, me, act, from, *index, op, var),
-        Op::Assign { index, var, .. } => prepared_set(alloc, me, act, value, *index, var),
-        Op::Read { index, var } => prepared_input(alloc, me, act, value, *index, var),
+        } => entry_of_receive(alloc, from, me, *index, op, var),
+        Op::Assign { index, var, .. } => set_entry(alloc, *index, me, var, value),
+        Op::Read { index, var } => input_entry(alloc, *index, me, var, value),
         Op::IfLead { index, .. } | Op::WhileLead { index, .. } => {
-            prepared_pick(alloc, me, act, value, *index)
+            pick_entry(alloc, *index, me, is_true(value))
         }
         Op::IfFollow { index, leader, .. } => {
-            prepared_follow(alloc, me, act, leader, *index, Tag::Choice)
+            entry_of_take(alloc, leader, me, *index, Tag::Choice)
         }
         Op::WhileFollow { index, leader, .. } => {
-            prepared_follow(alloc, me, act, leader, *index, Tag::Go)
+            entry_of_take(alloc, leader, me, *index, Tag::Go)
         }
         Op::ScopeFollow { index, leader, .. } => {
-            prepared_follow(alloc, me, act, leader, *index, Tag::Begin)
+            entry_of_take(alloc, leader, me, *index, Tag::Begin)
         }
-        Op::ScopeLead { head, .. } => prepared_scope(alloc, act, head),
-        Op::Tell { messages } => prepared_tell(alloc, me, act, value, messages),
-        Op::Gather { keys } => prepared_gather(alloc, me, act, value, keys.as_slice()),
-        _ => prepared_entry(alloc, act, None),
+        Op::Tell { messages } => tell_entry(alloc, me, value, messages),
+        Op::Gather { keys } => gather_entry(alloc, me, value, keys.as_slice()),
+        _ => Ok(None),
     }
 }
 
-/// What is shown of an act with this entry, and with neither a head nor a message.
-pub(crate) fn prepared_entry(
-    alloc: Global,
-    act: &Act,
-    entry: Option<Entry>,
-) -> Result<Prepared, PrepareFault>
-    ensures act { IfOk result (λ shown. shown.act ≡ act.now) }
-    ensures entry { IfOk result (λ shown. shown.entry ≡ entry) }
-    ensures head { IfOk result (λ shown. shown.head ≡ None) }
-    ensures payload { IfOk result (λ shown. shown.payload ≡ None) }
-    ensures fault { IfErr result (λ fault. fault ≡ PrepareFault.Memory) }
-{
-    let act = act.copy(alloc)?;
-    Ok(Prepared {
-        act,
-        entry,
-        head: None,
-        payload: None,
-    })
-}
-
-fn prepared_send(
+/// The entry of a send.
+fn entry_of_send(
     alloc: Global,
     me: &Role,
-    act: &Act,
-    value: &Value,
     to: &Role,
     index: Index,
     op: &Name,
-) -> Result<Prepared, PrepareFault>
-    ensures act { IfOk result (λ shown. shown.act ≡ act.now) }
-    ensures entry { IfOk result (λ shown. shown.entry
-        ≡ Some (entries.Put (key me.now to.now index (tags.Op op.now)) (noted (Val value.now)))) }
-    ensures head { IfOk result (λ shown. shown.head ≡ None) }
-    ensures payload { IfOk result (λ shown. option_map load shown.payload
-        ≡ Some (Val value.now)) }
-    ensures fault { IfErr result (λ fault. fault ≡ PrepareFault.Memory) }
+    value: &Value,
+) -> Result<Option<Entry>, Memory>
+    ensures { IfOk result (λ entry. entry ≡ Some (entries.Put
+        (key me.now to.now index (tags.Op op.now)) (noted (Val value.now)))) }
 {
     let key = operation(alloc, me, to, index, op)?;
     let note = Note::Val(value.copy(alloc)?);
-    let payload = Payload::Val(value.copy(alloc)?);
-    let act = act.copy(alloc)?;
-    Ok(Prepared {
-        act,
-        entry: Some(Entry::Put { key, note }),
-        head: None,
-        payload: Some(payload),
-    })
+    Ok(Some(Entry::Put { key, note }))
 }
 
-fn prepared_receive(
+/// The entry of a receive.
+fn entry_of_receive(
     alloc: Global,
-    me: &Role,
-    act: &Act,
     from: &Role,
+    me: &Role,
     index: Index,
     op: &Name,
     var: &Name,
-) -> Result<Prepared, PrepareFault>
-    ensures act { IfOk result (λ shown. shown.act ≡ act.now) }
-    ensures entry { IfOk result (λ shown. shown.entry
-        ≡ Some (entries.Take (key from.now me.now index (tags.Op op.now)) (Some var.now))) }
-    ensures head { IfOk result (λ shown. shown.head ≡ None) }
-    ensures payload { IfOk result (λ shown. shown.payload ≡ None) }
-    ensures fault { IfErr result (λ fault. fault ≡ PrepareFault.Memory) }
+) -> Result<Option<Entry>, Memory>
+    ensures { IfOk result (λ entry. entry ≡ Some (entries.Take
+        (key from.now me.now index (tags.Op op.now)) (Some var.now))) }
 {
     let key = operation(alloc, from, me, index, op)?;
     let var = Some(var.copy(alloc)?);
-    let act = act.copy(alloc)?;
-    Ok(Prepared {
-        act,
-        entry: Some(Entry::Take { key, var }),
-        head: None,
-        payload: None,
-    })
+    Ok(Some(Entry::Take { key, var }))
 }
 
-fn prepared_set(
+/// The entry by which the role takes an auxiliary message of another.
+fn entry_of_take(
     alloc: Global,
+    from: &Role,
     me: &Role,
-    act: &Act,
-    value: &Value,
-    index: Index,
-    var: &Name,
-) -> Result<Prepared, PrepareFault>
-    ensures act { IfOk result (λ shown. shown.act ≡ act.now) }
-    ensures entry { IfOk result (λ shown.
-        shown.entry ≡ Some (entries.Set index me.now var.now value.now)) }
-    ensures head { IfOk result (λ shown. shown.head ≡ None) }
-    ensures payload { IfOk result (λ shown. shown.payload ≡ None) }
-    ensures fault { IfErr result (λ fault. fault ≡ PrepareFault.Memory) }
-{
-    let entry = set_entry(alloc, index, me, var, value)?;
-    prepared_entry(alloc, act, entry)
-}
-
-fn prepared_input(
-    alloc: Global,
-    me: &Role,
-    act: &Act,
-    value: &Value,
-    index: Index,
-    var: &Name,
-) -> Result<Prepared, PrepareFault>
-    ensures act { IfOk result (λ shown. shown.act ≡ act.now) }
-    ensures entry { IfOk result (λ shown.
-        shown.entry ≡ Some (entries.Input index me.now var.now value.now)) }
-    ensures head { IfOk result (λ shown. shown.head ≡ None) }
-    ensures payload { IfOk result (λ shown. shown.payload ≡ None) }
-    ensures fault { IfErr result (λ fault. fault ≡ PrepareFault.Memory) }
-{
-    let entry = input_entry(alloc, index, me, var, value)?;
-    prepared_entry(alloc, act, entry)
-}
-
-fn prepared_pick(
-    alloc: Global,
-    me: &Role,
-    act: &Act,
-    value: &Value,
-    index: Index,
-) -> Result<Prepared, PrepareFault>
-    ensures act { IfOk result (λ shown. shown.act ≡ act.now) }
-    ensures entry { IfOk result (λ shown.
-        shown.entry ≡ Some (entries.Pick index me.now (is_true value.now))) }
-    ensures head { IfOk result (λ shown. shown.head ≡ None) }
-    ensures payload { IfOk result (λ shown. shown.payload ≡ None) }
-    ensures fault { IfErr result (λ fault. fault ≡ PrepareFault.Memory) }
-{
-    let entry = pick_entry(alloc, index, me, is_true(value))?;
-    prepared_entry(alloc, act, entry)
-}
-
-/// What is shown of an act by which the role takes an auxiliary message of another.
-pub(crate) fn prepared_follow(
-    alloc: Global,
-    me: &Role,
-    act: &Act,
-    leader: &Role,
     index: Index,
     tag: Tag,
-) -> Result<Prepared, PrepareFault>
-    ensures act { IfOk result (λ shown. shown.act ≡ act.now) }
-    ensures entry { IfOk result (λ shown.
-        shown.entry ≡ Some (entries.Take (key leader.now me.now index tag) None)) }
-    ensures head { IfOk result (λ shown. shown.head ≡ None) }
-    ensures payload { IfOk result (λ shown. shown.payload ≡ None) }
-    ensures fault { IfErr result (λ fault. fault ≡ PrepareFault.Memory) }
+) -> Result<Option<Entry>, Memory>
+    ensures { IfOk result (λ entry.
+        entry ≡ Some (entries.Take (key from.now me.now index tag) None)) }
 {
-    let key = key_of(alloc, leader, me, index, tag)?;
-    let act = act.copy(alloc)?;
-    Ok(Prepared {
-        act,
-        entry: Some(Entry::Take { key, var: None }),
-        head: None,
-        payload: None,
-    })
+    let key = key_of(alloc, from, me, index, tag)?;
+    Ok(Some(Entry::Take { key, var: None }))
 }
 
-/// What is shown of the act that begins a scope, whose choice isn't known yet.
-fn prepared_scope(alloc: Global, act: &Act, head: &ScopeHead) -> Result<Prepared, PrepareFault>
-    ensures act { IfOk result (λ shown. shown.act ≡ act.now) }
-    ensures entry { IfOk result (λ shown. shown.entry ≡ None) }
-    ensures head { IfOk result (λ shown. shown.head ≡ Some head.now) }
-    ensures payload { IfOk result (λ shown. shown.payload ≡ None) }
-    ensures fault { IfErr result (λ fault. fault ≡ PrepareFault.Memory) }
-{
-    let head = head.copy(alloc)?;
-    let act = act.copy(alloc)?;
-    Ok(Prepared {
-        act,
-        entry: None,
-        head: Some(head),
-        payload: None,
-    })
-}
-
-pub(crate) fn prepared_tell(
+/// The entry by which the role puts an auxiliary message.
+fn entry_of_put(
     alloc: Global,
     me: &Role,
-    act: &Act,
-    value: &Value,
-    messages: &Messages,
-) -> Result<Prepared, PrepareFault>
-    ensures shown { IfOk result
-        (IsPreparedFor me.now act.now value.now (Tell (letters messages.now))) }
-    ensures fault { IfErr result (λ fault. fault ≡ PrepareFault.Memory) }
+    to: &Role,
+    index: Index,
+    sign: Sign,
+) -> Result<Option<Entry>, Memory>
+    ensures { IfOk result (λ entry. entry ≡ Some (entries.Put
+        (key me.now to.now index (tag_of sign)) (noted (load_of sign)))) }
 {
-    let entry = tell_entry(alloc, me, value, messages)?;
-    let payload = payload_of_tell(alloc, value, messages)?;
-    let act = act.copy(alloc)?;
-    Ok(Prepared {
-        act,
-        entry,
-        head: None,
-        payload,
-    })
+    let key = key_of(alloc, me, to, index, sign.tag())?;
+    Ok(Some(Entry::Put {
+        key,
+        note: sign.note(),
+    }))
 }
 
-pub(crate) fn prepared_gather(
+/// What the act of what is next sends, with the value that it needs.
+pub(crate) fn payload_for(
     alloc: Global,
-    me: &Role,
-    act: &Act,
-    value: &Value,
-    keys: &[Key],
-) -> Result<Prepared, PrepareFault>
-    ensures shown { IfOk result (IsPreparedFor me.now act.now value.now (Gather keys.now)) }
-    ensures fault { IfErr result (λ fault. fault ≡ PrepareFault.Memory) }
+    value: Value,
+    next: Next<'_>,
+) -> Result<Option<Payload>, Memory>
+    ensures { (me : RoleName) (R : Process) → IsNext me next.entry R →
+        IfOk result (λ payload. option_map load payload ≡ load_at value R) }
 {
-    let entry = gather_entry(alloc, me, value, keys)?;
-    prepared_entry(alloc, act, entry)
+    match next {
+        Next::Op(op) => payload_of(alloc, value, op),
+        Next::Put { sign, .. } => Ok(Some(sign.payload())),
+        Next::Tell(messages) => payload_of_tell(alloc, &value, messages),
+        _ => Ok(None),
+    }
+}
+
+/// What the act of an op sends, with the value that it needs.
+fn payload_of(alloc: Global, value: Value, op: &Op) -> Result<Option<Payload>, Memory>
+    ensures { IfOk result (λ payload. (done : List Process) →
+        option_map load payload ≡ load_at value (op_process done op.now)) }
+{
+    match op {
+        Op::Send { .. } => Ok(Some(Payload::Val(value))),
+        Op::Tell { messages } => payload_of_tell(alloc, &value, messages),
+        _ => Ok(None),
+    }
+}
+
+/// What the book sees of the scope that what is next begins.
+pub(crate) fn head_for(alloc: Global, next: Next<'_>) -> Result<Option<ScopeHead>, Memory>
+    ensures { (me : RoleName) (R : Process) → IsNext me next.entry R →
+        IfOk result (λ head. head ≡ option_map lead_head (lead_of R)) }
+{
+    match next {
+        Next::Op(op) => head_of(alloc, op),
+        _ => Ok(None),
+    }
+}
+
+/// What the book sees of the scope that an op begins.
+fn head_of(alloc: Global, op: &Op) -> Result<Option<ScopeHead>, Memory>
+    ensures { IfOk result (λ head. (done : List Process) →
+        head ≡ option_map lead_head (lead_of (op_process done op.now))) }
+{
+    match op {
+        Op::ScopeLead { head, .. } => copy_of_head(alloc, head),
+        _ => Ok(None),
+    }
+}
+
+/// (Apart, since no other op is to make room for it.)
+#[inline(never)]
+fn copy_of_head(alloc: Global, head: &ScopeHead) -> Result<Option<ScopeHead>, Memory>
+    ensures { IfOk result (λ copy. copy ≡ Some head.now) }
+{
+    Ok(Some(head.copy(alloc)?))
 }

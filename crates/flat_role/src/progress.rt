@@ -25,9 +25,10 @@ pub(crate) struct Progress {
 }
 
 impl Progress {
-    ghost use Rattle.std.specs.Prelude.{◌≡◌, false, IfOk, None, get_or};
-    ghost use Rattle.std.specs.Option.{ForSome};
+    ghost use Rattle.std.specs.Prelude.{◌≡◌, false, true, IfOk, None, Some, get_or};
+    ghost use Rattle.std.specs.Option.{ForSome, is_some};
     ghost use Rattle.flat_code.specs.Codes.{process_of};
+    ghost use Rattle.flat_role.specs.declared.steps.Chosen.{Chosen as OneChosen};
     ghost use Rattle.flat_role.specs.Progress.{IsFound, IsProgress, runs_by};
     ghost use Rattle.flat_role.specs.Updates.{deepest};
     ghost use Rattle.process_steps.specs.Steps.{ended, is_offered, offers};
@@ -84,6 +85,17 @@ impl Progress {
             }
         }
         None
+    }
+
+    /// Where the place of the act that it is ready for stands among those that can act.
+    pub(crate) fn chosen_place(&self) -> usize
+        requires { is_some self.now.chosen ≡ true }
+        ensures { (chosen : OneChosen) → self.now.chosen ≡ Some chosen → result ≡ chosen.at }
+    {
+        match &self.chosen {
+            Some(chosen) => chosen.at,
+            None => unreachable!(),
+        }
     }
 
     /// Whether nothing is left to do.

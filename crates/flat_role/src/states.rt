@@ -11,7 +11,7 @@ ghost use Rattle.role_statuses.specs.ListLaws.{active};
 use crate::advancing::advance;
 use crate::filling::fill_acts;
 use crate::progress::Progress;
-use crate::readying::make_ready;
+use crate::readying::{make_ready, next_of, show};
 use crate::relisting::refresh_acts;
 use crate::steps::{Own, clear};
 use crate::updates::count_ops;
@@ -111,19 +111,16 @@ impl Runs for FlatRole {
         let Some(at) = self.progress.find(&self.role, &self.plan, act) else {
             return Err(PrepareFault::NoAct);
         };
-        let made = make_ready(
+        make_ready(alloc, &self.role, &self.plan, &mut self.progress, (act, at))?;
+        let next = next_of(&self.role, &self.plan, &self.progress, act);
+        show(
             alloc,
             &self.role,
-            &self.plan,
-            &mut self.progress,
+            act,
+            next,
             &mut self.store,
-            (act, at),
             &mut self.ready,
-        );
-        if made.is_err() {
-            clear(&mut self.ready);
-        }
-        made
+        )
     }
 
     fn advance(&mut self, act: &Act, got: Got) {

@@ -3,7 +3,7 @@
 //! It is kept as it came until it is made ready for an act: then it is compiled. From then on it
 //! runs as a whole role does, over a plan of its own, by the same calls.
 
-ghost use Rattle.std.specs.Prelude.{◌≡◌, ◌<◌, ◌++◌, false, true, IfErr, IfOk, None, OnOk, Some, length};
+ghost use Rattle.std.specs.Prelude.{◌≡◌, ◌<◌, ◌++◌, false, true, IfOk, None, OnOk, Some, length};
 ghost use Rattle.std.specs.Option.{is_some};
 ghost use Rattle.dioc_terms.specs.KeptStores.{store_of, room};
 ghost use Rattle.dioc_terms.specs.Processes.{letters, process};
@@ -18,24 +18,22 @@ ghost use Rattle.flat_role.specs.declared.marks.State.TheVariants as states;
 ghost use Rattle.flat_role.specs.Leaves.{is_leaf};
 ghost use Rattle.flat_role.specs.PlanMarks.{plan_len, plan_marks, static_at};
 ghost use Rattle.flat_role.specs.Progress.{AreOf, acts_there, offers_there};
-ghost use Rattle.flat_role.specs.ReadySteps.{IsKeptOwn, IsOwnOf, IsShownBy};
+ghost use Rattle.flat_role.specs.ReadySteps.{IsNextOf, IsOwnOf};
 ghost use Rattle.flat_role.specs.Updates.{IsSound, chosen_in, depth_in, fresh_in, is_running, process_in, update_len, with_updates};
 ghost use Rattle.process_steps.specs.Steps.{Given, ended, is_offered, offers, telling};
 
 use crate::advancing::advance;
-use crate::leaves::{add_acts_at, offers_at};
+use crate::leaves::{Next, add_acts_at, offers_at};
 use crate::marks::{Mark, State, Update};
 use crate::parts::add_told;
-use crate::prepared::prepared_tell;
 use crate::progress::Progress;
-use crate::readying::make_ready;
+use crate::readying::{make_ready, next_of};
 use crate::relisting::add_acts;
 use crate::steps::Own;
-use dioc_terms::{Act, Memory, Messages, Proc, Role, Store, Value, give_up};
-use dpoc_process::growth::Write;
+use dioc_terms::{Act, Memory, Messages, Proc, Role, Store, give_up};
+use dpoc_process::Got;
 use dpoc_process::offered::{find, is_ended, offers_of, tells};
 use dpoc_process::ready::apply;
-use dpoc_process::{Got, PrepareFault, Prepared};
 use flat_code::{Plan, compile};
 use std::alloc::Global;
 use std::mem;
@@ -99,31 +97,34 @@ impl Update {
         }
     }
 
-    /// Keeps all that the act needs, and gives what is shown of it. What came is compiled before.
+    /// Makes it ready for an act. What came is compiled before.
     #[cycle(ready)]
-    pub(crate) fn prepare(
-        &mut self,
-        alloc: Global,
-        me: &Role,
-        store: &mut Store,
-        act: &Act,
-        ready: &mut Option<Own>,
-    ) -> Result<Prepared, PrepareFault>
+    #[inline(never)]
+    pub(crate) fn prepare(&mut self, alloc: Global, me: &Role, act: &Act) -> Result<(), Memory>
         requires role { self.old.role ≡ me.now }
         requires acts { is_some (acting me.now act.now self.old.process) ≡ true }
         ensures role { self.new.role ≡ me.now }
         ensures same { self.new.process ≡ self.old.process }
-        ensures same_store { store_of store.new ≡ store_of store.old }
-        ensures has_room { OnOk result (0 < room store.new) }
         ensures chosen { OnOk result (self.new.chosen ≡ Some act.now) }
-        ensures own { OnOk result (IsKeptOwn me.now (store_of store.old) act.now self.old.process
-            self.new.fresh ready.new) }
-        ensures shown { IfOk result (IsShownBy me.now (store_of store.old) act.now
-            self.old.process) }
-        ensures fault { IfErr result (λ fault. fault ≡ PrepareFault.Memory) }
     {
         compile_came(alloc, me, &mut self.state)?;
-        state_ready(alloc, me, &mut self.state, store, act, ready)
+        state_ready(alloc, me, &mut self.state, act)
+    }
+
+    /// What is next of it by the act for which it is ready.
+    #[cycle(next)]
+    #[inline(never)]
+    pub(crate) fn next<'a>(&'a self, me: &Role, act: &Act) -> Next<'a>
+        requires role { self.now.role ≡ me.now }
+        requires chosen { self.now.chosen ≡ Some act.now }
+        requires acts { is_some (acting me.now act.now self.now.process) ≡ true }
+        ensures { IsNextOf me.now act.now self.now.process self.now.fresh result }
+    {
+        match &self.state {
+            State::Runs(plan, progress) => next_of(me, plan, progress, act),
+            State::Told(messages, _) => Next::Tell(messages),
+            State::Came(_) => unreachable!(),
+        }
     }
 
     /// Does the act for which it was made ready, with what comes with it. The answer is whether
@@ -258,68 +259,27 @@ fn planned(alloc: Global, me: &Role, proc: &Proc) -> Result<(Plan, Progress), Me
     }
 }
 
-/// Keeps all that the act needs, and gives what is shown of it.
+/// Makes it ready for an act.
 #[cycle(ready)]
-fn state_ready(
-    alloc: Global,
-    me: &Role,
-    state: &mut State,
-    store: &mut Store,
-    act: &Act,
-    ready: &mut Option<Own>,
-) -> Result<Prepared, PrepareFault>
+fn state_ready(alloc: Global, me: &Role, state: &mut State, act: &Act) -> Result<(), Memory>
     requires sound { IsSound me.now state.old }
     requires runs { is_running state.old ≡ true }
     requires acts { is_some (acting me.now act.now (process_in me.now state.old)) ≡ true }
     ensures sound { IsSound me.now state.new }
     ensures same { process_in me.now state.new ≡ process_in me.now state.old }
-    ensures same_store { store_of store.new ≡ store_of store.old }
-    ensures has_room { OnOk result (0 < room store.new) }
     ensures chosen { OnOk result (chosen_in state.new ≡ Some act.now) }
-    ensures own { OnOk result (IsKeptOwn me.now (store_of store.old) act.now
-        (process_in me.now state.old) (fresh_in state.new) ready.new) }
-    ensures shown { IfOk result (IsShownBy me.now (store_of store.old) act.now
-        (process_in me.now state.old)) }
-    ensures fault { IfErr result (λ fault. fault ≡ PrepareFault.Memory) }
 {
     match state {
         State::Runs(plan, progress) => match progress.find(me, plan, act) {
-            Some(at) => make_ready(alloc, me, plan, progress, store, (act, at), ready),
+            Some(at) => make_ready(alloc, me, plan, progress, (act, at)),
             None => unreachable!(),
         },
-        State::Told(messages, chosen) => {
+        State::Told(_, chosen) => {
             *chosen = Some(Snapshot::of(act));
-            told_ready(alloc, me, messages, store, act, ready)
+            Ok(())
         }
         State::Came(_) => unreachable!(),
     }
-}
-
-/// Keeps what the next message of a tell needs, and gives what is shown of it.
-fn told_ready(
-    alloc: Global,
-    me: &Role,
-    messages: &Messages,
-    store: &mut Store,
-    act: &Act,
-    ready: &mut Option<Own>,
-) -> Result<Prepared, PrepareFault>
-    requires { is_some (acting me.now act.now (telling (letters messages.now))) ≡ true }
-    ensures same_store { store_of store.new ≡ store_of store.old }
-    ensures has_room { OnOk result (0 < room store.new) }
-    ensures own { OnOk result (IsKeptOwn me.now (store_of store.old) act.now
-        (telling (letters messages.now)) false ready.new) }
-    ensures shown { IfOk result (IsShownBy me.now (store_of store.old) act.now
-        (telling (letters messages.now))) }
-    ensures fault { IfErr result (λ fault. fault ≡ PrepareFault.Memory) }
-{
-    store.reserve(1)?;
-    *ready = Some(Own {
-        write: Write::Nothing,
-        pick: false,
-        room: None,
-    });
-    prepared_tell(alloc, me, act, &Value::Nil, messages)
 }
 
 /// Does the act for which this was made ready. The answer is whether nothing is left to do.

@@ -1,7 +1,7 @@
 -- The place that was found does what the process does, and what is made ready there keeps it. An
 -- update that is put in another form is the same process, so its mark stands for the same.
-use Rattle.std.proofs.Common.{Bool, suc, ◌≤◌, ◌≡◌, ◌<◌, ℕ, List, Option, false, true, length, get_or, set, refl, sym, ap, ◌∙◌, subst, arith, Some, None}
-use Rattle.std.specs.Prelude.{IfOk, OnOk}
+use Rattle.std.proofs.Common.{Bool, Result, Ok, Err, suc, ◌≤◌, ◌≡◌, ◌<◌, ℕ, List, Option, false, true, length, get_or, set, refl, sym, ap, ◌∙◌, subst, arith, Some, None}
+use Rattle.std.specs.Prelude.{IsErr, OnOk}
 use Rattle.std.proofs.lemmas.List.{get_or-set_same, get_or_read, set-get_or}
 use Rattle.std.proofs.lemmas.Result.{IfOk-weaker, on_ok_weaker}
 use Rattle.dioc_terms.specs.KeptStores.{store_of}
@@ -15,7 +15,7 @@ use Rattle.dpoc_process.specs.RoleLaws.{local}
 use Rattle.dpoc_process.specs.RoleSteps.{IsPrepared}
 use Rattle.flat_role.proofs.FoundLemmas.{found-front, found-inside, found-leaf, found-there, front-offered, same_process}
 use Rattle.flat_role.proofs.MineLemmas.{less_deep, mine_set}
-use Rattle.flat_role.proofs.ReadyLemmas.{chosen_on, kept_on, none_shown, not_ok, ok_has, own_set, inner_set, ready_on}
+use Rattle.flat_role.proofs.ReadyLemmas.{chosen_on, kept_on, inner_set}
 use Rattle.flat_role.proofs.UpdateFacts.{process_by, process_again, role_is, sound_again, sound_by}
 use Rattle.flat_role.specs.declared.marks.Mark.TheVariants as kept
 use Rattle.flat_role.specs.KeptMarks.{meant}
@@ -37,8 +37,13 @@ use Rattle.process_steps.specs.Steps.{is_offered, offers}
 use Rattle.role_statuses.specs.Marks as mark
 use Rattle.flat_role.proofs.+ready.Goals as goal
 
-pub readying::make_ready-step_at-made-requires : goal.readying::make_ready-step_at-made-requires
-readying::make_ready-step_at-made-requires t c =
+-- an error keeps nothing
+not_here : {T E : Type 0} (P : Type 0) (r : Result T E) → IsErr r → OnOk r P
+not_here P (Ok x) failed = cc
+not_here P (Err e) failed = tt
+
+pub readying::make_ready-step_at-requires : goal.readying::make_ready-step_at-requires
+readying::make_ready-step_at-requires t c =
     let me = c.args.me.now in
     let plan = c.args.plan.now in
     let progress = c.args.progress.now in
@@ -52,95 +57,65 @@ readying::make_ready-step_at-made-requires t c =
         found-inside me plan progress k a at place found,
         (
           k.as_long,
-          (
-            k.mine,
-            (
-              found-leaf me plan progress k a at place found,
-              front-offered me plan progress k a at place found,
-            ),
-          ),
+          (k.mine, front-offered me plan progress k a at place found),
         ),
       ),
     )
 
 -- the progress once the place was made ready, with what it is ready for
-pub readying::make_ready-returns-then-is_ok : goal.readying::make_ready-returns-then-is_ok
-readying::make_ready-returns-then-is_ok t c =
+pub readying::make_ready-returns : goal.readying::make_ready-returns
+readying::make_ready-returns t c =
     let me = c.args.me.now in
     let plan = c.args.plan.now in
     let old = c.args.progress.now in
     let a = c.args.found.0.now in
-    let s = store_of c.args.store.now in
     let k = c.requires.progress in
     let at : ℕ = c.args.found.1 in
     let place : ℕ = c.index-place.result.now in
     let found = found-there me plan old k a at _ c.requires.found place c.index-place.ensures in
     let chosen : Chosen = record { act = c.of-snapshot.result; at = at } in
     let new : Progress = record {
-      marks = c.step_at-made.new.marks;
+      marks = c.step_at.new.marks;
       active = old.active;
       fresh = old.fresh;
       chosen = Some chosen;
     } in
-    let step = c.step_at-made.ensures in
-    let front = front_at me plan old.marks.items place in
-    let inner = ok_has c.step_at-made.result (sym c.is_ok.ensures.value ∙ c.if-is_ok.true) step.inner in
+    let step = c.step_at.ensures in
+    let there = chosen_on me plan old new k a at place found step.same refl c.in_ok-step_at.ensures.inner in
     record {
       progress = kept_on me plan old new k a at place found step.as_long step.same step.mine refl
           refl;
-      chosen = subst (λ (b : Act). IsChosenAt me plan new b at) (sym c.of-snapshot.ensures)
-          (chosen_on me plan old new k a at place found step.same refl inner);
+      chosen = subst (λ (b : Act). IsChosenAt me plan new b at) (sym c.of-snapshot.ensures) there;
       same = ap (λ ms. running me ms (process_of plan.code)) step.same;
-      same_store = step.same_store;
-      has_room = step.has_room;
-      ready = on_ok_weaker c.step_at-made.result
-          (ready_on me plan old new k a at place found s chosen c.step_at-made.new.ready step.same
-          refl refl c.of-snapshot.ensures refl inner) step.own;
-      shown = IfOk-weaker c.step_at-made.result (IsShownBy me s a front)
-          (IsPrepared (local me (runs_by me plan old) s) a)
-          (λ p shown. shows-prepared me s a (runs_by me plan old)
-          (found-front me plan old k a at place found ∙ shown.acts) shown.shown) step.shown;
-      shows = IfOk-weaker c.step_at-made.result (IsShownBy me s a front)
-          (IsShownBy me s a (runs_by me plan old))
-          (λ p shown. record {
-            part = shown.part;
-            acts = found-front me plan old k a at place found ∙ shown.acts;
-            shown = shown.shown;
-          }) step.shown;
-      fault = step.fault;
+      ready = (c.of-snapshot.ensures, there);
     }
 
-pub readying::make_ready-returns-else-is_ok : goal.readying::make_ready-returns-else-is_ok
-readying::make_ready-returns-else-is_ok t c =
+pub readying::make_ready-returns-in_err-step_at-clause-progress : goal.readying::make_ready-returns-in_err-step_at-clause-progress
+readying::make_ready-returns-in_err-step_at-clause-progress t c =
     let me = c.args.me.now in
     let plan = c.args.plan.now in
     let old = c.args.progress.now in
     let a = c.args.found.0.now in
-    let s = store_of c.args.store.now in
     let k = c.requires.progress in
     let at : ℕ = c.args.found.1 in
     let place : ℕ = c.index-place.result.now in
     let found = found-there me plan old k a at _ c.requires.found place c.index-place.ensures in
     let new : Progress = record {
-      marks = c.step_at-made.new.marks;
+      marks = c.step_at.new.marks;
       active = old.active;
       fresh = old.fresh;
       chosen = None;
     } in
-    let step = c.step_at-made.ensures in
-    let failed = sym c.is_ok.ensures.value ∙ c.if-is_ok.false in
-    record {
-      progress = kept_on me plan old new k a at place found step.as_long step.same step.mine refl
-          refl;
-      chosen = tt;
-      same = ap (λ ms. running me ms (process_of plan.code)) step.same;
-      same_store = step.same_store;
-      has_room = step.has_room;
-      ready = not_ok _ c.step_at-made.result failed;
-      shown = none_shown _ c.step_at-made.result failed;
-      shows = none_shown _ c.step_at-made.result failed;
-      fault = step.fault;
-    }
+    let step = c.step_at.ensures in
+    kept_on me plan old new k a at place found step.as_long step.same step.mine refl refl
+
+pub readying::make_ready-returns-in_err-step_at-clause-same : goal.readying::make_ready-returns-in_err-step_at-clause-same
+readying::make_ready-returns-in_err-step_at-clause-same t c =
+    ap (λ ms. running c.args.me.now ms (process_of c.args.plan.now.code)) c.step_at.ensures.same
+
+pub readying::make_ready-returns-in_err-step_at-clause-ready : goal.readying::make_ready-returns-in_err-step_at-clause-ready
+readying::make_ready-returns-in_err-step_at-clause-ready t c =
+    not_here _ c.from_residual.result c.from_residual.ensures.0
 
 -- the mark that is read stands at the place
 pub readying::step_at-prepare-requires : goal.readying::step_at-prepare-requires
@@ -172,9 +147,7 @@ readying::step_at-prepare-requires t c =
 pub readying::step_at-returns-in-Became-clause-same : goal.readying::step_at-returns-in-Became-clause-same
 readying::step_at-returns-in-Became-clause-same t c =
     let me = c.args.me.now in
-    let a = c.args.found.0.now in
     let plan = c.args.plan.now in
-    let s = store_of c.args.store.now in
     let place : ℕ = c.args.found.1 in
     let P = static_at plan place in
     let old = c.args.marks.now.items in
@@ -183,109 +156,24 @@ readying::step_at-returns-in-Became-clause-same t c =
     kept.Untouched in
     let was : mark_in old place ≡ kept.Became c.in-Became.update = sym here ∙ c.in-Became.is in
     let e : c.deref_mut.result.now ≡ c.in-Became.update.value = c.deref_mut.ensures.value in
-    let front_is : c.deref_mut.result.now.process ≡ front_at me plan old place =
-    ap (λ w. w.process) e ∙ ap (λ m. front me (meant me P m) P) (sym was) in
     same_process me plan old place (kept.Became c.in-Became.update) _ inside was
     (ap mark.Became (c.prepare.ensures.same ∙ ap (λ w. w.process) e))
 
 pub readying::step_at-returns-in-Became-clause-mine : goal.readying::step_at-returns-in-Became-clause-mine
 readying::step_at-returns-in-Became-clause-mine t c =
     let me = c.args.me.now in
-    let a = c.args.found.0.now in
-    let plan = c.args.plan.now in
-    let s = store_of c.args.store.now in
     let place : ℕ = c.args.found.1 in
-    let P = static_at plan place in
     let old = c.args.marks.now.items in
     let inside : place < length old = omega (arith, c.requires.inside, c.requires.as_long) in
-    let here = get_or_read old place c.index_mut.result.now inside c.index_mut.ensures.value
-    kept.Untouched in
-    let was : mark_in old place ≡ kept.Became c.in-Became.update = sym here ∙ c.in-Became.is in
-    let e : c.deref_mut.result.now ≡ c.in-Became.update.value = c.deref_mut.ensures.value in
-    let front_is : c.deref_mut.result.now.process ≡ front_at me plan old place =
-    ap (λ w. w.process) e ∙ ap (λ m. front me (meant me P m) P) (sym was) in
     mine_set me old place _ inside c.requires.mine c.prepare.ensures.role
 
 pub readying::step_at-returns-in-Became-clause-inner : goal.readying::step_at-returns-in-Became-clause-inner
 readying::step_at-returns-in-Became-clause-inner t c =
-    let me = c.args.me.now in
     let a = c.args.found.0.now in
-    let plan = c.args.plan.now in
-    let s = store_of c.args.store.now in
     let place : ℕ = c.args.found.1 in
-    let P = static_at plan place in
     let old = c.args.marks.now.items in
     let inside : place < length old = omega (arith, c.requires.inside, c.requires.as_long) in
-    let here = get_or_read old place c.index_mut.result.now inside c.index_mut.ensures.value
-    kept.Untouched in
-    let was : mark_in old place ≡ kept.Became c.in-Became.update = sym here ∙ c.in-Became.is in
-    let e : c.deref_mut.result.now ≡ c.in-Became.update.value = c.deref_mut.ensures.value in
-    let front_is : c.deref_mut.result.now.process ≡ front_at me plan old place =
-    ap (λ w. w.process) e ∙ ap (λ m. front me (meant me P m) P) (sym was) in
     inner_set old place _ inside a c.prepare.result c.prepare.ensures.chosen
-
-pub readying::step_at-returns-in-Became-clause-own : goal.readying::step_at-returns-in-Became-clause-own
-readying::step_at-returns-in-Became-clause-own t c =
-    let me = c.args.me.now in
-    let a = c.args.found.0.now in
-    let plan = c.args.plan.now in
-    let s = store_of c.args.store.now in
-    let place : ℕ = c.args.found.1 in
-    let P = static_at plan place in
-    let old = c.args.marks.now.items in
-    let inside : place < length old = omega (arith, c.requires.inside, c.requires.as_long) in
-    let here = get_or_read old place c.index_mut.result.now inside c.index_mut.ensures.value
-    kept.Untouched in
-    let was : mark_in old place ≡ kept.Became c.in-Became.update = sym here ∙ c.in-Became.is in
-    let e : c.deref_mut.result.now ≡ c.in-Became.update.value = c.deref_mut.ensures.value in
-    let front_is : c.deref_mut.result.now.process ≡ front_at me plan old place =
-    ap (λ w. w.process) e ∙ ap (λ m. front me (meant me P m) P) (sym was) in
-    own_set old place _ inside me s a _ _ c.prepare.new.ready c.prepare.result front_is
-    c.prepare.ensures.own
-
-pub readying::step_at-returns-in-Became-clause-shown : goal.readying::step_at-returns-in-Became-clause-shown
-readying::step_at-returns-in-Became-clause-shown t c =
-    let me = c.args.me.now in
-    let a = c.args.found.0.now in
-    let plan = c.args.plan.now in
-    let s = store_of c.args.store.now in
-    let place : ℕ = c.args.found.1 in
-    let P = static_at plan place in
-    let old = c.args.marks.now.items in
-    let inside : place < length old = omega (arith, c.requires.inside, c.requires.as_long) in
-    let here = get_or_read old place c.index_mut.result.now inside c.index_mut.ensures.value
-    kept.Untouched in
-    let was : mark_in old place ≡ kept.Became c.in-Became.update = sym here ∙ c.in-Became.is in
-    let e : c.deref_mut.result.now ≡ c.in-Became.update.value = c.deref_mut.ensures.value in
-    let front_is : c.deref_mut.result.now.process ≡ front_at me plan old place =
-    ap (λ w. w.process) e ∙ ap (λ m. front me (meant me P m) P) (sym was) in
-    subst (λ (R : Process). IfOk c.prepare.result (IsShownBy me s a R)) front_is
-    c.prepare.ensures.shown
-
-pub readying::step_at-code_ready-requires : goal.readying::step_at-code_ready-requires
-readying::step_at-code_ready-requires t c =
-    let me = c.args.me.now in
-    let a = c.args.found.0.now in
-    let plan = c.args.plan.now in
-    let place : ℕ = c.args.found.1 in
-    let old = c.args.marks.now.items in
-    let P = static_at plan place in
-    let inside : place < length old = omega (arith, c.requires.inside, c.requires.as_long) in
-    let here = get_or_read old place c.index_mut.result.now inside c.index_mut.ensures.value
-    kept.Untouched in
-    let back = ap (set old place) here ∙ set-get_or old place kept.Untouched in
-    let same : old ≡ c.as_slice.result.now = sym (c.as_slice.ensures.value ∙ back) in
-    record {
-      inside = c.requires.inside;
-      as_long = subst (λ (ms : List KeptMark). length ms ≡ plan_len plan) same c.requires.as_long;
-      leaf = subst (λ (ms : List KeptMark). is_leaf (plan_marks me plan ms place) P ≡ true) same
-          c.requires.leaf;
-      own = subst (λ (ms : List KeptMark). runs_update (mark_in ms place) ≡ false) same
-          (read_own old place inside c.index_mut.ensures.value c.in_default.not-Became);
-      offered = subst
-          (λ (ms : List KeptMark). is_offered a (offers me (front_at me plan ms place)) ≡ true) same
-          c.requires.offered;
-    }
 
 pub updates::state_ready-make_ready-requires : goal.updates::state_ready-make_ready-requires
 updates::state_ready-make_ready-requires t c =
@@ -301,28 +189,14 @@ pub updates::state_ready-returns-in-Some : goal.updates::state_ready-returns-in-
 updates::state_ready-returns-in-Some t c =
     let me = c.args.me.now in
     let a = c.args.act.now in
-    let s = store_of c.args.store.now in
     let is = c.in-Runs.is in
     let made = c.make_ready.ensures in
     record {
       sound = (made.progress, made.chosen);
       same = made.same ∙ sym (ap (process_in me) is);
-      same_store = made.same_store;
-      has_room = made.has_room;
       chosen = on_ok_weaker c.make_ready.result
-          (λ k. chosen_of me c.in-Runs.plan c.make_ready.new.progress a
-          c.make_ready.new.progress.chosen k.made.chosen) made.ready;
-      own = on_ok_weaker c.make_ready.result
-          (λ k. record {
-            own = k.own;
-            is = k.is;
-            made = subst (λ (R : Process). IsOwnOf me s a R
-                (fresh_by c.make_ready.new.progress c.make_ready.new.progress.chosen) k.own)
-                (made.same ∙ sym (ap (process_in me) is)) k.made.made;
-          }) made.ready;
-      shown = subst (λ (R : Process). IfOk c.make_ready.result (IsShownBy me s a R))
-          (sym (ap (process_in me) is)) made.shows;
-      fault = made.fault;
+          (chosen_of me c.in-Runs.plan c.make_ready.new.progress a
+          c.make_ready.new.progress.chosen) made.ready;
     }
 
 pub marks::Update::prepare-state_ready-requires : goal.marks::Update::prepare-state_ready-requires

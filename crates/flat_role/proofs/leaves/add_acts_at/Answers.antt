@@ -14,7 +14,7 @@ add_offers_of-requires c =
     (static_at c.args.plan.now c.args.place) c.next_at-next.result c.requires.leaf
     (meant_own c.args.me.now (static_at c.args.plan.now c.args.place)
     (mark_in c.args.marks.now c.args.place) c.requires.own)
-    c.next_at-next.ensures
+    c.next_at-next.ensures.next
 
 pub returns : goal.returns
 returns c =
@@ -22,4 +22,4 @@ returns c =
     let P = static_at c.args.plan.now c.args.place in
     added c.add_offers_of.result c.args.acts.now.items c.add_offers_of.new.acts.items
     (sym (leaf_offers c.args.me.now m P c.requires.leaf))
-    (c.add_offers_of.ensures (front c.args.me.now m P) c.next_at-next.ensures)
+    (c.add_offers_of.ensures (front c.args.me.now m P) c.next_at-next.ensures.next)

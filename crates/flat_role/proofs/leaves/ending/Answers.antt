@@ -6,10 +6,10 @@ use Rattle.flat_role.specs.Leaves.{front}
 use Rattle.role_statuses.specs.Marks as mark
 use Rattle.flat_role.proofs.leaves.ending.Goals as goal
 
-pub returns-in-WhileFollow : goal.returns-in-WhileFollow
-returns-in-WhileFollow c me parts =
+pub returns-in-WhileFollow-clause-next : goal.returns-in-WhileFollow-clause-next
+returns-in-WhileFollow-clause-next c me parts =
     (Nothing, ap (λ o. front me mark.Ending (op_process parts o)) c.in-WhileFollow.is)
 
-pub returns-in-ScopeFollow : goal.returns-in-ScopeFollow
-returns-in-ScopeFollow c me parts =
+pub returns-in-ScopeFollow-clause-next : goal.returns-in-ScopeFollow-clause-next
+returns-in-ScopeFollow-clause-next c me parts =
     (Nothing, ap (λ o. front me mark.Ending (op_process parts o)) c.in-ScopeFollow.is)

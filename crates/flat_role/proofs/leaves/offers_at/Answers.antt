@@ -15,11 +15,11 @@ offers_next-requires c =
     (static_at c.args.plan.now c.args.place) c.next_at-next.result c.requires.leaf
     (meant_own c.args.me.now (static_at c.args.plan.now c.args.place)
     (mark_in c.args.marks.now c.args.place) c.requires.own)
-    c.next_at-next.ensures
+    c.next_at-next.ensures.next
 
 pub returns : goal.returns
 returns c =
     let m = plan_marks c.args.me.now c.args.plan.now c.args.marks.now c.args.place in
     let P = static_at c.args.plan.now c.args.place in
-    c.offers_next.ensures (front c.args.me.now m P) c.next_at-next.ensures
+    c.offers_next.ensures (front c.args.me.now m P) c.next_at-next.ensures.next
     ∙ ap (is_offered c.args.act.now) (sym (leaf_offers c.args.me.now m P c.requires.leaf))

@@ -7,7 +7,7 @@ use Rattle.flat_code.specs.Places.{at, op_process}
 use Rattle.flat_role.proofs.ReplacingLemmas.{follows_room, leads_room, made_for, tells_room}
 use Rattle.flat_role.specs.declared.replacing.What.TheVariants as what
 use Rattle.flat_role.specs.Replacing.{IsRoomFor}
-use Rattle.flat_role.proofs.making_room.room_of.Goals as goal
+use Rattle.flat_role.proofs.making_room.replaced_room.Goals as goal
 
 pub returns-in_ok-lead-in-ScopeLead : goal.returns-in_ok-lead-in-ScopeLead
 returns-in_ok-lead-in-ScopeLead c done =
