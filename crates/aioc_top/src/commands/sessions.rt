@@ -78,12 +78,21 @@ impl Made for SessionText {
 fn join_texts(alloc: Global, texts: Vec<SessionText>) -> Result<Vec<u8>, Memory>
     ensures { IfOk result (λ text. text.items ≡ joined (map text_seen texts.items)) }
 {
-    let mut joined = Vec::new(alloc);
+    let mut joined = Vec::with_capacity(alloc, whole_length(texts.as_slice()))?;
     for session in texts {
         let SessionText { mut text } = session;
         joined.append(&mut text)?;
     }
     Ok(joined)
+}
+
+// How long the texts are together: how much room is made for them at once.
+fn whole_length(texts: &[SessionText]) -> usize {
+    let mut whole: usize = 0;
+    for session in texts {
+        whole = whole.saturating_add(session.text.len());
+    }
+    whole
 }
 
 // Appends the session of this number.

@@ -5,10 +5,10 @@ use Rattle.aioc_top.proofs.Asked.{asked_alone, asked_short}
 use Rattle.aioc_top.proofs.FaultLemmas.{reads_no_sessions}
 use Rattle.aioc_top.proofs.preparing.prepare_alone.Goals as goal
 
-pub read_spelled_alone-spelled-requires : goal.read_spelled_alone-spelled-requires
-read_spelled_alone-spelled-requires g c =
+pub read_spelled_alone-requires : goal.read_spelled_alone-requires
+read_spelled_alone-requires g c =
     let found = sym c.in_ok-command.ensures.spelled ∙ c.in-Some.is in
-    reads_no_sessions c.in-Some.command (asked_alone (word_texts c.args.words.now) c.in-Some.command c.requires found)
+    record { alone = reads_no_sessions c.in-Some.command (asked_alone (word_texts c.args.words.now) c.in-Some.command c.requires.alone found) }
 
 pub returns-clause-ready : goal.returns-clause-ready
 returns-clause-ready g c =

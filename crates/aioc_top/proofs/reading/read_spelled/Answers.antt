@@ -10,7 +10,7 @@ pub returns-in_err-bytes-in-Sessions-clause-fault : goal.returns-in_err-bytes-in
 returns-in_err-bytes-in-Sessions-clause-fault g c =
     let p = err_from_is_err_and c.from_residual.result c.from_residual.ensures.1 in
     rw (p.1, p.2, c.in-Sessions.is)
-    (unread (command.Sessions c.in-Sessions.field-0) (g.S.Source.state c.args.source.now) (g.S.Source.state c.read_text.new.source) refl _ c.in_err-bytes-in-Sessions.ensures.fault)
+    (unread (command.Sessions c.in-Sessions.options) (g.S.Source.state c.args.source.now) (g.S.Source.state c.read_text.new.source) refl _ c.in_err-bytes-in-Sessions.ensures.fault)
 
 pub returns-in_err-read_sessions_by-in-Sessions-clause-fault : goal.returns-in_err-read_sessions_by-in-Sessions-clause-fault
 returns-in_err-read_sessions_by-in-Sessions-clause-fault g c =
@@ -19,5 +19,5 @@ returns-in_err-read_sessions_by-in-Sessions-clause-fault g c =
     let same = c.deref.ensures.value in
     let p = err_from_is_err_and c.from_residual-in_err-read_sessions_by-in-Sessions.result c.from_residual-in_err-read_sessions_by-in-Sessions.ensures.1 in
     rw (p.1, p.2, c.in-Sessions.is)
-    (no_sessions c.in-Sessions.field-0 (g.S.Source.state c.args.source.now) (g.S.Source.state c.read_text.new.source) c.in_ok-bytes-in-Sessions.bytes.items read.bytes read.end read.few read.within _
+    (no_sessions c.in-Sessions.options (g.S.Source.state c.args.source.now) (g.S.Source.state c.read_text.new.source) c.in_ok-bytes-in-Sessions.bytes.items read.bytes read.end read.few read.within _
     (λ other. subst (λ bytes. SpellsNoSessions bytes) same (none.syntax other)) (λ byte is. subst (λ bytes. SessionsEndAtByte bytes byte) same (none.byte byte (ap Err is))))

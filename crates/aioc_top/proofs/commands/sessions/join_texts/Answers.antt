@@ -1,11 +1,14 @@
 -- Each text comes behind those that were joined.
-use Rattle.std.proofs.Common.{◌≡◌, List, [], ◌∷◌, ◌++◌, sym, ap, ◌∙◌, append-nil, append_assoc, arith, length}
+use Rattle.std.proofs.Common.{rules, ◌≡◌, List, [], ◌∷◌, ◌++◌, refl, sym, ap, ◌∙◌, append-nil, append_assoc, arith, length}
 use Rattle.std.specs.Prelude.{map}
 use Rattle.aioc_top.specs.Texts.{joined, text_seen}
 use Rattle.aioc_top.proofs.commands.sessions.join_texts.Goals as goal
 
 pub loop-session-init : goal.loop-session-init
-loop-session-init c = ap (λ texts. joined (map text_seen texts)) c.into_iter-session-iterator.ensures.into_iter_gives.0
+loop-session-init c =
+    let none : c.in_ok-joined.joined.items ≡ [] = (let made = c.in_ok-joined.ensures in search rules) in
+    ap (λ bytes. bytes ++ joined (map text_seen c.into_iter-session-iterator.result.rest.items)) none
+    ∙ ap (λ texts. joined (map text_seen texts)) c.into_iter-session-iterator.ensures.into_iter_gives.0
 
 pub loop-session-preserved : goal.loop-session-preserved
 loop-session-preserved c =
