@@ -1,10 +1,11 @@
 //! What a construct must know of the parts inside it, so that each part is looked at once.
 
-ghost use Rattle.std.specs.Prelude.{◌≡◌, List, ℕ, [], ◌&&◌, not, ◌||◌, map, position, zip, is_none, IfOk};
+ghost use Rattle.std.specs.Prelude.{◌≡◌, List, ℕ, [], ◌&&◌, not, ◌||◌, map, position, true, zip, is_none, IfOk};
 ghost use Rattle.dioc_terms.specs.declared.names.Role.{Role};
 ghost use Rattle.dioc_terms.specs.declared.values.Value.{Value};
 ghost use Rattle.dioc_terms.specs.Equality.{role_eq, member};
 ghost use Rattle.dioc_terms.specs.Expressions.{Expression};
+ghost use Rattle.dioc_terms.specs.Leaves.{is_leaf_term};
 ghost use Rattle.dioc_terms.specs.Terms.{Term, term, Skip, Com, Set, Input, Seq, Par, If, While, Scope};
 ghost use Rattle.connectedness.specs.Connected.{gap_at};
 ghost use Rattle.connectedness.specs.Summaries.{presence_in, in_act, in_sequence, in_parallel, in_choice, in_block, IsGapOf, IsSummary};
@@ -56,19 +57,11 @@ impl Summary {
 }
 
 /// What is known of a choreography.
+#[cycle(summary_of)]
 pub(crate) fn summary_of(alloc: Global, choreo: &Choreo, cast: &[Role]) -> Result<Summary, Memory>
     ensures { IfOk result (IsSummary cast.now (term choreo.now)) }
 {
     match choreo {
-        Choreo::Skip => empty(alloc, cast),
-        Choreo::Com {
-            index,
-            from,
-            to,
-            ..
-        } => act(alloc, cast, *index, from, to),
-        Choreo::Set { index, role, .. } => act(alloc, cast, *index, role, role),
-        Choreo::Input { index, role, .. } => act(alloc, cast, *index, role, role),
         Choreo::Seq(first, second) => {
             let first = summary_of(alloc, first, cast)?;
             let second = summary_of(alloc, second, cast)?;
@@ -95,20 +88,34 @@ pub(crate) fn summary_of(alloc: Global, choreo: &Choreo, cast: &[Role]) -> Resul
             leader,
             body,
             ..
-        } => {
-            let body = summary_of(alloc, body, cast)?;
-            block(alloc, cast, *index, leader, &body, &[])
-        }
+        } => block(alloc, cast, *index, leader, body, &[]),
         Choreo::Scope {
             index,
             leader,
             body,
             extra,
             ..
-        } => {
-            let body = summary_of(alloc, body, cast)?;
-            block(alloc, cast, *index, leader, &body, extra.as_slice())
-        }
+        } => block(alloc, cast, *index, leader, body, extra.as_slice()),
+        leaf => leaf_summary(alloc, leaf, cast),
+    }
+}
+
+/// What is known of a term with no term inside.
+fn leaf_summary(alloc: Global, leaf: &Choreo, cast: &[Role]) -> Result<Summary, Memory>
+    requires { is_leaf_term (term leaf.now) ≡ true }
+    ensures { IfOk result (IsSummary cast.now (term leaf.now)) }
+{
+    match leaf {
+        Choreo::Skip => empty(alloc, cast),
+        Choreo::Com {
+            index,
+            from,
+            to,
+            ..
+        } => act(alloc, cast, *index, from, to),
+        Choreo::Set { index, role, .. } => act(alloc, cast, *index, role, role),
+        Choreo::Input { index, role, .. } => act(alloc, cast, *index, role, role),
+        _ => unreachable!(),
     }
 }
 
@@ -359,22 +366,22 @@ fn in_choice(one_empty: bool, leads: bool, both: Presence) -> Presence
 }
 
 /// What is known of a loop, or of a scope that names these roles further.
+#[cycle(summary_of)]
 fn block(
     alloc: Global,
     cast: &[Role],
     index: Index,
     leader: &Role,
-    body: &Summary,
+    body: &Choreo,
     extra: &[Role],
 ) -> Result<Summary, Memory>
-    ensures looped { IfOk result (λ summary. (g : Expression) (I : Term) →
-        extra.now ≡ [] → IsSummary cast.now I body.now
-        → IsSummary cast.now (While index leader.now g I) summary) }
-    ensures scope { IfOk result (λ summary. (I : Term) (props : List (List ℕ × Value)) (level : ℕ) →
-        IsSummary cast.now I body.now
-        → IsSummary cast.now (Scope index leader.now I extra.now props level) summary) }
+    ensures looped { IfOk result (λ summary. (g : Expression) →
+        extra.now ≡ [] → IsSummary cast.now (While index leader.now g (term body.now)) summary) }
+    ensures scope { IfOk result (λ summary. (props : List (List ℕ × Value)) (level : ℕ) →
+        IsSummary cast.now (Scope index leader.now (term body.now) extra.now props level) summary) }
 {
-    let roles = block_roles(alloc, cast, leader, body, extra)?;
+    let body = summary_of(alloc, body, cast)?;
+    let roles = block_roles(alloc, cast, leader, &body, extra)?;
     Ok(Summary {
         first: Some(index),
         roles,

@@ -72,26 +72,6 @@ pub enum Choreo {
 impl Drop for Choreo {
     fn drop(self) {
         match self {
-            Choreo::Skip => {}
-            Choreo::Com {
-                index: _,
-                op: _,
-                from: _,
-                expr: _,
-                to: _,
-                var: _,
-            } => {}
-            Choreo::Set {
-                index: _,
-                var: _,
-                role: _,
-                expr: _,
-            } => {}
-            Choreo::Input {
-                index: _,
-                var: _,
-                role: _,
-            } => {}
             Choreo::Seq(_, _) => {}
             Choreo::Par(_, _) => {}
             Choreo::If {
@@ -115,11 +95,41 @@ impl Drop for Choreo {
                 props: _,
                 level: _,
             } => {}
+            leaf => leaf.drop_leaf(),
         }
     }
 }
 
 impl Choreo {
+    /// Lets go of a term with no term inside.
+    fn drop_leaf(self)
+        requires { is_leaf_term (term self) ≡ true }
+    {
+        match self {
+            Choreo::Skip => {}
+            Choreo::Com {
+                index: _,
+                op: _,
+                from: _,
+                expr: _,
+                to: _,
+                var: _,
+            } => {}
+            Choreo::Set {
+                index: _,
+                var: _,
+                role: _,
+                expr: _,
+            } => {}
+            Choreo::Input {
+                index: _,
+                var: _,
+                role: _,
+            } => {}
+            _ => unreachable!(),
+        }
+    }
+
     /// A copy, the same term.
     #[cycle(copy_choreo)]
     pub fn copy(&self, alloc: Global) -> Result<Choreo, Memory>

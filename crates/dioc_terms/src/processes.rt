@@ -336,6 +336,67 @@ impl Drop for Proc {
     #[cycle(process)]
     fn drop(self) {
         match self {
+            Proc::Seq(_, _) => {}
+            Proc::Par(_, _) => {}
+            Proc::IfLead {
+                index: _,
+                guard: _,
+                others: _,
+                yes: _,
+                no: _,
+            } => {}
+            Proc::WhileLead {
+                index: _,
+                guard: _,
+                others: _,
+                body: _,
+            } => {}
+            Proc::ScopeLead {
+                head: _,
+                others: _,
+                body: _,
+            } => {}
+            Proc::IfFollow { .. } | Proc::WhileFollow { .. } | Proc::ScopeFollow { .. } => {
+                self.drop_follower();
+            }
+            Proc::Tell { messages: _ } => {}
+            leaf => leaf.drop_leaf(),
+        }
+    }
+}
+
+impl Proc {
+    /// Lets go of a construct that another role leads.
+    #[cycle(process)]
+    fn drop_follower(self)
+        requires { is_follower (process self) ≡ true }
+    {
+        match self {
+            Proc::IfFollow {
+                index: _,
+                leader: _,
+                yes: _,
+                no: _,
+            } => {}
+            Proc::WhileFollow {
+                index: _,
+                leader: _,
+                body: _,
+            } => {}
+            Proc::ScopeFollow {
+                index: _,
+                leader: _,
+                body: _,
+            } => {}
+            _ => unreachable!(),
+        }
+    }
+
+    /// Lets go of a process with neither a process nor messages inside.
+    fn drop_leaf(self)
+        requires { is_leaf_process (process self) ≡ true }
+    {
+        match self {
             Proc::Skip => {}
             Proc::Send {
                 index: _,
@@ -355,44 +416,8 @@ impl Drop for Proc {
                 expr: _,
             } => {}
             Proc::Read { index: _, var: _ } => {}
-            Proc::Seq(_, _) => {}
-            Proc::Par(_, _) => {}
-            Proc::IfLead {
-                index: _,
-                guard: _,
-                others: _,
-                yes: _,
-                no: _,
-            } => {}
-            Proc::IfFollow {
-                index: _,
-                leader: _,
-                yes: _,
-                no: _,
-            } => {}
-            Proc::WhileLead {
-                index: _,
-                guard: _,
-                others: _,
-                body: _,
-            } => {}
-            Proc::WhileFollow {
-                index: _,
-                leader: _,
-                body: _,
-            } => {}
-            Proc::ScopeLead {
-                head: _,
-                others: _,
-                body: _,
-            } => {}
-            Proc::ScopeFollow {
-                index: _,
-                leader: _,
-                body: _,
-            } => {}
-            Proc::Tell { messages: _ } => {}
             Proc::Gather { keys: _ } => {}
+            _ => unreachable!(),
         }
     }
 }

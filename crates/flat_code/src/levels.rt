@@ -34,7 +34,7 @@ pub fn levels_of(alloc: Global, code: &Code) -> Result<Vec<Level>, Memory>
     ensures says { IfOk result (λ levels. IsCodeOf (layout_of code.now.ops.items levels.items)
         (length levels.items) (process_of code.now)) }
 {
-    let mut levels = Vec::new(alloc);
+    let mut levels = Vec::with_capacity(alloc, code.start + 1)?;
     let _ended = add_levels(code, code.start, code.start + 1, &mut levels)?;
     Ok(levels)
 }

@@ -10,7 +10,7 @@ ghost use Rattle.flat_code.specs.Codes.{process_of};
 ghost use Rattle.flat_code.specs.Places.{AreBelow, Extends, IsForm, are_placed, part_places};
 ghost use Rattle.flat_code.specs.RoleCode.{IsPartAdded, IsPartPushed, TwoPartsAreAdded};
 ghost use Rattle.process_steps.specs.Steps.{ended};
-ghost use Rattle.projection.specs.Leaders.{is_construct, leads};
+ghost use Rattle.projection.specs.Leaders.{is_block, is_construct, leads};
 ghost use Rattle.projection.specs.Named.{named_in, names_inside, names_itself, raised};
 ghost use Rattle.projection.specs.Projection.{projected};
 
@@ -175,6 +175,35 @@ fn add_led(
             let op = lead_choice(alloc, *index, guard, others, (yes.place, no.place))?;
             add_op(ops, op, false)
         }
+        Choreo::While { .. } | Choreo::Scope { .. } => {
+            add_led_block(alloc, whole, role, cast, named, ops)
+        }
+        _ => unreachable!(),
+    }
+}
+
+/// The same of a loop or a scope that the role leads.
+#[cycle(compile_role)]
+#[tactic(auto, using(crate::proofs::RoleLemmas::adding_rules))]
+fn add_led_block(
+    alloc: Global,
+    whole: &Choreo,
+    role: &Role,
+    cast: &[Role],
+    named: &mut [bool],
+    ops: &mut Vec<Op>,
+) -> Result<Added, Memory>
+    requires block { is_block (term whole.now) ≡ true }
+    requires leads { leads role.now (term whole.now) ≡ true }
+    requires own { named.old ≡ map (λ q. names_itself q (term whole.now)) cast.now }
+    requires placed { are_placed 0 ops.old.items ≡ true }
+    ensures placed { are_placed 0 ops.new.items ≡ true }
+    ensures appended { Extends ops.old.items ops.new.items }
+    ensures added { IfOk result (λ part. IsPartAdded ops.old.items ops.new.items part
+        (projected cast.now (term whole.now) role.now)) }
+    ensures named { OnOk result (named.new ≡ named_in cast.now (term whole.now)) }
+{
+    match whole {
         Choreo::While {
             index,
             leader,
@@ -237,6 +266,36 @@ fn add_followed(
             let no = add(alloc, no, role, cast, named, ops)?;
             add_choice(alloc, *index, leader, (yes, no), before, ops)
         }
+        Choreo::While { .. } | Choreo::Scope { .. } => {
+            add_followed_block(alloc, whole, role, cast, named, ops)
+        }
+        _ => unreachable!(),
+    }
+}
+
+/// The same of a loop or a scope that another role leads.
+#[cycle(compile_role)]
+#[tactic(auto, using(crate::proofs::RoleLemmas::adding_rules))]
+fn add_followed_block(
+    alloc: Global,
+    whole: &Choreo,
+    role: &Role,
+    cast: &[Role],
+    named: &mut [bool],
+    ops: &mut Vec<Op>,
+) -> Result<Added, Memory>
+    requires block { is_block (term whole.now) ≡ true }
+    requires led { leads role.now (term whole.now) ≡ false }
+    requires placed { are_placed 0 ops.old.items ≡ true }
+    ensures placed { are_placed 0 ops.new.items ≡ true }
+    ensures appended { Extends ops.old.items ops.new.items }
+    ensures added { IfOk result (λ part. IsPartAdded ops.old.items ops.new.items part
+        (projected cast.now (term whole.now) role.now)) }
+    ensures named { OnOk result (named.new
+        ≡ raised (map (λ q. names_inside q (term whole.now)) cast.now) named.old) }
+{
+    let before = ops.len();
+    match whole {
         Choreo::While {
             index,
             leader,

@@ -31,7 +31,7 @@ use Rattle.flat_role.specs.Advancing.{ComesTo, IsActed, IsActingBy, IsReplacedBy
 use Rattle.flat_role.specs.KeptMarks.{meant}
 use Rattle.flat_role.specs.Leaves.{front, is_became}
 use Rattle.flat_role.specs.MovedMarks.{runs_update, stays_itself}
-use Rattle.flat_role.specs.PlanMarks.{low_at, mark_in, plan_layout, plan_len, plan_marks, static_at}
+use Rattle.flat_role.specs.PlanMarks.{mark_in, plan_layout, plan_len, plan_marks, static_at}
 use Rattle.flat_role.specs.Progress.{AreOf, IsFound, IsProgress, marks_by, runs_by}
 use Rattle.flat_role.specs.ReadySteps.{IsOwn, IsOwnOf}
 use Rattle.flat_role.specs.Replacing.{IsRoomWhen, replaces, replacing}
@@ -46,7 +46,7 @@ use Rattle.role_statuses.specs.Entering.{entered, stop}
 use Rattle.role_statuses.specs.Flat.{Marks, inner}
 use Rattle.role_statuses.specs.Kept.{IsKept, marked, running}
 use Rattle.role_statuses.specs.ListLaws.{active, places_of}
-use Rattle.role_statuses.specs.Local.{is_untouched, walk, write}
+use Rattle.role_statuses.specs.Local.{is_untouched, walk}
 use Rattle.role_statuses.specs.Marks.{Mark}
 use Rattle.role_statuses.specs.Marks as role_mark
 use Rattle.role_statuses.specs.Moves.{decided, move, start}

@@ -1,5 +1,5 @@
 -- What is made ready at a place is what another process there needs.
-use Rattle.std.proofs.Common.{◌≡◌, List, Option, None, Some, false, true, refl, sym, subst, ap, ◌∙◌}
+use Rattle.std.proofs.Common.{◌≡◌, List, Option, Some, true, refl, sym, subst, ap, ◌∙◌}
 use Rattle.dioc_terms.specs.declared.names.Index.{Index}
 use Rattle.dioc_terms.specs.declared.names.Role.{Role}
 use Rattle.dioc_terms.specs.declared.processes.Key.{Key}

@@ -1,5 +1,5 @@
 -- An update that stands in another is less deep.
-use Rattle.std.specs.Prelude.{◌≤◌, ◌+◌, ℕ, suc, List, [], ◌∷◌, max}
+use Rattle.std.specs.Prelude.{◌≤◌, List, [], ◌∷◌, max}
 use Rattle.std.proofs.Common.{arith}
 use denote.Param.Weighed.{most}
 use Rattle.flat_role.specs.declared.marks.Mark.{Mark}

@@ -11,6 +11,12 @@ is_construct (While i q g I) = true
 is_construct (Scope i q I extra props level) = true
 is_construct _ = false
 
+-- a loop or a scope
+abbrev pub is_block : Term → Bool
+is_block (While i q g I) = true
+is_block (Scope i q I extra props level) = true
+is_block _ = false
+
 -- a choice, a loop or a scope that the role leads
 abbrev pub leads : Role → Term → Bool
 leads r (If i q g I J) = role_eq r q

@@ -6,7 +6,7 @@ ghost use Rattle.dioc_terms.specs.Leaves.{is_leaf_term};
 ghost use Rattle.dioc_terms.specs.Processes.{process, IfFollow, ScopeFollow, Skip, WhileFollow};
 ghost use Rattle.dioc_terms.specs.Terms.{term, is_in};
 ghost use Rattle.process_steps.specs.Steps.{ended};
-ghost use Rattle.projection.specs.Leaders.{is_construct, leads};
+ghost use Rattle.projection.specs.Leaders.{is_block, is_construct, leads};
 ghost use Rattle.projection.specs.Named.{named_in, names_inside, names_itself, raised};
 ghost use Rattle.projection.specs.Projection.{projected};
 
@@ -136,6 +136,28 @@ fn lead(
             let others = others(alloc, cast, leader, named)?;
             Proc::lead_choice(alloc, *index, guard, others, yes, no)
         }
+        Choreo::While { .. } | Choreo::Scope { .. } => lead_block(alloc, whole, role, cast, named),
+        _ => unreachable!(),
+    }
+}
+
+/// The same of the leader of a loop or a scope.
+#[cycle(project)]
+fn lead_block(
+    alloc: Global,
+    whole: &Choreo,
+    role: &Role,
+    cast: &[Role],
+    named: &mut [bool],
+) -> Result<Proc, Memory>
+    requires block { is_block (term whole.now) ≡ true }
+    requires leads { leads role.now (term whole.now) ≡ true }
+    requires own { named.old ≡ map (λ q. names_itself q (term whole.now)) cast.now }
+    ensures made { IfOk result (λ proc. process proc ≡ projected cast.now (term whole.now)
+        role.now) }
+    ensures named { OnOk result (named.new ≡ named_in cast.now (term whole.now)) }
+{
+    match whole {
         Choreo::While {
             index,
             leader,
@@ -193,6 +215,31 @@ fn follow(
             let no = boxed_part(alloc, no, role, cast, named)?;
             follow_choice(alloc, *index, leader, yes, no)
         }
+        Choreo::While { .. } | Choreo::Scope { .. } => {
+            follow_block(alloc, whole, role, cast, named)
+        }
+        _ => unreachable!(),
+    }
+}
+
+/// The same of a role that doesn't lead the loop or the scope.
+#[cycle(project)]
+#[tactic(auto, using(crate::proofs::Leading::following_rules))]
+fn follow_block(
+    alloc: Global,
+    whole: &Choreo,
+    role: &Role,
+    cast: &[Role],
+    named: &mut [bool],
+) -> Result<Proc, Memory>
+    requires block { is_block (term whole.now) ≡ true }
+    requires led { leads role.now (term whole.now) ≡ false }
+    ensures made { IfOk result (λ proc. process proc ≡ projected cast.now (term whole.now)
+        role.now) }
+    ensures named { OnOk result (named.new
+        ≡ raised (map (λ q. names_inside q (term whole.now)) cast.now) named.old) }
+{
+    match whole {
         Choreo::While {
             index,
             leader,

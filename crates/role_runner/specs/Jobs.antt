@@ -3,9 +3,11 @@ use Rattle.std.specs.Prelude.{◌≡◌, ◌≤◌, ℕ, ◌==◌, List, [], Boo
 use Rattle.std.specs.List.{list_all, list_any}
 use Rattle.dioc_terms.specs.declared.entries.Entry.{Entry}
 use Rattle.dioc_terms.specs.declared.names.Role.{Role}
-use Rattle.dioc_terms.specs.Plain.{PlainBundle}
+use Rattle.dioc_terms.specs.declared.bundles.Bundle.{Bundle}
+use Rattle.dioc_terms.specs.Plain.{PlainBundle, plain}
 use Rattle.flat_role.specs.declared.states.FlatRole.{FlatRole}
 use Rattle.flat_role.specs.FlatStates.{local_of}
+use Rattle.marked_laws.specs.Laws.{IsSound}
 use Rattle.process_steps.specs.Steps.{ended}
 use Rattle.role_runner.specs.declared.threads.Ending.{Ending}
 use Rattle.role_runner.specs.declared.threads.Ending.TheVariants as ending
@@ -32,6 +34,12 @@ pub record OpensJob (stage : Stage) (bundle : PlainBundle) (place : ℕ) (seat :
     pub seated : IsSeated bundle place (view seat)
     pub fresh : (view seat).seen ≡ []
     pub within : place ≤ length bundle.cast
+
+-- a thread can begin with each of the seats, at its place, in a run of a sound bundle
+pub record CanOpen (stage : Stage) (bundle : Bundle) (seats : List HomeSeat) : Type 0 where
+  pub sound : IsSound (plain bundle)
+  pub few : length bundle.cast ≤ 4294967295
+  pub each : (i : ℕ) → IfSome (slice_get seats i) (OpensJob stage (plain bundle) i)
 
 -- the state is that of the role at the place, and tied to the view
 pub record IsOfRole (bundle : PlainBundle) (place : ℕ) (v : View Entry Base) (state : FlatRole)

@@ -4,3 +4,4 @@ pub mod Endings
 pub mod Jobs
 pub mod Plays
 pub mod Starts
+pub mod Runs

@@ -7,6 +7,7 @@ ghost use Rattle.network_steps.specs.Network.{network_ended};
 ghost use Rattle.network_steps.specs.Schedule.{IsPrompt};
 ghost use Rattle.net_core.specs.Nets.{network_at};
 ghost use Rattle.role_runner.specs.Endings.{IsRun};
+ghost use Rattle.role_runner.specs.Runs.{IsWhole};
 ghost use Rattle.schedule.specs.Turns.{has_ended};
 
 use crate::gates::Gate;
@@ -87,14 +88,7 @@ pub fn run<R: Threads + Wait + Sync, G: Gate + Sync>(
 fn run_alone(alloc: Global, bundle: &Bundle, limit: u64) -> Result<Outcome, Memory>
     requires sound { IsSound (plain bundle.now) }
     requires small { limit ≤ 4294967295 }
-    ensures run { IfOk result (λ outcome. IsRun (plain bundle.now) outcome.history.entries) }
-    ensures prompt { IfOk result
-        (λ outcome. IsPrompt (plain bundle.now) outcome.history.entries) }
-    ensures within { IfOk result (λ outcome. length outcome.history.entries ≤ limit) }
-    ensures ended { IfOk result (λ outcome. outcome.ended ≡ network_ended (plain bundle.now).cast
-        (network_at (plain bundle.now) outcome.history.entries)) }
-    ensures full { IfOk result (λ outcome. outcome.ended ≡ false
-        → length outcome.history.entries ≡ limit) }
+    ensures { IfOk result (IsWhole (plain bundle.now) limit) }
 {
     let mut net: Net<FlatRole> = Net::start(alloc, bundle, limit)?;
     match run_seeded(&mut net, None) {

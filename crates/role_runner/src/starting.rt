@@ -1,23 +1,21 @@
 //! The start of the threads of a run. None does anything before all are started, and where one
 //! can't be started all the others go home: a role waits for no thread that isn't there.
 
-ghost use Rattle.std.specs.Prelude.{◌≡◌, ◌≤◌, ℕ, [], IfSome, length, slice_get};
+ghost use Rattle.std.specs.Prelude.{◌≡◌, ◌≤◌, [], length};
 ghost use Rattle.dioc_terms.specs.Plain.{plain};
 ghost use Rattle.marked_laws.specs.Laws.{IsSound};
-ghost use Rattle.role_runner.specs.Jobs.{EachAt, EndsJob, OpensJob};
+ghost use Rattle.role_runner.specs.Jobs.{CanOpen, EachAt, EndsJob, OpensJob};
 ghost use Rattle.role_runner.specs.Starts.{Gives, IsStarted};
 ghost use Rattle.stage.specs.Stages.{IsSeatIn};
 ghost use Rattle.turn_lock.specs.Words.{view};
 
-use crate::actors::Actor;
+use crate::actors::{Actor, Shared};
 use crate::feeding::feed;
 use crate::gates::Gate;
 use crate::playing::play;
-use crate::sign::Sign;
 use crate::threads::Job;
 use dioc_terms::Bundle;
 use stage::{Home, Stage};
-use std::alloc::Global;
 use std::snapshot::Snapshot;
 use std::sync::Wait;
 use std::thread::{self, Promise, PromisedHandle, Scope, Threads};
@@ -48,42 +46,33 @@ pub(crate) enum Started {
 /// started: else each went home. There is room for all of them.
 pub(crate) fn run_jobs<R: Threads + Wait + Sync, G: Gate + Sync>(
     rt: &R,
-    alloc: Global,
     stage: &Stage,
     bundle: &Bundle,
-    gate: &G,
+    shared: &Shared<'_, G>,
     seats: Vec<Seat<Home>>,
     started: Vec<Started>,
     jobs: Vec<Job>,
 ) -> (Vec<Job>, bool)
-    requires sound { IsSound (plain bundle.now) }
-    requires few { length bundle.now.cast ≤ 4294967295 }
-    requires opens { (i : ℕ) → IfSome (slice_get seats.items i)
-        (OpensJob stage.now (plain bundle.now) i) }
+    requires opens { CanOpen stage.now bundle.now seats.items }
     requires started { (started.items ≡ []) × (length seats.items ≤ started.cap) }
     requires jobs { (jobs.items ≡ []) × (length seats.items ≤ jobs.cap) }
     ensures all { length result.0.items ≡ length seats.items }
     ensures ends { EachAt (EndsJob stage.now (plain bundle.now)) seats.items result.0.items }
 {
-    let sign = Sign::new();
-    let sign = &sign;
+    let (alloc, gate, sign) = (shared.alloc, shared.gate, shared.sign);
     thread::scope(
         thread::scope_env(),
         rt,
         move |scope| -> (Vec<Job>, bool)
-            requires sound { IsSound (plain bundle.now) }
-            requires few { length bundle.now.cast ≤ 4294967295 }
-            requires opens { (i : ℕ) → IfSome (slice_get seats.items i)
-                (OpensJob stage.now (plain bundle.now) i) }
+            requires opens { CanOpen stage.now bundle.now seats.items }
             requires started { (started.items ≡ []) × (length seats.items ≤ started.cap) }
             requires jobs { (jobs.items ≡ []) × (length seats.items ≤ jobs.cap) }
             ensures all { length result.0.items ≡ length seats.items }
             ensures ends { EachAt (EndsJob stage.entry.now (plain bundle.entry.now)) seats.items
                 result.0.items }
         {
-            let (started, are_whole) = start_all(
-                scope, rt, alloc, stage, bundle, gate, sign, seats, started,
-            );
+            let shared = Shared { alloc, gate, sign };
+            let (started, are_whole) = start_all(scope, rt, stage, bundle, &shared, seats, started);
             sign.give(rt, true);
             (join_all(rt, started, jobs), are_whole)
         },
@@ -95,18 +84,13 @@ pub(crate) fn run_jobs<R: Threads + Wait + Sync, G: Gate + Sync>(
 fn start_all<'s, E, R: Threads + Wait + Sync, G: Gate + Sync>(
     scope: &Scope<'s, E>,
     rt: &'s R,
-    alloc: Global,
     stage: &'s Stage,
     bundle: &'s Bundle,
-    gate: &'s G,
-    sign: &'s Sign,
+    shared: &Shared<'s, G>,
     seats: Vec<Seat<Home>>,
     started: Vec<Started>,
 ) -> (Vec<Started>, bool)
-    requires sound { IsSound (plain bundle.now) }
-    requires few { length bundle.now.cast ≤ 4294967295 }
-    requires opens { (i : ℕ) → IfSome (slice_get seats.items i)
-        (OpensJob stage.now (plain bundle.now) i) }
+    requires opens { CanOpen stage.now bundle.now seats.items }
     requires started { (started.items ≡ []) × (length seats.items ≤ started.cap) }
     ensures all { length result.0.items ≡ length seats.items }
     ensures starts { EachAt (IsStarted stage.now (plain bundle.now)) seats.items result.0.items }
@@ -115,7 +99,7 @@ fn start_all<'s, E, R: Threads + Wait + Sync, G: Gate + Sync>(
     let mut are_whole = true;
     for seat in seats {
         let place = started.len();
-        let one = start(scope, rt, alloc, stage, bundle, gate, sign, place, seat);
+        let one = start(scope, rt, stage, bundle, shared, place, seat);
         are_whole = are_whole && one.is_there();
         started.push_reserved(one);
     }
@@ -127,11 +111,9 @@ fn start_all<'s, E, R: Threads + Wait + Sync, G: Gate + Sync>(
 fn start<'s, E, R: Threads + Wait + Sync, G: Gate + Sync>(
     scope: &Scope<'s, E>,
     rt: &'s R,
-    alloc: Global,
     stage: &'s Stage,
     bundle: &'s Bundle,
-    gate: &'s G,
-    sign: &'s Sign,
+    shared: &Shared<'s, G>,
     place: usize,
     seat: Seat<Home>,
 ) -> Started
@@ -146,7 +128,11 @@ fn start<'s, E, R: Threads + Wait + Sync, G: Gate + Sync>(
         place,
         seat: Snapshot::of(&seat),
     };
-    let job = move || run_place(rt, alloc, stage, bundle, gate, sign, place, seat);
+    let (alloc, gate, sign) = (shared.alloc, shared.gate, shared.sign);
+    let job = move || {
+        let shared = Shared { alloc, gate, sign };
+        run_place(rt, stage, bundle, &shared, place, seat)
+    };
     match scope.spawn_with(leaves, job) {
         Ok(handle) => Started::There(handle),
         Err(refused) => {
@@ -190,11 +176,9 @@ fn join<R: Threads>(rt: &R, one: Started) -> Job
 /// changes of the script. Where the sign is to go home the seat comes back as it was.
 fn run_place<R: Wait, G: Gate>(
     rt: &R,
-    alloc: Global,
     stage: &Stage,
     bundle: &Bundle,
-    gate: &G,
-    sign: &Sign,
+    shared: &Shared<'_, G>,
     place: usize,
     seat: Seat<Home>,
 ) -> Job
@@ -204,16 +188,16 @@ fn run_place<R: Wait, G: Gate>(
     ensures ends { EndsJob stage.now (plain bundle.now) place seat result }
 {
     dioc_terms::casts_are_roles();
-    if !sign.begins(rt) {
+    if !shared.sign.begins(rt) {
         return Job { seat, state: None };
     }
     match bundle.cast.as_slice().get(place) {
         Some(role) => {
             let actor = Actor {
-                alloc,
+                alloc: shared.alloc,
                 stage,
                 bundle,
-                gate,
+                gate: shared.gate,
                 role,
                 place: place as u32,
             };
@@ -221,7 +205,7 @@ fn run_place<R: Wait, G: Gate>(
             Job { seat, state }
         }
         None => {
-            let (seat, _fault) = feed(rt, stage, gate, place, seat);
+            let (seat, _fault) = feed(rt, stage, shared.gate, place, seat);
             Job { seat, state: None }
         }
     }

@@ -9,7 +9,9 @@ ghost use Rattle.stage.specs.Seats.{opening_views};
 ghost use Rattle.stage.specs.Stages.{IsSeatIn};
 ghost use Rattle.turn_lock.specs.Words.{view};
 
+use crate::actors::Shared;
 use crate::gates::Gate;
+use crate::sign::Sign;
 use crate::starting::{Started, run_jobs};
 use dioc_terms::{Bundle, Memory};
 use dpoc_process::Runs;
@@ -78,7 +80,13 @@ pub fn run_roles<R: Threads + Wait + Sync, G: Gate + Sync>(
     else {
         return (seats, Some(Ending::Memory));
     };
-    let (jobs, are_whole) = run_jobs(rt, alloc, stage, bundle, gate, seats, started, jobs);
+    let sign = Sign::new();
+    let shared = Shared {
+        alloc,
+        gate,
+        sign: &sign,
+    };
+    let (jobs, are_whole) = run_jobs(rt, stage, bundle, &shared, seats, started, jobs);
     let ending = ending_if(are_whole, jobs.as_slice(), bundle.cast.len(), limit);
     (close_jobs(jobs, back), ending)
 }

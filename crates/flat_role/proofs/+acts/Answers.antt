@@ -4,7 +4,6 @@ use Rattle.std.specs.List.{between}
 use Rattle.std.proofs.lemmas.List.{append_assoc, get_or_default}
 use Rattle.std.proofs.lemmas.List.Edits.{between_none}
 use Rattle.std.proofs.lemmas.Slice.{between_to_end}
-use Rattle.dioc_terms.specs.declared.entries.Act.{Act}
 use Rattle.flat_role.specs.declared.marks.Mark.{Mark}
 use Rattle.flat_role.specs.Leaves.{is_leaf}
 use Rattle.flat_role.specs.PlanMarks.{plan_layout, plan_len, plan_marks, static_at}

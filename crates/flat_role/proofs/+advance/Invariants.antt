@@ -1,5 +1,5 @@
 -- An update in a mark is less deep than all marks.
-use Rattle.std.proofs.Common.{◌≡◌, ◌+◌, ◌*◌}
+use Rattle.std.proofs.Common.{◌+◌, ◌*◌}
 use Rattle.flat_role.specs.Updates.{deepest, depth_in}
 use Rattle.flat_role.proofs.+advance.Given as goal
 

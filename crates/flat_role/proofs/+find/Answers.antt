@@ -1,18 +1,17 @@
 -- The first of the places that offers the act.
-use Rattle.std.proofs.Common.{suc, Some, ◌≡◌, ◌<◌, ◌≤◌, ℕ, List, Bool, length, get_or, false, true, refl, sym, ap, ap₂, ◌∙◌, subst, arith, take}
+use Rattle.std.proofs.Common.{suc, Some, ◌≡◌, ◌<◌, ◌≤◌, ℕ, List, Bool, length, get_or, sym, ap, ap₂, ◌∙◌, subst, arith}
 use Rattle.std.specs.List.{list_any}
-use Rattle.std.specs.Option.{is_some}
 use Rattle.std.proofs.lemmas.List.{get_or_default, take_all}
 use Rattle.dioc_terms.specs.Processes.{process}
 use Rattle.dpoc_process.proofs.ActingLemmas.{acting-offered}
 use Rattle.flat_role.specs.declared.marks.Mark.{Mark}
 use Rattle.flat_role.specs.Leaves.{is_leaf}
-use Rattle.flat_role.specs.PlanMarks.{mark_in, plan_len, plan_marks, static_at}
+use Rattle.flat_role.specs.PlanMarks.{plan_len, plan_marks, static_at}
 use Rattle.flat_role.specs.Progress.{AreOf, IsFound, IsOf, marks_by, offers_there, runs_by}
 use Rattle.flat_role.specs.Updates.{deepest}
 use Rattle.flat_role.proofs.FoundLemmas.{found-offered}
 use Rattle.flat_role.proofs.MineLemmas.{less_deep}
-use Rattle.flat_role.proofs.NextLemmas.{read_own, read_update}
+use Rattle.flat_role.proofs.NextLemmas.{read_update}
 use Rattle.flat_role.proofs.ProgressLemmas.{found-at, none-found, none_passes, place-acts, place-inside}
 use Rattle.flat_role.proofs.UpdateFacts.{found_says, maps_some, more_fail, process_at, process_seen, sound_at}
 use Rattle.process_steps.specs.Steps.{is_offered, offers}

@@ -1,5 +1,5 @@
 -- A mark holds no deeper updates than all marks.
-use Rattle.std.proofs.Common.{◌≡◌, ◌<◌, ◌≤◌, ℕ, length, arith}
+use Rattle.std.proofs.Common.{◌<◌, ◌≤◌, length, arith}
 use Rattle.flat_role.specs.Updates.{deepest, depth_of}
 use Rattle.flat_role.proofs.MineLemmas.{deep_at}
 use Rattle.flat_role.proofs.+len.Goals as goal

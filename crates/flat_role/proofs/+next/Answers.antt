@@ -1,5 +1,5 @@
 -- What is next at the place that does the act, and of an update there what is next of it.
-use Rattle.std.proofs.Common.{suc, ◌≡◌, ◌<◌, ◌≤◌, ℕ, List, Some, None, false, length, get_or, refl, sym, ap, ◌∙◌, subst, arith}
+use Rattle.std.proofs.Common.{suc, ◌≡◌, ◌<◌, ◌≤◌, ℕ, List, Some, None, false, length, refl, sym, ap, ◌∙◌, subst, arith}
 use Rattle.std.specs.Option.{is_some}
 use Rattle.dioc_terms.specs.declared.entries.Act.{Act}
 use Rattle.dioc_terms.specs.Processes.{Process, Tell, letters}
@@ -8,8 +8,8 @@ use Rattle.flat_role.specs.declared.leaves.Next.TheVariants as next
 use Rattle.flat_role.specs.declared.marks.Mark.{Mark as KeptMark}
 use Rattle.flat_role.specs.declared.marks.Mark.TheVariants as kept
 use Rattle.flat_role.specs.MovedMarks.{runs_update}
-use Rattle.flat_role.specs.PlanMarks.{mark_in, plan_len}
-use Rattle.flat_role.specs.Progress.{IsOf, runs_by}
+use Rattle.flat_role.specs.PlanMarks.{mark_in}
+use Rattle.flat_role.specs.Progress.{IsOf}
 use Rattle.flat_role.specs.Leaves.{IsNext}
 use Rattle.flat_role.specs.ReadySteps.{IsNextOf, front_at}
 use Rattle.flat_role.specs.Updates.{chosen_in, deepest, depth_in, fresh_by, fresh_in, is_fresh}
@@ -49,7 +49,8 @@ readying::next_of-next-requires t c =
     let at = c.chosen_place.result in
     let place : ℕ = c.index-place.result.now in
     let read = c.index-place.ensures in
-    let found = chosen_found me plan progress k a c.requires.chosen at c.chosen_place.ensures place read in
+    let found = chosen_found me plan progress k a c.requires.chosen at c.chosen_place.ensures place
+    read in
     let there = found-inside me plan progress k a at place found in
     let inside : place < length progress.marks.items = omega (arith, there, k.as_long) in
     let was : mark_in progress.marks.items place ≡ kept.Became c.in-Became.update =
@@ -83,7 +84,8 @@ readying::next_of-returns-in-Became t c =
     let at = c.chosen_place.result in
     let place : ℕ = c.index-place.result.now in
     let read = c.index-place.ensures in
-    let found = chosen_found me plan progress k a c.requires.chosen at c.chosen_place.ensures place read in
+    let found = chosen_found me plan progress k a c.requires.chosen at c.chosen_place.ensures place
+    read in
     let there = found-inside me plan progress k a at place found in
     let inside : place < length progress.marks.items = omega (arith, there, k.as_long) in
     let was : mark_in progress.marks.items place ≡ kept.Became c.in-Became.update =
@@ -189,7 +191,8 @@ marks::Update::next-returns-in-Told t c =
     ap fresh_in (sym c.in-Told.is) ∙ ap (λ v. v.fresh) c.self.view_is in
     subst (λ b. IsNextOf me a c.args.self.now.process b n) fresh
     (subst (λ (R : Process). IsNextOf me a R false n) told
-    (told_next me a (letters c.in-Told.messages.value) n (ap (λ ms. Tell (letters ms)) (sym c.deref.ensures)) refl
+    (told_next me a (letters c.in-Told.messages.value) n
+    (ap (λ ms. Tell (letters ms)) (sym c.deref.ensures)) refl
     (ap (λ (R : Process). is_some (acting me a R)) told ∙ c.requires.acts)))
 
 none_some : {a : Act} → None ≡ Some a → ⊥

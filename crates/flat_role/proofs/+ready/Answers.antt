@@ -1,38 +1,30 @@
 -- The place that was found does what the process does, and what is made ready there keeps it. An
 -- update that is put in another form is the same process, so its mark stands for the same.
-use Rattle.std.proofs.Common.{Bool, Result, Ok, Err, suc, ◌≤◌, ◌≡◌, ◌<◌, ℕ, List, Option, false, true, length, get_or, set, refl, sym, ap, ◌∙◌, subst, arith, Some, None}
+use Rattle.std.proofs.Common.{Bool, Result, Ok, Err, suc, ◌≤◌, ◌≡◌, ◌<◌, ℕ, false, true, length, refl, sym, ap, ◌∙◌, subst, arith, Some, None}
 use Rattle.std.specs.Prelude.{IsErr, OnOk}
-use Rattle.std.proofs.lemmas.List.{get_or-set_same, get_or_read, set-get_or}
-use Rattle.std.proofs.lemmas.Result.{IfOk-weaker, on_ok_weaker}
-use Rattle.dioc_terms.specs.KeptStores.{store_of}
+use Rattle.std.proofs.lemmas.List.{get_or_read}
+use Rattle.std.proofs.lemmas.Result.{on_ok_weaker}
 use Rattle.dioc_terms.specs.Processes.{Process}
 use Rattle.dpoc_process.proofs.ActingLemmas.{acting-offered}
-use Rattle.dpoc_process.proofs.StateLemmas.{shows-prepared}
 use Rattle.std.specs.Option.{is_some}
 use Rattle.dpoc_process.specs.Acting.{acting}
 use Rattle.flat_role.proofs.ChosenLemmas.{chosen_of}
-use Rattle.dpoc_process.specs.RoleLaws.{local}
-use Rattle.dpoc_process.specs.RoleSteps.{IsPrepared}
-use Rattle.flat_role.proofs.FoundLemmas.{found-front, found-inside, found-leaf, found-there, front-offered, same_process}
+use Rattle.flat_role.proofs.FoundLemmas.{found-inside, found-there, front-offered, same_process}
 use Rattle.flat_role.proofs.MineLemmas.{less_deep, mine_set}
 use Rattle.flat_role.proofs.ReadyLemmas.{chosen_on, kept_on, inner_set}
-use Rattle.flat_role.proofs.UpdateFacts.{process_by, process_again, role_is, sound_again, sound_by}
+use Rattle.flat_role.proofs.UpdateFacts.{process_by, sound_again}
 use Rattle.flat_role.specs.declared.marks.Mark.TheVariants as kept
 use Rattle.flat_role.specs.KeptMarks.{meant}
-use Rattle.flat_role.specs.Leaves.{front, is_leaf}
+use Rattle.flat_role.specs.Leaves.{front}
 use Rattle.dioc_terms.specs.declared.entries.Act.{Act}
 use Rattle.flat_code.specs.Codes.{process_of}
-use Rattle.flat_role.specs.declared.marks.Mark.{Mark as KeptMark}
 use Rattle.flat_role.specs.declared.marks.State.{State}
 use Rattle.flat_role.specs.declared.progress.Progress.{Progress}
 use Rattle.flat_role.specs.declared.steps.Chosen.{Chosen}
-use Rattle.flat_role.specs.MovedMarks.{runs_update}
-use Rattle.flat_role.specs.PlanMarks.{mark_in, plan_len, plan_marks, static_at}
-use Rattle.flat_role.specs.Updates.{IsChosenAt, IsSound, deepest, depth_in, fresh_by, process_in}
-use Rattle.flat_role.proofs.NextLemmas.{read_own}
+use Rattle.flat_role.specs.PlanMarks.{mark_in, static_at}
+use Rattle.flat_role.specs.Updates.{IsChosenAt, IsSound, deepest, depth_in, process_in}
 use Rattle.role_statuses.specs.Kept.{running}
 use Rattle.flat_role.specs.Progress.{IsOf, runs_by}
-use Rattle.flat_role.specs.ReadySteps.{IsKeptOwn, IsOwnOf, IsShownBy, front_at}
 use Rattle.process_steps.specs.Steps.{is_offered, offers}
 use Rattle.role_statuses.specs.Marks as mark
 use Rattle.flat_role.proofs.+ready.Goals as goal
@@ -81,7 +73,8 @@ readying::make_ready-returns t c =
       chosen = Some chosen;
     } in
     let step = c.step_at.ensures in
-    let there = chosen_on me plan old new k a at place found step.same refl c.in_ok-step_at.ensures.inner in
+    let there = chosen_on me plan old new k a at place found step.same refl
+    c.in_ok-step_at.ensures.inner in
     record {
       progress = kept_on me plan old new k a at place found step.as_long step.same step.mine refl
           refl;

@@ -37,14 +37,14 @@ add_followed-returns-in_ok-no-in-If-clause-added t c =
     c.in_ok-no-in-If.no c.len-before.result is c.requires.led (omega (arith, c.len-before.ensures)) c.add.ensures.appended c.in_ok-yes-in-If.ensures.added c.add-in-If.ensures.appended
     c.in_ok-no-in-If.ensures.added c.add_choice.ensures.added
 
-pub add_followed-returns-in_ok-body-in-While-clause-added : goal.add_followed-returns-in_ok-body-in-While-clause-added
-add_followed-returns-in_ok-body-in-While-clause-added t c =
-    let is = loop_at c.in-While.body.value c.deref-in-While.result.now (ap term c.in-While.is) c.deref-in-While.ensures in
-    followed_loop c.add_loop.result c.args.cast.now c.args.role.now c.args.ops.now.items c.add-in-While.new.ops.items c.add_loop.new.ops.items c.in_ok-body-in-While.body c.len-before.result is
-    c.requires.led (omega (arith, c.len-before.ensures)) c.add-in-While.ensures.appended c.in_ok-body-in-While.ensures.added c.add_loop.ensures.added
+pub add_followed_block-returns-in_ok-body-in-While-clause-added : goal.add_followed_block-returns-in_ok-body-in-While-clause-added
+add_followed_block-returns-in_ok-body-in-While-clause-added t c =
+    let is = loop_at c.in-While.body.value c.deref.result.now (ap term c.in-While.is) c.deref.ensures in
+    followed_loop c.add_loop.result c.args.cast.now c.args.role.now c.args.ops.now.items c.add.new.ops.items c.add_loop.new.ops.items c.in_ok-body-in-While.body c.len-before.result is
+    c.requires.led (omega (arith, c.len-before.ensures)) c.add.ensures.appended c.in_ok-body-in-While.ensures.added c.add_loop.ensures.added
 
-pub add_followed-returns-in_ok-body-in-Scope-clause-added : goal.add_followed-returns-in_ok-body-in-Scope-clause-added
-add_followed-returns-in_ok-body-in-Scope-clause-added t c =
+pub add_followed_block-returns-in_ok-body-in-Scope-clause-added : goal.add_followed_block-returns-in_ok-body-in-Scope-clause-added
+add_followed_block-returns-in_ok-body-in-Scope-clause-added t c =
     let is = scope_at c.in-Scope.body.value c.deref-in-Scope.result.now (ap term c.in-Scope.is) c.deref-in-Scope.ensures in
     followed_scope c.add_scope.result c.args.cast.now c.args.role.now c.args.ops.now.items c.add-in-Scope.new.ops.items c.add_scope.new.ops.items c.in_ok-body-in-Scope.body c.len-before.result
     c.names_itself.result is c.requires.led (omega (arith, c.len-before.ensures)) c.names_itself.ensures c.add-in-Scope.ensures.appended c.in_ok-body-in-Scope.ensures.added
@@ -64,30 +64,30 @@ add_led-returns-in_ok-op-in-If-clause-named t c =
     IfOk-weaker c.add_op.result _ _
     (λ part pushed. choice_flags c.args.cast.now c.args.named.now c.add.new.named c.add-in-If.new.named is c.requires.own c.in_ok-yes-in-If.ensures.named c.in_ok-no-in-If.ensures.named) c.add_op.ensures.pushed
 
-pub add_led-returns-in_ok-op-in-While-clause-added : goal.add_led-returns-in_ok-op-in-While-clause-added
-add_led-returns-in_ok-op-in-While-clause-added t c =
-    let is = loop_at c.in-While.body.value c.deref-in-While.result.now (ap term c.in-While.is) c.deref-in-While.ensures in
-    let flags = loop_flags c.args.cast.now c.args.named.now c.add-in-While.new.named is c.requires.own c.in_ok-body-in-While.ensures.named in
-    led_loop c.add_op-in-While.result c.args.cast.now c.args.role.now c.in_ok-others-in-While.others c.add-in-While.new.named c.args.ops.now.items c.add-in-While.new.ops.items
-    c.add_op-in-While.new.ops.items c.in_ok-body-in-While.body c.in_ok-op-in-While.op is c.requires.leads c.in_ok-others-in-While.ensures flags c.in_ok-body-in-While.ensures.added
-    c.in_ok-op-in-While.ensures c.add_op-in-While.ensures.pushed
+pub add_led_block-returns-in_ok-op-in-While-clause-added : goal.add_led_block-returns-in_ok-op-in-While-clause-added
+add_led_block-returns-in_ok-op-in-While-clause-added t c =
+    let is = loop_at c.in-While.body.value c.deref.result.now (ap term c.in-While.is) c.deref.ensures in
+    let flags = loop_flags c.args.cast.now c.args.named.now c.add.new.named is c.requires.own c.in_ok-body-in-While.ensures.named in
+    led_loop c.add_op.result c.args.cast.now c.args.role.now c.in_ok-others-in-While.others c.add.new.named c.args.ops.now.items c.add.new.ops.items
+    c.add_op.new.ops.items c.in_ok-body-in-While.body c.in_ok-op-in-While.op is c.requires.leads c.in_ok-others-in-While.ensures flags c.in_ok-body-in-While.ensures.added
+    c.in_ok-op-in-While.ensures c.add_op.ensures.pushed
 
-pub add_led-returns-in_ok-op-in-While-clause-named : goal.add_led-returns-in_ok-op-in-While-clause-named
-add_led-returns-in_ok-op-in-While-clause-named t c =
-    let is = loop_at c.in-While.body.value c.deref-in-While.result.now (ap term c.in-While.is) c.deref-in-While.ensures in
-    IfOk-weaker c.add_op-in-While.result _ _
-    (λ part pushed. loop_flags c.args.cast.now c.args.named.now c.add-in-While.new.named is c.requires.own c.in_ok-body-in-While.ensures.named) c.add_op-in-While.ensures.pushed
+pub add_led_block-returns-in_ok-op-in-While-clause-named : goal.add_led_block-returns-in_ok-op-in-While-clause-named
+add_led_block-returns-in_ok-op-in-While-clause-named t c =
+    let is = loop_at c.in-While.body.value c.deref.result.now (ap term c.in-While.is) c.deref.ensures in
+    IfOk-weaker c.add_op.result _ _
+    (λ part pushed. loop_flags c.args.cast.now c.args.named.now c.add.new.named is c.requires.own c.in_ok-body-in-While.ensures.named) c.add_op.ensures.pushed
 
-pub add_led-returns-in_ok-head-in-Scope-clause-added : goal.add_led-returns-in_ok-head-in-Scope-clause-added
-add_led-returns-in_ok-head-in-Scope-clause-added t c =
+pub add_led_block-returns-in_ok-head-in-Scope-clause-added : goal.add_led_block-returns-in_ok-head-in-Scope-clause-added
+add_led_block-returns-in_ok-head-in-Scope-clause-added t c =
     let is = scope_at c.in-Scope.body.value c.deref-in-Scope.result.now (ap term c.in-Scope.is) c.deref-in-Scope.ensures in
     let flags = scope_flags c.args.cast.now c.args.named.now c.add-in-Scope.new.named is c.requires.own c.in_ok-body-in-Scope.ensures.named in
     led_scope c.add_op-in-Scope.result c.args.cast.now c.args.role.now c.in_ok-others-in-Scope.others c.add-in-Scope.new.named c.args.ops.now.items c.add-in-Scope.new.ops.items
     c.add_op-in-Scope.new.ops.items c.in_ok-body-in-Scope.body c.lead_scope.result is c.requires.leads c.in_ok-head-in-Scope.ensures c.in_ok-others-in-Scope.ensures flags
     c.in_ok-body-in-Scope.ensures.added c.lead_scope.ensures c.add_op-in-Scope.ensures.pushed
 
-pub add_led-returns-in_ok-head-in-Scope-clause-named : goal.add_led-returns-in_ok-head-in-Scope-clause-named
-add_led-returns-in_ok-head-in-Scope-clause-named t c =
+pub add_led_block-returns-in_ok-head-in-Scope-clause-named : goal.add_led_block-returns-in_ok-head-in-Scope-clause-named
+add_led_block-returns-in_ok-head-in-Scope-clause-named t c =
     let is = scope_at c.in-Scope.body.value c.deref-in-Scope.result.now (ap term c.in-Scope.is) c.deref-in-Scope.ensures in
     IfOk-weaker c.add_op-in-Scope.result _ _
     (λ part pushed. scope_flags c.args.cast.now c.args.named.now c.add-in-Scope.new.named is c.requires.own c.in_ok-body-in-Scope.ensures.named) c.add_op-in-Scope.ensures.pushed

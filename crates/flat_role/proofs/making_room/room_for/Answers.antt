@@ -1,5 +1,5 @@
 -- There is room for the first act of a place alone.
-use Rattle.std.proofs.Common.{◌≡◌, sym, subst}
+use Rattle.std.proofs.Common.{sym, subst}
 use Rattle.std.specs.Prelude.{IfOk}
 use Rattle.dioc_terms.specs.Processes.{Process}
 use Rattle.flat_role.specs.declared.leaves.Next.{Next}

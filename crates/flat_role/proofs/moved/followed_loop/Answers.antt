@@ -5,8 +5,7 @@ use Rattle.flat_role.specs.declared.marks.Mark.TheVariants as kept
 use Rattle.flat_role.specs.MovedMarks.{body_or, came}
 use Rattle.flat_role.proofs.MovedLemmas.{moves_as}
 use Rattle.flat_role.proofs.OpMoveLemmas.{loop_ended, loop_followed}
-use Rattle.flat_role.specs.MovedMarks.{runs_update}
-use Rattle.flat_role.proofs.OwnMarks.{body_own, either_own, gathered_own, left_own, own_by, scope_own, told_own, turn_own}
+use Rattle.flat_role.proofs.OwnMarks.{body_own, either_own, own_by}
 use Rattle.flat_role.proofs.moved.followed_loop.Goals as goal
 
 pub returns-in-Ending : goal.returns-in-Ending

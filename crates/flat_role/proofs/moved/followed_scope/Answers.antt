@@ -7,8 +7,7 @@ use Rattle.flat_role.specs.MovedMarks.{awaited_or}
 use Rattle.flat_role.proofs.MovedLemmas.{moves_as}
 use Rattle.flat_role.proofs.OpMoveLemmas.{part_ended, part_awaited, part_followed}
 use Rattle.flat_role.specs.declared.marks.Mark.TheVariants as kept
-use Rattle.flat_role.specs.MovedMarks.{runs_update}
-use Rattle.flat_role.proofs.OwnMarks.{body_own, either_own, gathered_own, left_own, own_by, scope_own, told_own, turn_own}
+use Rattle.flat_role.proofs.OwnMarks.{body_own, own_by}
 use Rattle.flat_role.proofs.moved.followed_scope.Goals as goal
 
 -- there is one message

@@ -5,8 +5,7 @@ use Rattle.flat_role.specs.declared.marks.Mark.TheVariants as kept
 use Rattle.flat_role.specs.MovedMarks.{count_from, gathered_or, left_or, told_or, turn_or}
 use Rattle.flat_role.proofs.MovedLemmas.{moves_as}
 use Rattle.flat_role.proofs.OpMoveLemmas.{loop_told, loop_gathered, loop_left, loop_else}
-use Rattle.flat_role.specs.MovedMarks.{runs_update}
-use Rattle.flat_role.proofs.OwnMarks.{body_own, either_own, gathered_own, left_own, own_by, scope_own, told_own, turn_own}
+use Rattle.flat_role.proofs.OwnMarks.{either_own, gathered_own, left_own, own_by, told_own, turn_own}
 use Rattle.flat_role.proofs.moved.led_loop.Goals as goal
 
 pub returns-in-Telling : goal.returns-in-Telling

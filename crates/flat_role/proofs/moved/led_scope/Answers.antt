@@ -4,8 +4,7 @@ use Rattle.dioc_terms.specs.Processes.{ScopeLead}
 use Rattle.flat_role.specs.MovedMarks.{count_from, gathered_or, left_or, scope_or, told_or}
 use Rattle.flat_role.proofs.MovedLemmas.{moves_as}
 use Rattle.flat_role.proofs.OpMoveLemmas.{scope_told, scope_gathered, scope_left, scope_else}
-use Rattle.flat_role.specs.MovedMarks.{runs_update}
-use Rattle.flat_role.proofs.OwnMarks.{body_own, either_own, gathered_own, left_own, own_by, scope_own, told_own, turn_own}
+use Rattle.flat_role.proofs.OwnMarks.{gathered_own, left_own, own_by, scope_own, told_own}
 use Rattle.flat_role.proofs.moved.led_scope.Goals as goal
 
 pub returns-in-Telling : goal.returns-in-Telling

@@ -9,7 +9,6 @@ use Rattle.flat_role.specs.MovedMarks.{Moves, awaited_or, came, count_from, take
 use Rattle.flat_role.proofs.MovedLemmas.{moves_as}
 use Rattle.flat_role.proofs.OpMoveLemmas.{choice_followed, gather_moves, plain_moves, plain_op}
 use Rattle.process_steps.specs.Steps.{ended}
-use Rattle.flat_role.specs.MovedMarks.{runs_update}
 use Rattle.flat_role.proofs.OwnMarks.{awaited_own, own_by}
 use Rattle.flat_role.proofs.moved.moved.Goals as goal
 

@@ -3,7 +3,6 @@
 use Rattle.std.proofs.Common.{◌≡◌, Bool, refl, subst, ◌∙◌, ap}
 use Rattle.dioc_terms.specs.declared.values.Value.{Value}
 use Rattle.dioc_terms.specs.KeptStores.{store_of}
-use Rattle.dioc_terms.specs.Processes.{Process}
 use Rattle.dioc_terms.specs.Stores.{Store}
 use Rattle.dpoc_process.specs.Growth.{value_at}
 use Rattle.dpoc_process.specs.declared.runs.Prepared.{Prepared}

@@ -1,13 +1,12 @@
 -- A place where no update runs offers one act at most.
-use Rattle.std.proofs.Common.{◌≡◌, true, false, sym, ap, ◌∙◌, arith}
+use Rattle.std.proofs.Common.{◌≡◌, false, sym, ap, ◌∙◌, arith}
 use Rattle.flat_role.proofs.FoundLemmas.{meant_own}
 use Rattle.flat_role.proofs.LeafActs.{leaf_offers}
 use Rattle.flat_role.proofs.NextLemmas.{read_own}
 use Rattle.flat_role.proofs.SingleActs.{leaf_offers_just}
-use Rattle.flat_role.specs.Leaves.{front, is_became}
 use Rattle.flat_role.specs.MovedMarks.{runs_update}
 use Rattle.flat_role.specs.PlanMarks.{mark_in, plan_marks, static_at}
-use Rattle.process_steps.specs.Steps.{is_offered, offers}
+use Rattle.process_steps.specs.Steps.{is_offered}
 use Rattle.flat_role.proofs.relisting.offers_just.Goals as goal
 
 pub offers_at-requires-clause-own : goal.offers_at-requires-clause-own

@@ -29,29 +29,29 @@ lead-returns-in_ok-others-in-If-clause-made t c =
     ∙ leads_choice c.args.cast.now c.args.role.now c.in_ok-others-in-If.others c.boxed_part-in-If.new.named is c.requires.leads c.in_ok-others-in-If.ensures flags c.in_ok-yes-in-If.ensures.made c.in_ok-no-in-If.ensures.made)
     c.lead_choice.ensures
 
-pub lead-returns-in_ok-others-in-While-clause-named : goal.lead-returns-in_ok-others-in-While-clause-named
-lead-returns-in_ok-others-in-While-clause-named t c =
-    let is = loop_at c.in-While.body.value c.deref-in-While.result.now (ap term c.in-While.is) c.deref-in-While.ensures in
+pub lead_block-returns-in_ok-others-in-While-clause-named : goal.lead_block-returns-in_ok-others-in-While-clause-named
+lead_block-returns-in_ok-others-in-While-clause-named t c =
+    let is = loop_at c.in-While.body.value c.deref.result.now (ap term c.in-While.is) c.deref.ensures in
     IfOk-weaker c.lead_loop.result _ _
-    (λ proc made. loop_flags c.args.cast.now c.args.named.now c.boxed_part-in-While.new.named is c.requires.own c.in_ok-body-in-While.ensures.named) c.lead_loop.ensures
+    (λ proc made. loop_flags c.args.cast.now c.args.named.now c.boxed_part.new.named is c.requires.own c.in_ok-body-in-While.ensures.named) c.lead_loop.ensures
 
-pub lead-returns-in_ok-others-in-While-clause-made : goal.lead-returns-in_ok-others-in-While-clause-made
-lead-returns-in_ok-others-in-While-clause-made t c =
-    let is = loop_at c.in-While.body.value c.deref-in-While.result.now (ap term c.in-While.is) c.deref-in-While.ensures in
-    let flags = loop_flags c.args.cast.now c.args.named.now c.boxed_part-in-While.new.named is c.requires.own c.in_ok-body-in-While.ensures.named in
+pub lead_block-returns-in_ok-others-in-While-clause-made : goal.lead_block-returns-in_ok-others-in-While-clause-made
+lead_block-returns-in_ok-others-in-While-clause-made t c =
+    let is = loop_at c.in-While.body.value c.deref.result.now (ap term c.in-While.is) c.deref.ensures in
+    let flags = loop_flags c.args.cast.now c.args.named.now c.boxed_part.new.named is c.requires.own c.in_ok-body-in-While.ensures.named in
     IfOk-weaker c.lead_loop.result _ _
     (λ proc made.
     made
-    ∙ leads_loop c.args.cast.now c.args.role.now c.in_ok-others-in-While.others c.boxed_part-in-While.new.named is c.requires.leads c.in_ok-others-in-While.ensures flags c.in_ok-body-in-While.ensures.made)
+    ∙ leads_loop c.args.cast.now c.args.role.now c.in_ok-others-in-While.others c.boxed_part.new.named is c.requires.leads c.in_ok-others-in-While.ensures flags c.in_ok-body-in-While.ensures.made)
     c.lead_loop.ensures
 
-pub lead-returns-in_ok-head-in-Scope-clause-named : goal.lead-returns-in_ok-head-in-Scope-clause-named
-lead-returns-in_ok-head-in-Scope-clause-named t c =
+pub lead_block-returns-in_ok-head-in-Scope-clause-named : goal.lead_block-returns-in_ok-head-in-Scope-clause-named
+lead_block-returns-in_ok-head-in-Scope-clause-named t c =
     let is = scope_at c.in-Scope.body.value c.deref-in-Scope.result.now (ap term c.in-Scope.is) c.deref-in-Scope.ensures in
     scope_flags c.args.cast.now c.args.named.now c.boxed_part-in-Scope.new.named is c.requires.own c.in_ok-body-in-Scope.ensures.named
 
-pub lead-returns-in_ok-head-in-Scope-clause-made : goal.lead-returns-in_ok-head-in-Scope-clause-made
-lead-returns-in_ok-head-in-Scope-clause-made t c =
+pub lead_block-returns-in_ok-head-in-Scope-clause-made : goal.lead_block-returns-in_ok-head-in-Scope-clause-made
+lead_block-returns-in_ok-head-in-Scope-clause-made t c =
     let is = scope_at c.in-Scope.body.value c.deref-in-Scope.result.now (ap term c.in-Scope.is) c.deref-in-Scope.ensures in
     let flags = scope_flags c.args.cast.now c.args.named.now c.boxed_part-in-Scope.new.named is c.requires.own c.in_ok-body-in-Scope.ensures.named in
     leads_scope c.args.cast.now c.args.role.now c.in_ok-others-in-Scope.others c.boxed_part-in-Scope.new.named is c.requires.leads c.in_ok-head-in-Scope.ensures c.in_ok-others-in-Scope.ensures flags

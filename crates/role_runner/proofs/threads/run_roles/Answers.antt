@@ -15,8 +15,11 @@ pub returns-in_default-clause-went : goal.returns-in_default-clause-went
 returns-in_default-clause-went g c = fresh_went (plain c.args.bundle.now, c.args.limit) (length c.args.bundle.now.cast) c.args.seats.items c.requires.fresh
 
 pub run_jobs-jobs-requires-clause-opens : goal.run_jobs-jobs-requires-clause-opens
-run_jobs-jobs-requires-clause-opens g c κs within =
-    jobs_open c.args.stage.now (plain c.args.bundle.now) c.args.limit c.args.seats.items c.requires.of c.requires.fresh
+run_jobs-jobs-requires-clause-opens g c κs within = record {
+  sound = c.requires.sound;
+  few = c.requires.few;
+  each = jobs_open c.args.stage.now (plain c.args.bundle.now) c.args.limit c.args.seats.items c.requires.of c.requires.fresh;
+}
 
 pub ending_if-ending-requires : goal.ending_if-ending-requires
 ending_if-ending-requires g c =
