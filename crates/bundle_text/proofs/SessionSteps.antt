@@ -12,8 +12,8 @@ use Rattle.bundle_text.specs.Grammar.{closed_before, IsSection, Joined, IsMadeOf
 use Rattle.bundle_text.specs.Readers.{FindsVersion}
 use Rattle.bundle_text.specs.Stops.{BeginsSection, begins_aioc, begins_rules, begins_environment, begins_inputs, begins_script, begins_trace, EndsInSection, no_word}
 use Rattle.bundle_text.specs.Sessions.{session_before, IsSession, EndsBeforeClose, EndsInBrackets, at_close}
-use Rattle.bundle_text.specs.SessionReaders.{TakesClosed, TakesBundle, TakesSession, IsRunIn}
-use Rattle.bundle_text.specs.declared.runs.Run.{Run}
+use Rattle.bundle_text.specs.SessionReaders.{TakesClosed, TakesBundle, TakesSession, IsChunkIn}
+use Rattle.bundle_text.specs.declared.chunks.Chunk.{Chunk}
 use Rattle.bundle_text.proofs.Repeated.{many_last, many_append}
 use Rattle.bundle_text.proofs.SectionSteps.{SectionsSoFar}
 use Rattle.bundle_text.proofs.Shorter.{sections_few}
@@ -103,9 +103,9 @@ pub sessions_further : {from : List Lexeme} (text : List Lexeme) (bundles : List
 sessions_further {from} text bundles bundle next behind stand taken all are =
     subst (λ l. Many IsSession from l (drop behind text)) (sym (ap (map plain) are ∙ map-append plain bundles (bundle ∷ []))) (many_last stand taken.stands)
 
--- the sessions of a run more
-pub sessions_joined : {from : List Lexeme} (text : List Lexeme) (bundles : List Bundle) (run : Run) (next : ℕ) → Many IsSession from (map plain bundles) (drop next text) → IsRunIn text run → run.from ≡ next → (all : List Bundle)
-    → all ≡ bundles ++ run.sessions.items → Many IsSession from (map plain all) (drop run.to text)
-sessions_joined {from} text bundles run next stand more joins all are =
-    subst (λ l. Many IsSession from l (drop run.to text)) (sym (ap (map plain) are ∙ map-append plain bundles run.sessions.items))
-    (many_append stand (subst (λ n. Many IsSession (drop n text) (map plain run.sessions.items) (drop run.to text)) joins more))
+-- the sessions of a chunk more
+pub sessions_joined : {from : List Lexeme} (text : List Lexeme) (bundles : List Bundle) (chunk : Chunk) (next : ℕ) → Many IsSession from (map plain bundles) (drop next text) → IsChunkIn text chunk → chunk.from ≡ next → (all : List Bundle)
+    → all ≡ bundles ++ chunk.sessions.items → Many IsSession from (map plain all) (drop chunk.to text)
+sessions_joined {from} text bundles chunk next stand more joins all are =
+    subst (λ l. Many IsSession from l (drop chunk.to text)) (sym (ap (map plain) are ∙ map-append plain bundles chunk.sessions.items))
+    (many_append stand (subst (λ n. Many IsSession (drop n text) (map plain chunk.sessions.items) (drop chunk.to text)) joins more))

@@ -4,7 +4,7 @@ use Rattle.dioc_terms.specs.Plain.{PlainBundle, plain}
 use Rattle.aioc_tokens.specs.declared.words.Punctuator.TheVariants as punctuator
 use Rattle.aioc_tokens.specs.declared.words.Sort.TheVariants as sorts
 use Rattle.aioc_tokens.specs.Lexemes.{Lexeme, sort_of}
-use Rattle.bundle_text.specs.declared.runs.Run.{Run}
+use Rattle.bundle_text.specs.declared.chunks.Chunk.{Chunk}
 use Rattle.bundle_text.specs.Many.{Many}
 use Rattle.bundle_text.specs.Grammar.{closed_before, Section, IsSection, Joined, joined_sections, IsMadeOf}
 use Rattle.bundle_text.specs.Sessions.{IsSession}
@@ -36,7 +36,7 @@ pub record TakesSession (text : List Lexeme) (at : ℕ) (b : PlainBundle) (next 
   pub after : at < next
   pub within : next ≤ length text
 
--- the sessions of a run stand between its places of the text
-abbrev pub IsRunIn : List Lexeme → Run → Type 0
-IsRunIn text run =
-    Many IsSession (drop run.from text) (map plain run.sessions.items) (drop run.to text)
+-- the sessions of a chunk stand between its places of the text
+abbrev pub IsChunkIn : List Lexeme → Chunk → Type 0
+IsChunkIn text chunk =
+    Many IsSession (drop chunk.from text) (map plain chunk.sessions.items) (drop chunk.to text)

@@ -3,7 +3,7 @@ use Rattle.dioc_terms.specs.Plain.{plain}
 use Rattle.bundle_text.specs.Many.{Many, no_more}
 use Rattle.bundle_text.specs.Sessions.{IsSession}
 use Rattle.bundle_text.proofs.SessionSteps.{sessions_further}
-use Rattle.bundle_text.proofs.runs.read_run.Goals as goal
+use Rattle.bundle_text.proofs.chunks.read_chunk.Goals as goal
 
 pub sessions-init : goal.sessions-init
 sessions-init c =

@@ -9,7 +9,7 @@ use Rattle.bundle_text.specs.Many.{Many}
 use Rattle.bundle_text.specs.Sessions.{IsSession, SpellsSessions}
 use Rattle.bundle_text.proofs.Results.{ok_then}
 use Rattle.bundle_text.proofs.SessionLists.{sessions_formed}
-use Rattle.bundle_text.proofs.runs.read_in_runs.Goals as goal
+use Rattle.bundle_text.proofs.chunks.read_in_chunks.Goals as goal
 
 spelled : {E : Type 0} (bytes : List ℕ) (found : List Lexeme) → length bytes ≤ most_bytes → HasLexemes bytes found → (r : Result (Vec Bundle Global) E) → IfOk r (λ sessions. Many IsSession found (map plain sessions.items) [])
     → IfOk r (λ sessions. 0 < length sessions.items) → IfOk r (λ sessions. length sessions.items ≤ most_sessions) → IfOk r (λ sessions. SpellsSessions bytes (map plain sessions.items))
@@ -25,9 +25,9 @@ spelled bytes found small lexemes (Err stop) stand some few = stand
 
 pub returns-clause-found : goal.returns-clause-found
 returns-clause-found g c =
-    let read = c.sessions_in_runs.ensures in
-    spelled c.args.bytes.now c.packed.result (omega arith) c.packed.ensures.lexemes c.sessions_in_runs.result read.stand read.some read.few
+    let read = c.sessions_in_chunks.ensures in
+    spelled c.args.bytes.now c.packed.result (omega arith) c.packed.ensures.lexemes c.sessions_in_chunks.result read.stand read.some read.few
 
 pub returns-clause-formed : goal.returns-clause-formed
 returns-clause-formed g c =
-    ok_then c.sessions_in_runs.result (λ sessions stand. sessions_formed c.args.bytes.now c.packed.result sessions.items c.packed.ensures.lexemes stand) c.sessions_in_runs.ensures.stand
+    ok_then c.sessions_in_chunks.result (λ sessions stand. sessions_formed c.args.bytes.now c.packed.result sessions.items c.packed.ensures.lexemes stand) c.sessions_in_chunks.ensures.stand

@@ -1,4 +1,4 @@
-//! Sessions that are read by several threads, each of which reads a run of neighbours.
+//! Sessions that are read by several threads, each of which reads a chunk of neighbours.
 
 ghost use Rattle.std.specs.Prelude.{◌≡◌, ◌≢◌, ◌<◌, ◌≤◌, ℕ, All, [], length, map, Err, IfOk, IfErr};
 ghost use Rattle.std.specs.List.{AllByRecursion};
@@ -6,7 +6,7 @@ ghost use Rattle.dioc_terms.specs.Bundles.{IsFormed};
 ghost use Rattle.dioc_terms.specs.Plain.{plain};
 ghost use Rattle.limits.specs.Limits.{greatest_place, most_sessions};
 ghost use Rattle.bundle_text.specs.Many.{Many};
-ghost use Rattle.bundle_text.specs.SessionReaders.{IsRunIn};
+ghost use Rattle.bundle_text.specs.SessionReaders.{IsChunkIn};
 ghost use Rattle.bundle_text.specs.Sessions.{IsSession, SessionsEndAtByte, SpellsNoSessions, SpellsSessions};
 
 use crate::sessions::{read_sessions, session_at};
@@ -25,7 +25,7 @@ const SESSION: [Sort; 2] = [Sort::Name, Sort::Symbol(Punctuator::LeftBrace)];
 
 /// Sessions that stand one behind another, and the places of the text between which they do.
 #[derive(Drop)]
-pub struct Run {
+pub struct Chunk {
     pub from: usize,
     pub to: usize,
     pub sessions: Vec<Bundle>,
@@ -52,7 +52,7 @@ pub fn read_sessions_by<R: Threads + Sync>(
     ensures few { IfOk result (λ sessions. length sessions.items ≤ most_sessions) }
 {
     if workers > 1 {
-        match read_in_runs(rt, alloc, bytes, workers) {
+        match read_in_chunks(rt, alloc, bytes, workers) {
             Ok(sessions) => return Ok(sessions),
             Err(Stop::At(_)) => {}
             Err(Stop::Memory) => return Err(SyntaxFault::Memory),
@@ -61,9 +61,9 @@ pub fn read_sessions_by<R: Threads + Sync>(
     read_sessions(alloc, bytes)
 }
 
-/// The sessions that the bytes spell, of which each thread reads a run. `At` says nothing of the
+/// The sessions that the bytes spell, of which each thread reads a chunk. `At` says nothing of the
 /// bytes.
-fn read_in_runs<R: Threads + Sync>(
+fn read_in_chunks<R: Threads + Sync>(
     rt: &R,
     alloc: Global,
     bytes: &[u8],
@@ -83,11 +83,11 @@ fn read_in_runs<R: Threads + Sync>(
         Err(TokenFault::BadByte(_)) => return Err(Stop::At(0)),
         Err(TokenFault::Memory) => return Err(Stop::Memory),
     };
-    sessions_in_runs(rt, alloc, &Lexed::packed(bytes, &packed), workers)
+    sessions_in_chunks(rt, alloc, &Lexed::packed(bytes, &packed), workers)
 }
 
 /// The sessions that are the whole text. `At` says nothing of the text.
-fn sessions_in_runs<R: Threads + Sync>(
+fn sessions_in_chunks<R: Threads + Sync>(
     rt: &R,
     alloc: Global,
     text: &Lexed<'_>,
@@ -101,19 +101,19 @@ fn sessions_in_runs<R: Threads + Sync>(
     ensures few { IfOk result (λ sessions. length sessions.items ≤ most_sessions) }
 {
     let size = text.len().div_ceil(workers);
-    let runs = thread::map_indices(
+    let chunks = thread::map_indices(
         rt,
         alloc,
         workers,
-        &|number| read_run(alloc, text, number.saturating_mul(size), size),
+        &|number| read_chunk(alloc, text, number.saturating_mul(size), size),
     )?;
-    join_runs(alloc, text, runs)
+    join_chunks(alloc, text, chunks)
 }
 
 /// The sessions that begin at one of so many places from the first on.
-fn read_run(alloc: Global, text: &Lexed<'_>, first: usize, size: usize) -> Result<Run, Stop>
+fn read_chunk(alloc: Global, text: &Lexed<'_>, first: usize, size: usize) -> Result<Chunk, Stop>
     requires { length text.now ≤ greatest_place }
-    ensures { IfOk result (IsRunIn text.now) }
+    ensures { IfOk result (IsChunkIn text.now) }
 {
     let end = first.saturating_add(size).min(text.len());
     let from = guessed_start(text, first, end);
@@ -131,7 +131,7 @@ fn read_run(alloc: Global, text: &Lexed<'_>, first: usize, size: usize) -> Resul
             Err(stop) => return lost(sessions, stop),
         }
     }
-    Ok(Run { from, to, sessions })
+    Ok(Chunk { from, to, sessions })
 }
 
 /// The first place before the end at which a session seems to begin, or the end. In sessions one
@@ -148,13 +148,13 @@ fn guessed_start(text: &Lexed<'_>, first: usize, end: usize) -> usize {
     end
 }
 
-/// The sessions of runs that join, where those are the whole text.
-fn join_runs(
+/// The sessions of chunks that join, where those are the whole text.
+fn join_chunks(
     alloc: Global,
     text: &Lexed<'_>,
-    runs: Vec<Result<Run, Stop>>,
+    chunks: Vec<Result<Chunk, Stop>>,
 ) -> Result<Vec<Bundle>, Stop>
-    requires { AllByRecursion (λ run. IfOk run (IsRunIn text.now)) runs.items }
+    requires { AllByRecursion (λ chunk. IfOk chunk (IsChunkIn text.now)) chunks.items }
     ensures stand { IfOk result (λ sessions.
         Many IsSession text.now (map plain sessions.items) []) }
     ensures some { IfOk result (λ sessions. 0 < length sessions.items) }
@@ -162,13 +162,13 @@ fn join_runs(
 {
     let mut sessions = Vec::new(alloc);
     let mut next = 0;
-    for run in runs {
-        let mut run = run?;
-        if run.from != next {
+    for chunk in chunks {
+        let mut chunk = chunk?;
+        if chunk.from != next {
             continue;
         }
-        sessions.append(&mut run.sessions)?;
-        next = run.to;
+        sessions.append(&mut chunk.sessions)?;
+        next = chunk.to;
     }
     if next < text.len() || sessions.is_empty() || sessions.len() > MOST_SESSIONS {
         return Err(Stop::At(next));
