@@ -23,7 +23,7 @@ loop-chunk-preserved-then-chunk-next c =
 pub loop-chunk-preserved : goal.loop-chunk-preserved
 loop-chunk-preserved c =
     let all = subst (AllByRecursion (λ chunk. IfOk chunk (IsChunkIn c.args.text.now))) c.in-Some.ensures.steps.0 c.loop-chunk.invariant.1 in
-    let chunk = c.in_ok-chunk.chunk' in
+    let chunk = c.in_ok-chunk.chunk in
     let stands : IsChunkIn c.args.text.now chunk = subst (λ chunk. IfOk chunk (IsChunkIn c.args.text.now)) c.in_ok-chunk.was all.0 in
     let joins : chunk.from ≡ c.loop-chunk.next = omega arith in (
       sessions_joined c.args.text.now c.loop-chunk.sessions.items chunk c.loop-chunk.next c.loop-chunk.invariant.0 stands joins c.append.new.self.items c.in_ok-append.ensures.items,
