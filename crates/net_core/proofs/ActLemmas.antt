@@ -1,5 +1,5 @@
 -- What a net gives to the step of a role.
-use Rattle.std.proofs.Common.{◌≡◌, ◌<◌, ℕ, Bool, List, length, All, sym, ap, ◌∙◌, subst, arith}
+use Rattle.std.proofs.Common.{◌≡◌, ◌<◌, ℕ, Bool, List, Some, length, slice_get, All, sym, ap, ◌∙◌, subst, arith}
 use Rattle.std.proofs.lemmas.List.{length-map}
 use Rattle.dioc_terms.specs.declared.entries.Act.{Act}
 use Rattle.dioc_terms.specs.declared.names.Role.{Role}
@@ -12,6 +12,7 @@ use Rattle.marked_laws.specs.Laws.{IsSoundRule}
 use Rattle.network_steps.specs.Network.{Network}
 use Rattle.process_steps.specs.Steps.{ended}
 use Rattle.net_core.proofs.NetLemmas.{network_is, local_is}
+use Rattle.net_core.proofs.PlaceLemmas.{role_there}
 use Rattle.net_core.proofs.TellLemmas.{tells_run}
 use Rattle.net_core.specs.Deeds.{DoneAt, IsAt, RoleDid, given_to}
 use Rattle.net_core.specs.Nets.{network_at}
@@ -23,6 +24,13 @@ module _ (b : PlainBundle) (limit : ℕ) (parts : Parts) (is : HoldsRun b limit 
   -- there is one local for each role of the cast
   pub locals_long : length parts.locals ≡ length parts.cast
   locals_long = ap length is.locals ∙ length-map b.cast (local_in is.network) ∙ ap length (sym is.cast)
+
+  -- so at each place of the cast stands a role with its local
+  pub role_at : (place : ℕ) → place < length b.cast → (q : Role) × (slice_get parts.cast place ≡ Some q)
+  role_at place inside = role_there parts.cast place (omega (arith, inside, ap length is.cast))
+
+  pub locals_at : (place : ℕ) → place < length b.cast → place < length parts.locals
+  locals_at place inside = omega (arith, inside, locals_long, ap length is.cast)
 
   -- the book and the bodies are of the bundle's rules, which may run
   pub known_rules : KnownRules parts.cast parts.book parts.bodies

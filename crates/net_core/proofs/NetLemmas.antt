@@ -1,6 +1,6 @@
 -- What a net keeps, before a step and after it.
-use Rattle.std.proofs.Common.{◌≡◌, ◌≢◌, ◌↔◌, ◌<◌, ◌≤◌, ℕ, suc, List, [], ◌∷◌, ◌++◌, length, map, Bool, true, false, ◌&&◌, not, Some, None, IsSome, slice_get, refl, sym, ap, ap₂, ◌∙◌, subst, ⊎_elim, arith, append-nil, length-append}
-use Rattle.std.specs.Prelude.{slice_set, is_some, nat_le, unwrap_or, if◌then◌else◌, option_map}
+use Rattle.std.proofs.Common.{◌≡◌, ◌≢◌, ◌↔◌, ◌<◌, ◌≤◌, ℕ, suc, List, [], ◌∷◌, ◌++◌, length, map, Bool, true, false, ◌&&◌, not, Some, None, IsSome, slice_get, refl, sym, ap, ap₂, ◌∙◌, subst, arith, append-nil, length-append}
+use Rattle.std.specs.Prelude.{slice_set, is_some, nat_le, unwrap_or, if◌then◌else◌, option_and_then, option_map}
 use Rattle.std.proofs.lemmas.Bool.{lt-leb}
 use Rattle.std.proofs.lemmas.List.Elements.{filter-append}
 use Rattle.std.proofs.lemmas.Option.{slice_get-map}
@@ -38,12 +38,13 @@ use Rattle.rule_book.specs.KeptBooks.{book_of}
 use Rattle.net_core.proofs.DeedLemmas.{deed_there, given_plain}
 use Rattle.net_core.proofs.MailLemmas.{mail_now, none_pending, put_was_free, some_pending}
 use Rattle.net_core.proofs.LocalLemmas.{at_member, locals_after}
+use Rattle.net_core.proofs.PlaceLemmas.{role_there}
 use Rattle.net_core.specs.Acts.{CanStep}
 use Rattle.net_core.specs.Deeds.{IsAt, RoleDid, RefusedFor, given_to, is_there, message_given}
-use Rattle.net_core.specs.Nets.{NetState, network_at}
+use Rattle.net_core.specs.Nets.{NetState, network_at, network_of}
 use Rattle.net_core.specs.Standing.{Body, ScriptedChange, Parts, HoldsRun, local_in}
 use Rattle.net_core.specs.StepLaws.{StepsRun}
-use Rattle.net_core.specs.Steps.{IsStepOf, fault_of}
+use Rattle.net_core.specs.Steps.{IsStepAt, IsStepOf, fault_at, fault_of}
 
 one_visible : (e : Entry) (xs : List Entry) → visible_after e (length xs) ≡ length (xs ++ visible (e ∷ []))
 one_visible e xs = by_test (is_aux e)
@@ -288,16 +289,45 @@ module _ (of : PlainBundle) (limit : ℕ) (cast : List Role) (locals : List Loca
 
   -- what is refused of the role is the first fault of the step
   pub step_refused : (f : StepFault) → RefusedFor cast locals mail q a f → f ≢ fault.Memory → fault_of (state H) q a ≡ Some f
-  step_refused fault.NoAct refused h = ⊎_elim
-      (λ out. no_act (is_ready (network_at of H) a) goes not_full
-      (ap (λ N. is_offered_by of N q a) at ∙ ap (λ t. t && is_offered a (offers q (is.network.processes q))) (ap (member q) (sym is.cast) ∙ out)))
-      (λ lacks. no_act (is_ready (network_at of H) a) goes not_full (offered_is false lacks.is_at.place lacks.local lacks.is_at.at lacks.is_at.here lacks.lacks))
-      refused
+  step_refused fault.NoAct refused h =
+      no_act (is_ready (network_at of H) a) goes not_full (offered_is false refused.is_at.place refused.local refused.is_at.at refused.is_at.here refused.lacks)
   step_refused fault.NotYet refused h =
       not_yet goes not_full (offered_is true refused.is_at.place refused.local refused.is_at.at refused.is_at.here refused.offers) (ready_at false refused.waits)
   step_refused fault.Memory refused h = absurd (h refl)
   step_refused fault.Ended refused h = absurd refused
   step_refused fault.Full refused h = absurd refused
+
+-- the fault and the step of the role at a place of the cast
+pub fault_placed : (net : NetState) (place : ℕ) (q : Role) (a : Act) → slice_get net.bundle.cast place ≡ Some q → fault_at net place a ≡ fault_of net q a
+fault_placed net place q a at = ap (option_and_then (λ (r : Role). fault_of net r a)) at
+
+pub step_placed : (old new : NetState) (place : ℕ) (q : Role) (a : Act) → slice_get old.bundle.cast place ≡ Some q → IsStepAt old place a new → IsStepOf old q a new
+step_placed old new place q a at made = subst (λ r. IsStepOf old r a new) (some_same (sym made.here ∙ at)) made.is
+
+-- a network that has ended refuses each act, and so does a history that is full
+module _ (net : NetState) where
+  abbrev full : Bool
+  full = nat_le net.limit (length net.history)
+
+  pub ended_refuses : network_ended net.bundle.cast (network_of net) ≡ true → (q : Role) (a : Act) → fault_of net q a ≡ Some fault.Ended
+  ended_refuses ends q a = ap (λ t. first_fault t full (is_offered_by net.bundle (network_of net) q a) (is_ready (network_of net) a)) ends
+
+  pub full_refuses : network_ended net.bundle.cast (network_of net) ≡ false → full ≡ true → (q : Role) (a : Act) → fault_of net q a ≡ Some fault.Full
+  full_refuses goes is q a = ap₂ (λ t s. first_fault t s (is_offered_by net.bundle (network_of net) q a) (is_ready (network_of net) a)) goes is
+
+-- what refuses each act refuses those of the role at a place
+pub place_refuses : (net : NetState) (place : ℕ) (a : Act) (f : StepFault) → place < length net.bundle.cast → ((q : Role) (b : Act) → fault_of net q b ≡ Some f)
+    → fault_at net place a ≡ Some f
+place_refuses net place a f inside refuses =
+    let at = role_there net.bundle.cast place inside in
+    fault_placed net place at.0 a at.1 ∙ refuses at.0 a
+
+-- a role that isn't of the cast is refused its acts
+pub stranger_refused : (net : NetState) (q : Role) (a : Act) → network_ended net.bundle.cast (network_of net) ≡ false → length net.history < net.limit
+    → member q net.bundle.cast ≡ false → fault_of net q a ≡ Some fault.NoAct
+stranger_refused net q a goes room out =
+    no_act (is_ready (network_of net) a) goes (lt-leb net.limit (length net.history) room)
+    (ap (λ t. t && is_offered a (offers q ((network_of net).processes q))) out)
 
 all_locals : {A : Type 0} (f : A → LocalState) (listed : List A) → list_all (λ x. ended (f x).process) listed ≡ list_all (λ (s : LocalState). ended s.process) (map f listed)
 all_locals f [] = refl

@@ -1,5 +1,5 @@
 -- Where a role is in the cast.
-use Rattle.std.proofs.Common.{◌≡◌, ℕ, suc, ◌+◌, List, [], ◌∷◌, false, Some, None, slice_get, refl, sym, ap, ◌∙◌, subst, ⊎_elim, arith, zero-add}
+use Rattle.std.proofs.Common.{◌≡◌, ℕ, zero, suc, ◌+◌, ◌<◌, List, [], ◌∷◌, false, Some, None, slice_get, length, refl, sym, ap, ◌∙◌, subst, ⊎_elim, arith, zero-add}
 use Rattle.std.proofs.lemmas.Bool.{cases_Bool, cond-true, cond-false, or_from}
 use Rattle.std.proofs.lemmas.Iterator.Adapters.{position_from-zero}
 use Rattle.std.specs.List.{position, position_from}
@@ -10,6 +10,12 @@ use Rattle.marked_laws.proofs.Shapes.{none_some, some_same}
 
 some_none : {A : Type 0} {x : A} → Some x ≡ None → ⊥
 some_none h = cc
+
+-- a role stands at each place of the cast
+pub role_there : (roles : List Role) (i : ℕ) → i < length roles → (q : Role) × (slice_get roles i ≡ Some q)
+role_there [] i inside = absurd (omega (arith, inside))
+role_there (r ∷ rs) zero inside = (r, refl)
+role_there (r ∷ rs) (suc i) inside = role_there rs i (omega (arith, inside))
 
 module _ (q : Role) where
   from_at : (roles : List Role) (n i : ℕ) → position_from (role_eq q) n roles ≡ Some i → (k : ℕ) × (i ≡ n + k) × (slice_get roles k ≡ Some q)

@@ -1,5 +1,5 @@
 -- The role states as a list of locals, and why a role's act is refused.
-use Rattle.std.proofs.Common.{◌≡◌, ◌<◌, ℕ, List, map, Some, slice_get, length, get_or, refl, sym, ap, ◌∙◌, inr}
+use Rattle.std.proofs.Common.{◌≡◌, ◌<◌, ℕ, List, map, Some, slice_get, length, get_or, refl, sym, ap, ◌∙◌}
 use Rattle.std.specs.Prelude.{option_map, slice_set}
 use Rattle.std.proofs.Math.Seq.{map-set_same}
 use Rattle.std.proofs.lemmas.Option.{slice_get-map, slice_get_read}
@@ -26,7 +26,7 @@ module _ {A : Type 0} (f : A → LocalState) (listed : List A) (i : ℕ) (x : A)
 -- what isn't made ready is refused
 pub refused_role : (cast : List Role) (locals : List LocalState) (q : Role) (s : LocalState) (is_at : IsAt cast locals q s) (old new : Mail) → messages new ≡ messages old
     → (a : Act) (why : StepFault) → ReadyFault s new a why → RefusedFor cast locals old q a why
-refused_role cast locals q s is_at old new same a fault.NoAct refused = inr (record { local = s; is_at = is_at; lacks = refused })
+refused_role cast locals q s is_at old new same a fault.NoAct refused = record { local = s; is_at = is_at; lacks = refused }
 refused_role cast locals q s is_at old new same a fault.NotYet refused =
     record { local = s; is_at = is_at; offers = refused.0; waits = sym (there_same old new same a) ∙ refused.1 }
 refused_role cast locals q s is_at old new same a fault.Memory refused = tt

@@ -1,11 +1,11 @@
 -- What a role's deed changes of the mail and of the history.
-use Rattle.std.specs.Prelude.{◌≡◌, ◌⊎◌, ℕ, List, [], ◌∷◌, ◌++◌, Bool, true, false, Option, Some, None, is_some, if◌then◌else◌, slice_get, slice_set}
+use Rattle.std.specs.Prelude.{◌≡◌, ℕ, List, [], ◌∷◌, ◌++◌, Bool, true, false, Option, Some, None, is_some, if◌then◌else◌, slice_get, slice_set}
 use Rattle.dioc_terms.specs.declared.entries.Act.{Act}
 use Rattle.dioc_terms.specs.declared.entries.Act.TheVariants as act
 use Rattle.dioc_terms.specs.declared.entries.Entry.{Entry}
 use Rattle.dioc_terms.specs.declared.processes.Key.{Key}
 use Rattle.dioc_terms.specs.Attempts.{Does}
-use Rattle.dioc_terms.specs.Equality.{key_eq, member}
+use Rattle.dioc_terms.specs.Equality.{key_eq}
 use Rattle.dioc_terms.specs.Processes.{Process, Load}
 use Rattle.dioc_terms.specs.declared.names.Role.{Role}
 use Rattle.dioc_terms.specs.Plain.{PlainRule}
@@ -117,7 +117,7 @@ pub record NotThere (cast : List Role) (locals : List LocalState) (mail : Mail) 
 
 -- why a role's act is refused; nothing is said of want of memory
 abbrev pub RefusedFor : List Role → List LocalState → Mail → Role → Act → StepFault → Type 0
-RefusedFor cast locals mail q a fault.NoAct = (member q cast ≡ false) ⊎ NotOffered cast locals q a
+RefusedFor cast locals mail q a fault.NoAct = NotOffered cast locals q a
 RefusedFor cast locals mail q a fault.NotYet = NotThere cast locals mail q a
 RefusedFor cast locals mail q a fault.Memory = Unit {0}
 RefusedFor cast locals mail q a _ = ⊥

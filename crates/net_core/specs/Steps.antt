@@ -1,5 +1,5 @@
 -- What a step of a net and a change of the script are, and their faults.
-use Rattle.std.specs.Prelude.{◌≡◌, [], ◌∷◌, ◌++◌, length, nat_le, Option, Some, None}
+use Rattle.std.specs.Prelude.{◌≡◌, ℕ, [], ◌∷◌, ◌++◌, length, nat_le, Option, Some, None, option_and_then, slice_get}
 use Rattle.dioc_terms.specs.declared.names.Role.{Role}
 use Rattle.dioc_terms.specs.declared.entries.Act.{Act}
 use Rattle.dioc_terms.specs.Plain.{setting}
@@ -16,6 +16,10 @@ fault_of net q a =
     (nat_le net.limit (length net.history))
     (is_offered_by net.bundle (network_of net) q a) (is_ready (network_of net) a)
 
+-- the same of the role at a place of the cast, none where no role stands there
+abbrev pub fault_at : NetState → ℕ → Act → Option StepFault
+fault_at net place a = option_and_then (λ q. fault_of net q a) (slice_get net.bundle.cast place)
+
 -- the net went on by this outcome
 pub record GoesOn (old : NetState) (outcome : NextNetwork) (new : NetState) : Type 0 where
   pub history : new.history ≡ old.history ++ outcome.entry ∷ []
@@ -29,3 +33,9 @@ pub record IsStepOf (old : NetState) (q : Role) (a : Act) (new : NetState) : Typ
   pub no_fault : fault_of old q a ≡ None
   pub steps : act_step (setting old.bundle) (network_of old) q a ≡ Some outcome
   pub goes : GoesOn old outcome new
+
+-- the net has made the step of this act of the role at this place of the cast
+pub record IsStepAt (old : NetState) (place : ℕ) (a : Act) (new : NetState) : Type 0 where
+  pub role : Role
+  pub here : slice_get old.bundle.cast place ≡ Some role
+  pub is : IsStepOf old role a new

@@ -1,13 +1,13 @@
 //! The moves of a net, listed.
 
-ghost use Rattle.std.specs.Prelude.{◌≡◌, ◌≤◌, ◌++◌, [], ◌∷◌, true, filter, if◌then◌else◌, IfOk, OnOk, length, map};
+ghost use Rattle.std.specs.Prelude.{◌≡◌, ◌++◌, [], ◌∷◌, true, filter, if◌then◌else◌, IfOk, OnOk, length, map};
 ghost use Rattle.dioc_terms.specs.Equality.{member};
-ghost use Rattle.dpoc_process.specs.LocalStates.{LacksAt, LocalState, offered};
+ghost use Rattle.dpoc_process.specs.LocalStates.{offered};
 ghost use Rattle.network_steps.specs.declared.moves.Move.TheVariants as move;
-ghost use Rattle.net_core.specs.Deeds.{IsAt, is_there};
+ghost use Rattle.net_core.specs.Deeds.{is_there};
 ghost use Rattle.net_core.specs.KeptParts.{due_seen};
 ghost use Rattle.net_core.specs.MovesIn.{ReadyAt, are_places, chosen, is_first_due, local_moves, moves_in};
-ghost use Rattle.net_core.specs.Places.{ListedAt, OffersAt, places_of};
+ghost use Rattle.net_core.specs.Places.{ListedAt, places_of};
 
 use crate::bodies::Coming;
 use crate::parts::{is_there, place_of};
@@ -160,31 +160,6 @@ pub(crate) fn refresh_at<R: Runs>(
     ready.clear();
     state.refresh_acts(alloc, acts)?;
     add_ready(mail, acts.as_slice(), ready)
-}
-
-/// Lists the acts that a role of the cast offers, in a list that has all of them but some, which
-/// come one behind the other at a place.
-pub(crate) fn fill_at<R: Runs>(
-    alloc: Global,
-    cast: &[Role],
-    roles: &[R],
-    role: &Role,
-    acts: &mut Vec<Act>,
-    place: usize,
-) -> Result<(), Memory>
-    requires lengths { length roles.now ≡ length cast.now }
-    requires member { member role.now cast.now ≡ true }
-    requires inside { place ≤ length acts.old.items }
-    requires lacks { (local : LocalState) → IsAt cast.now (map R.local roles.now) role.now local
-        → LacksAt place acts.old.items (offered local) }
-    ensures { OnOk result
-        (OffersAt cast.now (map R.local roles.now) role.now acts.new.items) }
-{
-    let Some(at) = place_of(cast, role) else {
-        unreachable!()
-    };
-    let state = &roles[at];
-    state.fill_acts(alloc, acts, place)
 }
 
 /// Lists the places of the acts that can be done now, in an empty list.

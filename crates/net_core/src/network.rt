@@ -1,7 +1,10 @@
 //! The network of a bundle, stepped entry by entry.
 
-ghost use Rattle.std.specs.Prelude.{◌≡◌, ◌≢◌, ◌<◌, ◌≤◌, true, false, ◌&&◌, not, IfErr, IfOk, OnErr, OnOk, length, nat_le};
-ghost use Rattle.dioc_terms.specs.Equality.{member};
+ghost use Rattle.std.specs.Prelude.{◌≡◌, ◌≢◌, ◌<◌, ◌≤◌, Some, true, false, ◌&&◌, not, IfErr, IfOk, OnErr, OnOk, length, nat_le};
+ghost use Rattle.std.specs.List.{position};
+ghost use Rattle.dioc_terms.specs.declared.entries.Act.{Act as OneAct};
+ghost use Rattle.dioc_terms.specs.declared.names.Role.{Role as OneRole};
+ghost use Rattle.dioc_terms.specs.Equality.{member, role_eq};
 ghost use Rattle.dioc_terms.specs.Plain.{setting};
 ghost use Rattle.dpoc_process.specs.LocalStates.{LacksAt};
 ghost use Rattle.network_steps.specs.Network.{network_ended};
@@ -10,15 +13,15 @@ ghost use Rattle.process_steps.specs.Steps.{ended};
 ghost use Rattle.net_core.specs.Changes.{IsChangeOf, change_fault};
 ghost use Rattle.net_core.specs.MovesIn.{are_places, chosen, ready_of};
 ghost use Rattle.net_core.specs.Nets.{IsSoundRun, network_of};
-ghost use Rattle.net_core.specs.Places.{offers_of, places_of};
-ghost use Rattle.net_core.specs.Steps.{IsStepOf, fault_of};
+ghost use Rattle.net_core.specs.Places.{offers_at, offers_of, places_of};
+ghost use Rattle.net_core.specs.Steps.{IsStepAt, IsStepOf, fault_at, fault_of};
 
 use crate::bodies::{Coming, RuleBody};
 use crate::changing::make_change;
 use crate::faults::ChangeFault;
 use crate::laws::steps_run;
-use crate::listing::{fill_at, is_first_due, list_moves, ready_at, refresh_at};
-use crate::parts::{all_done, is_done_at, is_there, step_role};
+use crate::listing::{is_first_due, list_moves, ready_at, refresh_at};
+use crate::parts::{all_done, is_done_at, is_there, place_of, step_role};
 use crate::scopes::Fixed;
 use crate::starting::{keep_bodies, keep_script, role_states};
 use dioc_terms::{Act, Bundle, Items, Memory, Role, Roles};
@@ -193,11 +196,28 @@ impl<R: Runs> Net<R> {
         requires lacks { LacksAt at acts.old.items (offers_of (network_of self.now) role.now) }
         ensures { OnOk result (acts.new.items ≡ offers_of (network_of self.now) role.now) }
     {
-        let cast = self.cast.as_slice();
-        match fill_at(self.alloc, cast, self.roles.as_slice(), role, acts, at) {
-            Ok(()) => Ok(()),
-            Err(fault) => Err(fault),
-        }
+        let Some(place) = self.place_of(role) else {
+            unreachable!()
+        };
+        self.fill_acts_at(place, acts, at)
+    }
+
+    /// What `fill_acts` does, for the role that stands at that place of the cast, counted from 0.
+    pub fn fill_acts_at(&self, place: usize, acts: &mut Vec<Act>, at: usize) -> Result<(), Memory>
+        requires there { place < length self.now.bundle.cast }
+        requires inside { at ≤ length acts.old.items }
+        requires lacks { LacksAt at acts.old.items (offers_at self.now place) }
+        ensures { OnOk result (acts.new.items ≡ offers_at self.now place) }
+    {
+        let state = &self.roles[place];
+        state.fill_acts(self.alloc, acts, at)
+    }
+
+    /// The place of a role in the cast, `None` where it isn't of the cast.
+    fn place_of(&self, role: &Role) -> Option<usize>
+        ensures { result ≡ position (role_eq role.now) self.now.bundle.cast }
+    {
+        place_of(self.cast.as_slice(), role)
     }
 
     /// Whether what an act needs is there: of every act but a take whose message isn't pending. It
@@ -272,13 +292,44 @@ impl<R: Runs> Net<R> {
             → fault_of self.old role.now act.now ≡ Some fault) }
         ensures err { OnErr result (self.new ≡ self.old) }
     {
+        self.may_go()?;
+        let Some(place) = self.place_of(role) else {
+            return Err(StepFault::NoAct);
+        };
+        self.act(place, act)
+    }
+
+    /// The step of the role that stands at that place of the cast, counted from 0, by an act. The
+    /// refusals are those of `step`, in their order; after any of them the net is unchanged.
+    pub fn step_at(&mut self, place: usize, act: &Act) -> Result<(), StepFault>
+        requires there { place < length self.old.bundle.cast }
+        requires updates { (network_of self.old).updates < 4294967295 }
+        ensures stepped { OnOk result (IsStepAt self.old place act.now self.new) }
+        ensures refused { IfErr result (λ fault. fault ≢ StepFault.Memory
+            → fault_at self.old place act.now ≡ Some fault) }
+        ensures err { OnErr result (self.new ≡ self.old) }
+    {
+        match self.may_go() {
+            Ok(()) => self.act(place, act),
+            Err(fault) => Err(fault),
+        }
+    }
+
+    /// Refuses the steps of all roles once the network has ended, or where the history is full.
+    fn may_go(&self) -> Result<(), StepFault>
+        ensures goes { OnOk result (network_ended self.now.bundle.cast (network_of self.now)
+            ≡ false) }
+        ensures room { OnOk result (length self.now.history < self.now.limit) }
+        ensures refused { IfErr result (λ fault. (role : OneRole) (a : OneAct)
+            → fault_of self.now role a ≡ Some fault) }
+    {
         if self.is_ended() {
             return Err(StepFault::Ended);
         }
         if self.is_full() {
             return Err(StepFault::Full);
         }
-        self.act(role, act)
+        Ok(())
     }
 
     /// Makes the next change of the script. The refusals come in the order of their variants; after
@@ -310,14 +361,16 @@ impl<R: Runs> Net<R> {
         }
     }
 
-    /// The step of a role, where the network has not ended and the history has room.
-    fn act(&mut self, role: &Role, act: &Act) -> Result<(), StepFault>
+    /// The step of the role at a place of the cast, where the network has not ended and the history
+    /// has room.
+    fn act(&mut self, place: usize, act: &Act) -> Result<(), StepFault>
+        requires there { place < length self.old.bundle.cast }
         requires updates { (network_of self.old).updates < 4294967295 }
         requires goes { network_ended self.old.bundle.cast (network_of self.old) ≡ false }
         requires room { length self.old.history < self.old.limit }
-        ensures stepped { OnOk result (IsStepOf self.old role.now act.now self.new) }
+        ensures stepped { OnOk result (IsStepAt self.old place act.now self.new) }
         ensures refused { IfErr result (λ fault. fault ≢ StepFault.Memory
-            → fault_of self.old role.now act.now ≡ Some fault) }
+            → fault_at self.old place act.now ≡ Some fault) }
         ensures err { OnErr result (self.new ≡ self.old) }
     {
         steps_run();
@@ -338,7 +391,7 @@ impl<R: Runs> Net<R> {
             &mut self.mail,
             &mut self.updates,
             &mut self.history,
-            role,
+            place,
             act,
         ) {
             Ok(()) => Ok(()),

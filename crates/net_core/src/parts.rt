@@ -1,7 +1,7 @@
 //! The parts of a step: where a role is, the room that a step needs, and what it does to a role,
 //! the mail and the history.
 
-ghost use Rattle.std.specs.Prelude.{◌≡◌, ◌<◌, ◌≤◌, ℕ, List, true, false, Option, None, Some, IsSome, IfErr, IfNone, IfSome, OnErr, OnOk, is_some, length, map};
+ghost use Rattle.std.specs.Prelude.{◌≡◌, ◌<◌, ◌≤◌, ℕ, List, true, false, Option, None, Some, IsSome, IfErr, IfNone, IfSome, OnErr, OnOk, is_some, length, map, slice_get};
 ghost use Rattle.std.specs.Option.{option_map};
 ghost use Rattle.std.specs.List.{list_all, position};
 ghost use Rattle.dioc_terms.specs.declared.entries.Act.TheVariants as acts;
@@ -18,7 +18,7 @@ ghost use Rattle.process_steps.specs.Laws.{is_done};
 ghost use Rattle.process_steps.specs.Steps.{ended, is_offered};
 ghost use Rattle.role_mailbox.specs.Pending.{messages, payload_at, room};
 ghost use Rattle.net_core.specs.Acts.{given_from_mail, CanStep, TakenBy, PutBy};
-ghost use Rattle.net_core.specs.Deeds.{given_to, asks_scope, is_there, ActDone, DoneAt, IsAt, IsDone, RefusedFor, RoleDid};
+ghost use Rattle.net_core.specs.Deeds.{given_to, asks_scope, is_there, ActDone, DoneAt, IsDone, RefusedFor, RoleDid};
 ghost use Rattle.net_core.specs.Faults.{ReadyFault};
 ghost use Rattle.net_core.specs.KeptParts.{body_seen};
 ghost use Rattle.net_core.specs.Scopes.{KnownRules, Tells};
@@ -212,46 +212,44 @@ fn do_act<R: Runs>(
     }
 }
 
-/// The step of a role of the cast by an act. After a refusal the roles, the messages, the number of
-/// updates and the history are as they were.
+/// The step of the role at a place of the cast by an act. After a refusal the roles, the messages,
+/// the number of updates and the history are as they were.
 pub(crate) fn step_role<R: Runs>(
     fixed: &Fixed<'_>,
     roles: &mut Vec<R>,
     mail: &mut Mail,
     updates: &mut u32,
     history: &mut History,
-    role: &Role,
+    place: usize,
     act: &Act,
 ) -> Result<(), StepFault>
-    requires lengths { length roles.old.items ≡ length fixed.now.cast.now }
-    requires can { (local : LocalState)
-        → IsAt fixed.now.cast.now (map R.local roles.old.items) role.now local
+    requires there { place < length roles.old.items }
+    requires can { (local : LocalState) → slice_get (map R.local roles.old.items) place ≡ Some local
         → CanStep local act.now mail.old }
     requires updates { updates.old < 4294967295 }
     requires known { KnownRules fixed.now.cast.now fixed.now.book.now
         (map body_seen fixed.now.bodies.now) }
     requires tells { (local : LocalState)
-        → IsAt fixed.now.cast.now (map R.local roles.old.items) role.now local
+        → slice_get (map R.local roles.old.items) place ≡ Some local
         → Tells fixed.now.cast.now local act.now }
-    ensures did { (rules : List PlainRule) → IsBookOf rules fixed.now.book.now
+    ensures did { (role : OneRole) (rules : List PlainRule)
+        → slice_get fixed.now.cast.now place ≡ Some role → IsBookOf rules fixed.now.book.now
         → map body_seen fixed.now.bodies.now ≡ map body_of rules
-        → OnOk result (RoleDid fixed.now.cast.now role.now act.now
+        → OnOk result (RoleDid fixed.now.cast.now role act.now
         (λ s. given_to fixed.now.cast.now rules mail.old (book_of fixed.now.book.now) updates.old s
         act.now)
         (map R.local roles.old.items) mail.old updates.old history.old.entries
         (map R.local roles.new.items) mail.new updates.new history.new.entries) }
-    ensures refused { IfErr result
-        (RefusedFor fixed.now.cast.now (map R.local roles.old.items) mail.old role.now act.now) }
+    ensures refused { (role : OneRole) → slice_get fixed.now.cast.now place ≡ Some role
+        → IfErr result
+        (RefusedFor fixed.now.cast.now (map R.local roles.old.items) mail.old role act.now) }
     ensures same_roles { OnErr result (map R.local roles.new.items ≡ map R.local roles.old.items) }
     ensures same_mail { OnErr result (messages mail.new ≡ messages mail.old) }
     ensures same_updates { OnErr result (updates.new ≡ updates.old) }
     ensures same_history { OnErr result (history.new.entries ≡ history.old.entries) }
 {
-    let Some(at) = place_of(fixed.cast.as_slice(), role) else {
-        return Err(StepFault::NoAct);
-    };
     make_room(mail, history)?;
-    let state = &mut roles[at];
+    let state = &mut roles[place];
     match do_act(fixed, state, mail, updates, history, act) {
         Ok(()) => Ok(()),
         Err(fault) => Err(fault),

@@ -1,49 +1,31 @@
 -- The role is at its place, and the others stay.
-use Rattle.std.proofs.Common.{◌≡◌, ◌<◌, Some, slice_get, length, sym, ap, ◌∙◌, inl, arith}
 use Rattle.std.proofs.lemmas.List.{map-set}
-use Rattle.std.proofs.lemmas.Option.{slice_get_within}
-use Rattle.std.specs.List.{position}
 use Rattle.std.specs.Prelude.{map}
-use Rattle.dioc_terms.specs.Equality.{role_eq}
 use Rattle.rule_book.specs.KeptBooks.{book_of}
-use Rattle.net_core.proofs.PlaceLemmas.{place_at, place_none}
 use Rattle.net_core.proofs.RoleLemmas.{here_is, locals_same, refused_role}
 use Rattle.net_core.proofs.SameMail.{can_same, done_same}
 use Rattle.net_core.proofs.parts.step_role.Goals as goal
 
-pub returns-in_default-clause-refused : goal.returns-in_default-clause-refused
-returns-in_default-clause-refused g c =
-    inl (place_none c.args.role.now c.args.fixed.now.cast.now
-    (ap (position (role_eq c.args.role.now)) (sym c.as_slice.ensures) ∙ sym c.place_of.ensures ∙ c.in_default.is))
-
 pub do_act-requires-clause-can : goal.do_act-requires-clause-can
 do_act-requires-clause-can g c =
-    let at : slice_get c.args.fixed.now.cast.now c.in-Some.at ≡ Some c.args.role.now =
-    place_at c.args.role.now c.args.fixed.now.cast.now c.in-Some.at
-    (ap (position (role_eq c.args.role.now)) (sym c.as_slice.ensures) ∙ sym c.place_of.ensures ∙ c.in-Some.is) in
-    let within : c.in-Some.at < length c.args.roles.now.items =
-    omega (arith, c.requires.lengths, slice_get_within c.args.fixed.now.cast.now c.in-Some.at c.args.role.now at) in
     can_same c.args.mail.now c.make_room.new.mail c.make_room.ensures.same_mail (g.R.Runs.local c.index_mut-state.result.now) c.args.act.now
-    (c.requires.can (g.R.Runs.local c.index_mut-state.result.now) (record {
-      place = c.in-Some.at;
-      at = at;
-      here = here_is g.R.Runs.local c.args.roles.now.items c.in-Some.at c.index_mut-state.result.now c.index_mut-state.ensures.value within;
-    }))
+    (c.requires.can (g.R.Runs.local c.index_mut-state.result.now)
+    (here_is g.R.Runs.local c.args.roles.now.items c.args.place c.index_mut-state.result.now c.index_mut-state.ensures.value c.requires.there))
+
+pub do_act-requires-clause-tells : goal.do_act-requires-clause-tells
+do_act-requires-clause-tells g c =
+    c.requires.tells (g.R.Runs.local c.index_mut-state.result.now)
+    (here_is g.R.Runs.local c.args.roles.now.items c.args.place c.index_mut-state.result.now c.index_mut-state.ensures.value c.requires.there)
 
 pub returns-in-Ok-clause-did : goal.returns-in-Ok-clause-did
-returns-in-Ok-clause-did g c = λ rules of bodies.
-    let at : slice_get c.args.fixed.now.cast.now c.in-Some.at ≡ Some c.args.role.now =
-    place_at c.args.role.now c.args.fixed.now.cast.now c.in-Some.at
-    (ap (position (role_eq c.args.role.now)) (sym c.as_slice.ensures) ∙ sym c.place_of.ensures ∙ c.in-Some.is) in
-    let within : c.in-Some.at < length c.args.roles.now.items =
-    omega (arith, c.requires.lengths, slice_get_within c.args.fixed.now.cast.now c.in-Some.at c.args.role.now at) in
+returns-in-Ok-clause-did g c = λ role rules at of bodies.
     record {
-      place = c.in-Some.at;
+      place = c.args.place;
       at = at;
       local = g.R.Runs.local c.index_mut-state.result.now;
-      here = here_is g.R.Runs.local c.args.roles.now.items c.in-Some.at c.index_mut-state.result.now c.index_mut-state.ensures.value within;
+      here = here_is g.R.Runs.local c.args.roles.now.items c.args.place c.index_mut-state.result.now c.index_mut-state.ensures.value c.requires.there;
       becomes = g.R.Runs.local c.do_act.new.state;
-      locals = map-set g.R.Runs.local c.args.roles.now.items c.in-Some.at c.do_act.new.state;
+      locals = map-set g.R.Runs.local c.args.roles.now.items c.args.place c.do_act.new.state;
       did = done_same c.args.mail.now c.make_room.new.mail c.make_room.ensures.same_mail c.args.fixed.now.cast.now rules (book_of c.args.fixed.now.book.now) c.args.updates.now c.args.act.now
           (g.R.Runs.local c.index_mut-state.result.now) c.args.history.now.entries c.make_room.new.history.entries
           (g.R.Runs.local c.do_act.new.state) c.do_act.new.mail c.do_act.new.updates c.do_act.new.history.entries
@@ -51,34 +33,16 @@ returns-in-Ok-clause-did g c = λ rules of bodies.
     }
 
 pub returns-in-Err-clause-refused : goal.returns-in-Err-clause-refused
-returns-in-Err-clause-refused g c =
-    let at : slice_get c.args.fixed.now.cast.now c.in-Some.at ≡ Some c.args.role.now =
-    place_at c.args.role.now c.args.fixed.now.cast.now c.in-Some.at
-    (ap (position (role_eq c.args.role.now)) (sym c.as_slice.ensures) ∙ sym c.place_of.ensures ∙ c.in-Some.is) in
-    let within : c.in-Some.at < length c.args.roles.now.items =
-    omega (arith, c.requires.lengths, slice_get_within c.args.fixed.now.cast.now c.in-Some.at c.args.role.now at) in
-    refused_role c.args.fixed.now.cast.now (map g.R.Runs.local c.args.roles.now.items) c.args.role.now (g.R.Runs.local c.index_mut-state.result.now)
+returns-in-Err-clause-refused g c = λ role at.
+    refused_role c.args.fixed.now.cast.now (map g.R.Runs.local c.args.roles.now.items) role (g.R.Runs.local c.index_mut-state.result.now)
     (record {
-      place = c.in-Some.at;
+      place = c.args.place;
       at = at;
-      here = here_is g.R.Runs.local c.args.roles.now.items c.in-Some.at c.index_mut-state.result.now c.index_mut-state.ensures.value within;
+      here = here_is g.R.Runs.local c.args.roles.now.items c.args.place c.index_mut-state.result.now c.index_mut-state.ensures.value c.requires.there;
     })
     c.args.mail.now c.make_room.new.mail c.make_room.ensures.same_mail c.args.act.now c.in-Err.fault c.in-Err.ensures.refused
 
 pub returns-in-Err-clause-same_roles : goal.returns-in-Err-clause-same_roles
 returns-in-Err-clause-same_roles g c =
-    locals_same g.R.Runs.local c.args.roles.now.items c.in-Some.at c.index_mut-state.result.now c.index_mut-state.ensures.value
+    locals_same g.R.Runs.local c.args.roles.now.items c.args.place c.index_mut-state.result.now c.index_mut-state.ensures.value
     c.do_act.new.state c.in-Err.ensures.same_local
-
-pub do_act-requires-clause-tells : goal.do_act-requires-clause-tells
-do_act-requires-clause-tells g c =
-    let at : slice_get c.args.fixed.now.cast.now c.in-Some.at ≡ Some c.args.role.now =
-    place_at c.args.role.now c.args.fixed.now.cast.now c.in-Some.at
-    (ap (position (role_eq c.args.role.now)) (sym c.as_slice.ensures) ∙ sym c.place_of.ensures ∙ c.in-Some.is) in
-    let within : c.in-Some.at < length c.args.roles.now.items =
-    omega (arith, c.requires.lengths, slice_get_within c.args.fixed.now.cast.now c.in-Some.at c.args.role.now at) in
-    c.requires.tells (g.R.Runs.local c.index_mut-state.result.now) (record {
-      place = c.in-Some.at;
-      at = at;
-      here = here_is g.R.Runs.local c.args.roles.now.items c.in-Some.at c.index_mut-state.result.now c.index_mut-state.ensures.value within;
-    })

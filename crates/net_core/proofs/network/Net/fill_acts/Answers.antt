@@ -1,51 +1,32 @@
--- What the role offers is what it offers in the network.
-use Rattle.std.proofs.Common.{List, length, sym, ap, ◌∙◌, subst}
-use Rattle.std.specs.Prelude.{map}
-use Rattle.std.proofs.lemmas.List.{length-map}
+-- The role stands at its place.
+use Rattle.std.proofs.Common.{List, sym, ◌∙◌, subst}
+use Rattle.std.proofs.lemmas.Bool.{false≢true}
+use Rattle.std.proofs.lemmas.Option.{slice_get_within}
+use Rattle.std.proofs.lemmas.Result.{on_ok_weaker}
 use Rattle.dioc_terms.specs.declared.entries.Act.{Act}
-use Rattle.dioc_terms.specs.Equality.{member}
-use Rattle.dioc_terms.specs.Plain.{plain}
 use Rattle.dpoc_process.specs.LocalStates.{LacksAt}
-use Rattle.net_core.proofs.ActLemmas.{locals_long}
-use Rattle.net_core.proofs.PlacesLemmas.{offered_is}
-use Rattle.net_core.specs.Deeds.{IsAt}
-use Rattle.net_core.specs.KeptParts.{body_seen, due_seen}
-use Rattle.net_core.specs.Nets.{NetState, network_of}
-use Rattle.net_core.specs.Places.{OffersAt, offers_of}
-use Rattle.net_core.specs.Standing.{Parts}
+use Rattle.net_core.proofs.PlaceLemmas.{place_at, place_none}
+use Rattle.net_core.proofs.PlacesLemmas.{offers_placed}
 use Rattle.net_core.proofs.network.Net.fill_acts.Goals as goal
 
-pub fill_at-requires-clause-lengths : goal.fill_at-requires-clause-lengths
-fill_at-requires-clause-lengths g c =
-    let i = c.self.inside in
-    let parts : Parts = record { cast = i.cast; locals = map g.R.Runs.local i.roles.items; mail = i.mail; book = i.book; bodies = map body_seen i.bodies; coming = map due_seen i.coming.items; updates = i.updates; history = i.history.entries } in
-    ap length c.as_slice.ensures.value ∙ sym (length-map i.roles.items g.R.Runs.local) ∙ locals_long (plain i.of.value) i.limit parts c.self.invariant ∙ ap length (sym c.as_slice-cast.ensures)
+pub unreachable-requires : goal.unreachable-requires
+unreachable-requires g c =
+    absurd (false≢true (sym (place_none c.args.role.now c.args.self.now.bundle.cast (sym c.place_of.ensures ∙ c.in_default.is)) ∙ c.requires.member))
 
-pub fill_at-requires-clause-member : goal.fill_at-requires-clause-member
-fill_at-requires-clause-member g c =
-    ap (member c.args.role.now) (c.as_slice-cast.ensures ∙ c.self.invariant.cast)
-    ∙ ap (λ (net : NetState). member c.args.role.now net.bundle.cast) c.self.view_is
-    ∙ c.requires.member
+pub fill_acts_at-requires-clause-there : goal.fill_acts_at-requires-clause-there
+fill_acts_at-requires-clause-there g c =
+    let net = c.args.self.now in
+    slice_get_within net.bundle.cast c.in-Some.place c.args.role.now
+    (place_at c.args.role.now net.bundle.cast c.in-Some.place (sym c.place_of.ensures ∙ c.in-Some.is))
 
-pub fill_at-requires-clause-lacks : goal.fill_at-requires-clause-lacks
-fill_at-requires-clause-lacks g c local at =
-    let i = c.self.inside in
-    let parts : Parts = record { cast = i.cast; locals = map g.R.Runs.local i.roles.items; mail = i.mail; book = i.book; bodies = map body_seen i.bodies; coming = map due_seen i.coming.items; updates = i.updates; history = i.history.entries } in
-    let here : IsAt i.cast (map g.R.Runs.local i.roles.items) c.args.role.now local =
-    subst (λ roles. IsAt i.cast (map g.R.Runs.local roles) c.args.role.now local) c.as_slice.ensures.value
-    (subst (λ cast. IsAt cast (map g.R.Runs.local c.as_slice.result.now) c.args.role.now local) c.as_slice-cast.ensures at) in
-    subst (λ (all : List Act). LacksAt c.args.at c.args.acts.now.items all)
-    (sym (offered_is (plain i.of.value) i.limit parts c.self.invariant c.args.role.now local here
-    ∙ ap (λ (net : NetState). offers_of (network_of net) c.args.role.now) c.self.view_is))
-    c.requires.lacks
+pub fill_acts_at-requires-clause-lacks : goal.fill_acts_at-requires-clause-lacks
+fill_acts_at-requires-clause-lacks g c =
+    let net = c.args.self.now in
+    let at = place_at c.args.role.now net.bundle.cast c.in-Some.place (sym c.place_of.ensures ∙ c.in-Some.is) in
+    subst (λ (all : List Act). LacksAt c.args.at c.args.acts.now.items all) (sym (offers_placed net c.in-Some.place c.args.role.now at)) c.requires.lacks
 
-pub returns-in-Ok : goal.returns-in-Ok
-returns-in-Ok g c =
-    let i = c.self.inside in
-    let acts = c.fill_at.new.acts.items in
-    let parts : Parts = record { cast = i.cast; locals = map g.R.Runs.local i.roles.items; mail = i.mail; book = i.book; bodies = map body_seen i.bodies; coming = map due_seen i.coming.items; updates = i.updates; history = i.history.entries } in
-    let listed : OffersAt i.cast (map g.R.Runs.local i.roles.items) c.args.role.now acts =
-    subst (λ roles. OffersAt i.cast (map g.R.Runs.local roles) c.args.role.now acts) c.as_slice.ensures.value
-    (subst (λ cast. OffersAt cast (map g.R.Runs.local c.as_slice.result.now) c.args.role.now acts) c.as_slice-cast.ensures c.in-Ok.ensures) in
-    listed.offers ∙ offered_is (plain i.of.value) i.limit parts c.self.invariant c.args.role.now listed.local listed.is_at
-    ∙ ap (λ (net : NetState). offers_of (network_of net) c.args.role.now) c.self.view_is
+pub returns : goal.returns
+returns g c =
+    let net = c.args.self.now in
+    let at = place_at c.args.role.now net.bundle.cast c.in-Some.place (sym c.place_of.ensures ∙ c.in-Some.is) in
+    on_ok_weaker c.fill_acts_at.result (λ listed. listed ∙ offers_placed net c.in-Some.place c.args.role.now at) c.fill_acts_at.ensures
