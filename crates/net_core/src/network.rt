@@ -187,22 +187,9 @@ impl<R: Runs> Net<R> {
         }
     }
 
-    /// Lists the acts that the process of a role of the cast offers, in a list that has all of them
-    /// but some, which come one behind the other at the place `at`, counted from 0. After `Memory`
-    /// the list may have any acts.
-    pub fn fill_acts(&self, role: &Role, acts: &mut Vec<Act>, at: usize) -> Result<(), Memory>
-        requires member { member role.now self.now.bundle.cast ≡ true }
-        requires inside { at ≤ length acts.old.items }
-        requires lacks { LacksAt at acts.old.items (offers_of (network_of self.now) role.now) }
-        ensures { OnOk result (acts.new.items ≡ offers_of (network_of self.now) role.now) }
-    {
-        let Some(place) = self.place_of(role) else {
-            unreachable!()
-        };
-        self.fill_acts_at(place, acts, at)
-    }
-
-    /// What `fill_acts` does, for the role that stands at that place of the cast, counted from 0.
+    /// Lists the acts that the process of the role at that place of the cast offers, in a list that
+    /// has all of them but some, which come one behind the other at the place `at`, both places
+    /// counted from 0. After `Memory` the list may have any acts.
     pub fn fill_acts_at(&self, place: usize, acts: &mut Vec<Act>, at: usize) -> Result<(), Memory>
         requires there { place < length self.now.bundle.cast }
         requires inside { at ≤ length acts.old.items }
