@@ -24,7 +24,7 @@ use Rattle.network_steps.specs.Network.{Network}
 use Rattle.network_steps.specs.declared.moves.Move.{Move}
 use Rattle.network_steps.specs.declared.moves.Move.TheVariants as move
 use Rattle.schedule.proofs.AgendaLemmas.{got_in, none_put, ready_long, stay_listed}
-use Rattle.schedule.proofs.RoleLemmas.{all_same, listed_at, one_place, one_set, roles_listed, stands_in}
+use Rattle.schedule.proofs.RoleLemmas.{all_same, listed_at, one_place, one_set, roles_listed}
 use Rattle.schedule.specs.declared.roles.Listed.TheVariants as listed
 use Rattle.schedule.specs.declared.roles.ReadyRole.{ReadyRole}
 use Rattle.schedule.specs.Agendas.{Acted, DidAt, DidIn, Follows, HasActed, IsListedAs, IsStale, IsStaleAt, Shown, WasListed, agenda_of, half, move_at, moves_of, puts_to, ready_in, ready_seen}
@@ -96,6 +96,13 @@ listed_inside agenda doer place m h =
     let found = listed_there (map ready_seen agenda) doer place m h in
     omega (arith, got_inside (map ready_seen agenda) doer found.0 found.1, length-map agenda ready_seen)
 
+-- the role at a place of a net's agenda is that of the cast
+pub role_here : (net : NetState) (agenda : List ReadyRole) (doer : ℕ) (ready : ReadyRole) → map ready_seen agenda ≡ agenda_of net → ready ≡ get_or agenda doer ready
+    → doer < length agenda → slice_get net.bundle.cast doer ≡ Some ready.role
+role_here net agenda doer ready listed is inside =
+    (listed_at (ready_in (network_of net)) (λ r. refl) net.bundle.cast doer (ready_seen ready)
+    (ap (λ (l : List Shown). slice_get l doer) (sym listed) ∙ seen_at agenda doer ready is inside)).0
+
 -- a move of a role is the act at one of its places
 pub place_listed : (ready : ReadyRole) (place : ℕ) (m : Move) → slice_get (moves_of (ready_seen ready)) place ≡ Some m → place < length ready.ready.items
 place_listed ready place m h =
@@ -161,8 +168,8 @@ module _ (cast : List Role) (N : Network) (doer place : ℕ) (agenda : List Read
         listed_at (ready_in did.was.before) (λ r. refl) cast doer (ready_seen ready)
         (ap (λ (l : List Shown). slice_get l doer) (sym did.was.listed) ∙ seen_at agenda doer ready is doer_inside)
 
-    pub doer_member : member ready.role cast ≡ true
-    doer_member = stands_in cast doer ready.role in_cast.0
+    pub doer_here : slice_get cast doer ≡ Some ready.role
+    doer_here = in_cast.0
 
     pub did_at : DidAt N place (ready_seen ready)
     did_at = record {

@@ -173,7 +173,7 @@ listed_so N r acts places all here =
     ap₂ (λ (xs : List Act) (ps : List ℕ). (r, chosen ps xs, xs, ps)) all here
     ∙ ap (λ (done : List Act). (r, done, offers_of N r, places_of (is_ready N) (offers_of N r))) (chosen_places (is_ready N) (offers_of N r))
 
-pub filled_so : (N : Network) (r : Role) (acts : List Act) (places : List ℕ) → IsFilled N r acts places → (r, chosen places acts, acts, places) ≡ ready_in N r
+pub filled_so : (N : Network) (r : Role) (acts : List Act) (places : List ℕ) → IsFilled N (offers_of N r) acts places → (r, chosen places acts, acts, places) ≡ ready_in N r
 filled_so N r acts places is = listed_so N r acts places is.all (is.ready ∙ ap (places_of (is_ready N)) is.all)
 
 -- so it is once the takes of a message that was put to it are put among them

@@ -86,9 +86,10 @@ pub record StandsAt (p : Act → Bool) (place at : ℕ) (acts : List Act) (place
   pub split : places ≡ places_of p (take at acts) ++ (at ∷ places_from p (at + 1) (drop at acts))
   pub long : place ≡ length (places_of p (take at acts))
 
--- these are all acts that a role offers, and the places of those that it can do
-pub record IsFilled (N : Network) (q : Role) (acts : List Act) (places : List ℕ) : Type 0 where
-  pub all : acts ≡ offers_of N q
+-- these are all acts that are offered, and the places of those that can be done
+pub record IsFilled (N : Network) (offers : List Act) (acts : List Act) (places : List ℕ)
+    : Type 0 where
+  pub all : acts ≡ offers
   pub ready : places ≡ places_of (is_ready N) acts
 
 -- where a place behind this one is, once so many acts stand there in place of one

@@ -16,7 +16,7 @@ ghost use Rattle.dpoc_process.specs.LocalStates.{LacksAt};
 ghost use Rattle.network_steps.specs.Schedule.{is_ready};
 ghost use Rattle.net_core.specs.MovesIn.{are_places, chosen};
 ghost use Rattle.net_core.specs.Nets.{network_of};
-ghost use Rattle.net_core.specs.Places.{offers_of, places_of};
+ghost use Rattle.net_core.specs.Places.{offers_at, offers_of, places_of};
 ghost use Rattle.schedule.specs.Agendas.{DidAt, DidIn, HasActed, IsBehind, IsFilled, IsListedAs, IsStale, IsStaleAt, StandsAt, WasAgenda, WasListed, agenda_of, move_at, moved, moves_of, parted, puts_to, ready_in, ready_seen, takes, with_place};
 
 use crate::roles::{Listed, ReadyRole};
@@ -163,7 +163,7 @@ fn refresh<R: Runs>(
         (map ready_seen agenda.old) }
     ensures { OnOk result (map ready_seen agenda.new ≡ agenda_of net.now) }
 {
-    let done = act_on(net, place, &mut agenda[doer])?;
+    let done = act_on(net, doer, place, &mut agenda[doer])?;
     let received = receive(net, &done, doer, agenda);
     drop(done);
     received
@@ -249,16 +249,39 @@ fn place_for(places: &[usize], at: usize) -> Option<usize>
     places.iter().position(|place| at <= *place)
 }
 
+/// Where an act was taken out of those that a role offers.
+#[derive(Clone, Copy)]
+struct Gap {
+    /// The place of the role in the cast.
+    doer: usize,
+    /// Which of the places of what the role can do is that of the act.
+    place: usize,
+    /// The place of the act among all that the role offers.
+    at: usize,
+}
+
 /// Brings up to date what a role of the cast can do after its own act, which stands at that one of
 /// its places, and takes the act out.
-fn act_on<R: Runs>(net: &Net<R>, place: usize, ready: &mut ReadyRole) -> Result<Act, Memory>
-    requires member { member ready.old.role net.now.bundle.cast ≡ true }
+fn act_on<R: Runs>(
+    net: &Net<R>,
+    doer: usize,
+    place: usize,
+    ready: &mut ReadyRole,
+) -> Result<Act, Memory>
+    requires here { slice_get net.now.bundle.cast doer ≡ Some ready.old.role }
     requires own { DidAt (network_of net.now) place (ready_seen ready.old) }
     ensures act { IfOk result (λ act. slice_get (ready_seen ready.old).1 place ≡ Some act) }
     ensures listed { OnOk result
         (ready_seen ready.new ≡ ready_in (network_of net.now) ready.old.role) }
 {
-    fill_in(net, &ready.role, place, &mut ready.acts, &mut ready.ready)
+    fill_in(
+        net,
+        &ready.role,
+        doer,
+        place,
+        &mut ready.acts,
+        &mut ready.ready,
+    )
 }
 
 /// Puts the acts that a role offers after its act in place of that act, which it takes out. After
@@ -266,23 +289,24 @@ fn act_on<R: Runs>(net: &Net<R>, place: usize, ready: &mut ReadyRole) -> Result<
 fn fill_in<R: Runs>(
     net: &Net<R>,
     role: &Role,
+    doer: usize,
     place: usize,
     acts: &mut Vec<Act>,
     ready: &mut Vec<usize>,
 ) -> Result<Act, Memory>
-    requires member { member role.now net.now.bundle.cast ≡ true }
+    requires here { slice_get net.now.bundle.cast doer ≡ Some role.now }
     requires inside { are_places ready.old.items acts.old.items ≡ true }
     requires own { DidAt (network_of net.now) place
         (role.now, chosen ready.old.items acts.old.items, acts.old.items, ready.old.items) }
     ensures act { IfOk result
         (λ act. slice_get (chosen ready.old.items acts.old.items) place ≡ Some act) }
-    ensures filled { OnOk result
-        (IsFilled (network_of net.now) role.now acts.new.items ready.new.items) }
+    ensures filled { OnOk result (IsFilled (network_of net.now)
+        (offers_of (network_of net.now) role.now) acts.new.items ready.new.items) }
     ensures inside { are_places ready.new.items acts.new.items ≡ true }
 {
     let at = ready[place];
     let act = acts.remove(at);
-    match fill_others(net, role, &act, place, at, acts, ready) {
+    match fill_others(net, role, &act, Gap { doer, place, at }, acts, ready) {
         Ok(()) => Ok(act),
         Err(fault) => {
             ready.clear();
@@ -297,22 +321,23 @@ fn fill_others<R: Runs>(
     net: &Net<R>,
     role: &Role,
     act: &Act,
-    place: usize,
-    at: usize,
+    gap: Gap,
     acts: &mut Vec<Act>,
     ready: &mut Vec<usize>,
 ) -> Result<(), Memory>
-    requires member { member role.now net.now.bundle.cast ≡ true }
-    requires inside { at ≤ length acts.old.items }
-    requires lacks { LacksAt at acts.old.items (offers_of (network_of net.now) role.now) }
+    requires here { slice_get net.now.bundle.cast gap.doer ≡ Some role.now }
+    requires inside { gap.at ≤ length acts.old.items }
+    requires lacks { LacksAt gap.at acts.old.items (offers_of (network_of net.now) role.now) }
     requires stands { puts_to act.now role.now ≡ false
-        → StandsAt (is_ready (network_of net.now)) place at acts.old.items ready.old.items }
-    ensures { OnOk result (IsFilled (network_of net.now) role.now acts.new.items ready.new.items) }
+        → StandsAt (is_ready (network_of net.now)) gap.place gap.at acts.old.items
+        ready.old.items }
+    ensures { OnOk result (IsFilled (network_of net.now) (offers_of (network_of net.now) role.now)
+        acts.new.items ready.new.items) }
 {
     if puts_to(act, role) {
         return net.refresh_ready(role, acts, ready);
     }
-    fill_place(net, role, place, at, acts, ready)
+    fill_place(net, gap, acts, ready)
 }
 
 /// Whether the act puts a message to the role.
@@ -329,21 +354,21 @@ fn puts_to(act: &Act, role: &Role) -> bool
 /// it can do.
 fn fill_place<R: Runs>(
     net: &Net<R>,
-    role: &Role,
-    place: usize,
-    at: usize,
+    gap: Gap,
     acts: &mut Vec<Act>,
     ready: &mut Vec<usize>,
 ) -> Result<(), Memory>
-    requires member { member role.now net.now.bundle.cast ≡ true }
-    requires inside { at ≤ length acts.old.items }
-    requires lacks { LacksAt at acts.old.items (offers_of (network_of net.now) role.now) }
-    requires stands { StandsAt (is_ready (network_of net.now)) place at acts.old.items
+    requires there { gap.doer < length net.now.bundle.cast }
+    requires inside { gap.at ≤ length acts.old.items }
+    requires lacks { LacksAt gap.at acts.old.items (offers_at net.now gap.doer) }
+    requires stands { StandsAt (is_ready (network_of net.now)) gap.place gap.at acts.old.items
         ready.old.items }
-    ensures { OnOk result (IsFilled (network_of net.now) role.now acts.new.items ready.new.items) }
+    ensures { OnOk result (IsFilled (network_of net.now) (offers_at net.now gap.doer)
+        acts.new.items ready.new.items) }
 {
+    let Gap { doer, place, at } = gap;
     let before = acts.len();
-    net.fill_acts(role, acts, at)?;
+    net.fill_acts_at(doer, acts, at)?;
     let count = acts.len() - before;
     if count == 1 {
         ask_one(net, &acts[at], place, ready);

@@ -5,7 +5,7 @@ ghost use Rattle.dioc_terms.specs.Plain.{setting};
 ghost use Rattle.network_steps.specs.Schedule.{moves};
 ghost use Rattle.net_core.specs.Changes.{change_fault};
 ghost use Rattle.net_core.specs.Nets.{IsSoundRun, network_of};
-ghost use Rattle.net_core.specs.Steps.{fault_of};
+ghost use Rattle.net_core.specs.Steps.{IsStepAt, fault_at};
 ghost use Rattle.network_steps.specs.declared.moves.Move.{Move as OneMove};
 ghost use Rattle.network_steps.specs.declared.moves.Move.TheVariants as move;
 ghost use Rattle.schedule.specs.Agendas.{IsBehind, IsListedAs, agenda_of, move_at, moves_of, ready_seen};
@@ -14,7 +14,7 @@ ghost use Rattle.schedule.specs.Turns.{Advances, CanMakeListed, IsMoveOf, IsNext
 use crate::agenda::{count_acts, find_number};
 use crate::numbers::move_place;
 use crate::roles::{Listed, ReadyRole};
-use dioc_terms::{Act, Memory, Role};
+use dioc_terms::{Act, Memory};
 use dpoc_process::Runs;
 use net_core::{ChangeFault, Net};
 use network_steps::StepFault;
@@ -75,6 +75,7 @@ fn change_or_act(agenda: &[ReadyRole], place: u128) -> Listed
 
 /// Makes a move of the agenda that has no fault. After a refusal the net is unchanged.
 fn make<R: Runs>(net: &mut Net<R>, agenda: &[ReadyRole], next: Listed) -> Result<(), Memory>
+    requires agenda { map ready_seen agenda.now ≡ agenda_of net.old }
     requires can { CanMakeListed net.old (map ready_seen agenda.now) next }
     requires few { (network_of net.old).updates < 4294967295 }
     ensures made { OnOk result ((m : OneMove) → move_at (map ready_seen agenda.now) next ≡ Some m
@@ -86,7 +87,7 @@ fn make<R: Runs>(net: &mut Net<R>, agenda: &[ReadyRole], next: Listed) -> Result
         Listed::Act(doer, place) => {
             let ready = &agenda[doer];
             let act = &ready.acts[ready.ready[place]];
-            make_step(net, &ready.role, act)
+            make_step(net, doer, act)
         }
     }
 }
@@ -104,14 +105,15 @@ fn make_change<R: Runs>(net: &mut Net<R>) -> Result<(), Memory>
     }
 }
 
-/// Makes the step of a role, which has no fault.
-fn make_step<R: Runs>(net: &mut Net<R>, role: &Role, act: &Act) -> Result<(), Memory>
-    requires can { fault_of net.old role.now act.now ≡ None }
+/// Makes the step of the role at a place of the cast, which has no fault.
+fn make_step<R: Runs>(net: &mut Net<R>, doer: usize, act: &Act) -> Result<(), Memory>
+    requires there { doer < length net.old.bundle.cast }
+    requires can { fault_at net.old doer act.now ≡ None }
     requires few { (network_of net.old).updates < 4294967295 }
-    ensures made { OnOk result (IsMoveOf net.old (move.Act role.now act.now) net.new) }
+    ensures made { OnOk result (IsStepAt net.old doer act.now net.new) }
     ensures err { OnErr result (net.new ≡ net.old) }
 {
-    match net.step(role, act) {
+    match net.step_at(doer, act) {
         Ok(()) => Ok(()),
         Err(StepFault::Memory) => Err(Memory),
         Err(_) => unreachable!(),

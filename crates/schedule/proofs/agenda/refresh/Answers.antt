@@ -1,17 +1,16 @@
--- The role that acted is one of the cast, and the others are as they were.
-use Rattle.std.proofs.Common.{◌≡◌, true, slice_get, sym, ap, ◌∙◌, subst}
-use Rattle.dioc_terms.specs.Equality.{member}
+-- The role that acted is the one at its place of the cast, and the others are as they were.
+use Rattle.std.proofs.Common.{◌≡◌, Some, slice_get, sym, ap, ◌∙◌, subst}
 use Rattle.net_core.specs.Nets.{network_of}
-use Rattle.schedule.proofs.ActedLemmas.{did_at, doer_member, has_acted}
+use Rattle.schedule.proofs.ActedLemmas.{did_at, doer_here, has_acted}
 use Rattle.schedule.specs.declared.roles.ReadyRole.{ReadyRole}
 use Rattle.schedule.specs.Agendas.{DidAt, ready_in, ready_seen}
 use Rattle.schedule.proofs.agenda.refresh.Goals as goal
 
-pub act_on-requires-clause-member : goal.act_on-requires-clause-member
-act_on-requires-clause-member g c =
+pub act_on-requires-clause-here : goal.act_on-requires-clause-here
+act_on-requires-clause-here g c =
     let net = c.args.net.now in
-    subst (λ (ready : ReadyRole). member ready.role net.bundle.cast ≡ true) c.index-agenda-doer.is
-    (doer_member net.bundle.cast (network_of net) c.args.doer c.args.place c.args.agenda.now c.requires c.index-agenda-doer.result c.index-agenda-doer.is)
+    subst (λ (ready : ReadyRole). slice_get net.bundle.cast c.args.doer ≡ Some ready.role) c.index-agenda-doer.is
+    (doer_here net.bundle.cast (network_of net) c.args.doer c.args.place c.args.agenda.now c.requires c.index-agenda-doer.result c.index-agenda-doer.is)
 
 pub act_on-requires-clause-own : goal.act_on-requires-clause-own
 act_on-requires-clause-own g c =

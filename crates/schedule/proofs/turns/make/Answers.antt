@@ -2,10 +2,13 @@
 use Rattle.std.proofs.Common.{◌≡◌, get_or, Some, sym, ap, ◌∙◌, subst, arith}
 use Rattle.std.specs.Prelude.{map}
 use Rattle.std.proofs.lemmas.List.{get_or_default}
+use Rattle.std.proofs.lemmas.Option.{slice_get_within}
 use Rattle.std.proofs.lemmas.Result.{on_ok_weaker}
 use Rattle.network_steps.specs.declared.moves.Move.{Move}
 use Rattle.net_core.proofs.Choosing.{place_inside}
-use Rattle.schedule.proofs.ActedLemmas.{move_is, move_of_role, place_listed}
+use Rattle.net_core.proofs.NetLemmas.{fault_placed, step_placed}
+use Rattle.schedule.proofs.ActedLemmas.{listed_inside, move_is, move_of_role, place_listed, role_here}
+use Rattle.schedule.proofs.TurnLemmas.{move_of_step}
 use Rattle.schedule.specs.declared.roles.Listed.{Listed}
 use Rattle.schedule.specs.Agendas.{move_at, ready_seen}
 use Rattle.schedule.specs.Turns.{CanMake, IsMoveOf}
@@ -33,8 +36,17 @@ index-act-requires g c =
     c.index.ensures ∙ get_or_default ready.ready.items place c.index.result.now 0 inside in
     omega (arith, at, place_inside ready.acts.items ready.ready.items place ready.inside inside, ready.acts.ok.0)
 
+pub make_step-requires-clause-there : goal.make_step-requires-clause-there
+make_step-requires-clause-there g c =
+    let net = c.args.net.now in
+    let ready = c.index-agenda-doer.result in
+    let there = subst (λ (made : Listed). move_at (map ready_seen c.args.agenda.now) made ≡ Some c.requires.can.move) c.in-Act.is c.requires.can.there in
+    slice_get_within net.bundle.cast c.in-Act.doer ready.role
+    (role_here net c.args.agenda.now c.in-Act.doer ready c.requires.agenda c.index-agenda-doer.is (listed_inside c.args.agenda.now c.in-Act.doer c.in-Act.place c.requires.can.move there))
+
 pub make_step-requires-clause-can : goal.make_step-requires-clause-can
 make_step-requires-clause-can g c =
+    let net = c.args.net.now in
     let ready = c.index-agenda-doer.result in
     let place = c.in-Act.place in
     let x = c.index-act.result.now in
@@ -43,19 +55,24 @@ make_step-requires-clause-can g c =
     let got = move_of_role c.args.agenda.now c.in-Act.doer ready c.index-agenda-doer.is place m there in
     let at : c.index.result.now ≡ get_or ready.ready.items place 0 =
     c.index.ensures ∙ get_or_default ready.ready.items place c.index.result.now 0 (place_listed ready place m got) in
-    subst (CanMake c.args.net.now) (move_is ready place m x got (c.index-act.ensures ∙ ap (λ n. get_or ready.acts.items n x) at)) c.requires.can.can
+    let here = role_here net c.args.agenda.now c.in-Act.doer ready c.requires.agenda c.index-agenda-doer.is (listed_inside c.args.agenda.now c.in-Act.doer place m there) in
+    fault_placed net c.in-Act.doer ready.role x here
+    ∙ subst (CanMake net) (move_is ready place m x got (c.index-act.ensures ∙ ap (λ n. get_or ready.acts.items n x) at)) c.requires.can.can
 
 pub returns-in-Act-clause-made : goal.returns-in-Act-clause-made
 returns-in-Act-clause-made g c =
+    let net = c.args.net.now in
     let ready = c.index-agenda-doer.result in
     let place = c.in-Act.place in
     let x = c.index-act.result.now in
     on_ok_weaker c.make_step.result
-    (λ made m there.
-    let got = move_of_role c.args.agenda.now c.in-Act.doer ready c.index-agenda-doer.is place m
-    (subst (λ (next : Listed). move_at (map ready_seen c.args.agenda.now) next ≡ Some m) c.in-Act.is there) in
+    (λ made m listed.
+    let there = subst (λ (next : Listed). move_at (map ready_seen c.args.agenda.now) next ≡ Some m) c.in-Act.is listed in
+    let got = move_of_role c.args.agenda.now c.in-Act.doer ready c.index-agenda-doer.is place m there in
     let at : c.index.result.now ≡ get_or ready.ready.items place 0 =
     c.index.ensures ∙ get_or_default ready.ready.items place c.index.result.now 0 (place_listed ready place m got) in
-    subst (λ (k : Move). IsMoveOf c.args.net.now k c.make_step.new.net)
-    (sym (move_is ready place m x got (c.index-act.ensures ∙ ap (λ n. get_or ready.acts.items n x) at))) made)
+    let here = role_here net c.args.agenda.now c.in-Act.doer ready c.requires.agenda c.index-agenda-doer.is (listed_inside c.args.agenda.now c.in-Act.doer place m there) in
+    subst (λ (k : Move). IsMoveOf net k c.make_step.new.net)
+    (sym (move_is ready place m x got (c.index-act.ensures ∙ ap (λ n. get_or ready.acts.items n x) at)))
+    (move_of_step net c.make_step.new.net ready.role x (step_placed net c.make_step.new.net c.in-Act.doer ready.role x here made)))
     c.make_step.ensures.made
