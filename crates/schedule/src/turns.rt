@@ -2,7 +2,7 @@
 
 ghost use Rattle.std.specs.Prelude.{◌≡◌, ◌<◌, ◌≤◌, ◌+◌, ◌∷◌, false, None, Some, IfOk, OnErr, OnOk, flat_map, length, map};
 ghost use Rattle.dioc_terms.specs.Plain.{setting};
-ghost use Rattle.network_steps.specs.Schedule.{moves};
+ghost use Rattle.network_steps.specs.Schedule.{move_place, moves};
 ghost use Rattle.net_core.specs.Changes.{change_fault};
 ghost use Rattle.net_core.specs.Nets.{IsSoundRun, network_of};
 ghost use Rattle.net_core.specs.Steps.{IsStepAt, fault_at};
@@ -50,13 +50,27 @@ fn next_move<R: Runs>(net: &Net<R>, agenda: &[ReadyRole], seed: Option<u64>) -> 
     requires agenda { map ready_seen agenda.now ≡ agenda_of net.now }
     ensures { IsNext net.now seed (map ready_seen agenda.now) result }
 {
-    let acts = count_acts(agenda);
     if net.is_change_due() {
-        let place = move_place(seed, acts + 1);
+        let place = next_place(agenda, seed, 1);
         change_or_act(agenda, place)
     } else {
-        let number = move_place(seed, acts);
+        let number = next_place(agenda, seed, 0);
         find_number(agenda, number)
+    }
+}
+
+/// The place of the move that the schedule takes next, of the acts and so many moves before them.
+/// Without a seed it is the first, so nothing is counted.
+fn next_place(agenda: &[ReadyRole], seed: Option<u64>, before: u128) -> u128
+    requires few { before ≤ 1 }
+    requires some { 0 < length (flat_map moves_of (map ready_seen agenda.now)) + before }
+    ensures place { result ≡ move_place seed
+        (length (flat_map moves_of (map ready_seen agenda.now)) + before) }
+    ensures below { result < length (flat_map moves_of (map ready_seen agenda.now)) + before }
+{
+    match seed {
+        None => 0,
+        Some(_) => move_place(seed, count_acts(agenda) + before),
     }
 }
 
