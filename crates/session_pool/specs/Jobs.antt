@@ -13,7 +13,7 @@ use Rattle.session_pool.specs.Answers.{PlainAnswer, answers_of, numbered}
 -- what is to be made of the answers of all sessions of an order
 abbrev pub expected : {V : Type 0} → (ℕ → PlainAnswer → V) → Order → List V
 expected made_of order =
-  numbered made_of 0 (answers_of order.seed order.limit (map plain order.bundles.now))
+    numbered made_of 0 (answers_of order.seed order.limit (map plain order.bundles.now))
 
 -- a worker that has claimed nothing
 pub record HasClaimedNothing {T : Type 0} (tickets : Tickets) (job : Job T) : Type 0 where
