@@ -8,6 +8,7 @@ ghost use Rattle.trace_picture.specs.declared.drawing.PictureFault.TheVariants.{
 
 use crate::lanes::lanes_of;
 use crate::mermaid::write_mermaid;
+use crate::scene::Scene;
 use crate::svg::write_svg;
 use crate::terminal::write_terminal;
 use dioc_terms::{Entry, Last, Memory, Role};
@@ -83,11 +84,16 @@ pub fn write_picture(
     if lanes.len() > MOST_ROLES {
         return Err(PictureFault::TooManyRoles);
     }
+    let scene = Scene {
+        lanes: &lanes,
+        entries,
+        last,
+    };
     let start = out.len();
     let written = match style {
-        Style::Terminal => write_terminal(alloc, &lanes, entries, last, out),
-        Style::Mermaid => write_mermaid(alloc, &lanes, entries, last, out),
-        Style::Svg => write_svg(alloc, &lanes, entries, last, out),
+        Style::Terminal => write_terminal(alloc, &scene, out),
+        Style::Mermaid => write_mermaid(alloc, &scene, out),
+        Style::Svg => write_svg(alloc, &scene, out),
     };
     cut_back(written, start, out)?;
     Ok(())

@@ -11,6 +11,7 @@ pub mod laws;
 mod mermaid;
 mod reading;
 mod runs;
+mod scene;
 mod shapes;
 mod strokes;
 mod svg;

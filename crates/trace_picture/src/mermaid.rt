@@ -8,6 +8,7 @@ ghost use Rattle.trace_picture.specs.Mermaid.{is_quiet, mermaid_byte, mermaid_wo
 
 use crate::labels::{write_label, write_last_line};
 use crate::runs::write_shortened;
+use crate::scene::Scene;
 use crate::shapes::{Shape, shape_of};
 use dioc_terms::{Entry, Last, Memory, Role};
 use std::alloc::Global;
@@ -191,36 +192,15 @@ fn write_head(lanes: &[Role], out: &mut Vec<u8>) -> Result<(), Memory>
     write_participants(lanes, out)
 }
 
-/// Appends the entries, in their order.
-fn write_entries(
-    alloc: Global,
-    lanes: &[Role],
-    entries: &[Entry],
-    out: &mut Vec<u8>,
-) -> Result<(), Memory>
+/// Appends the Mermaid diagram of a trace.
+pub fn write_mermaid(alloc: Global, scene: &Scene<'_>, out: &mut Vec<u8>) -> Result<(), Memory>
     ensures ok { OnOk result (out.new.items ≡ out.old.items
-        ++ flat_map (mermaid_entry lanes.now) entries.now) }
+        ++ mermaid_picture scene.now.lanes.now scene.now.entries.now scene.now.last.now) }
     ensures memory { OnErr result (KeepsFront out.old.items out.new.items) }
 {
-    for entry in entries {
-        write_entry(alloc, lanes, entry, out)?;
+    write_head(scene.lanes, out)?;
+    for entry in scene.entries {
+        write_entry(alloc, scene.lanes, entry, out)?;
     }
-    Ok(())
-}
-
-/// Appends the Mermaid diagram of a trace with these lanes.
-pub fn write_mermaid(
-    alloc: Global,
-    lanes: &[Role],
-    entries: &[Entry],
-    last: &Option<Last>,
-    out: &mut Vec<u8>,
-) -> Result<(), Memory>
-    ensures ok { OnOk result (out.new.items ≡ out.old.items
-        ++ mermaid_picture lanes.now entries.now last.now) }
-    ensures memory { OnErr result (KeepsFront out.old.items out.new.items) }
-{
-    write_head(lanes, out)?;
-    write_entries(alloc, lanes, entries, out)?;
-    write_foot(lanes, last, out)
+    write_foot(scene.lanes, scene.last, out)
 }

@@ -13,6 +13,7 @@ use crate::fragments::write_fragments;
 use crate::labels::write_label;
 use crate::lanes::longest_name;
 use crate::runs::write_shortened;
+use crate::scene::Scene;
 use crate::shapes::{Shape, Sign, shape_of};
 use crate::svg_parts::{
     write_arrow, write_lane_line, write_open, write_open_line, write_paper, write_rectangle,
@@ -309,47 +310,6 @@ fn write_lane(
     write_box(alloc, columns, 12, lane, role, out)
 }
 
-/// Appends the lanes, down to `floor`.
-fn write_lanes(
-    alloc: Global,
-    columns: usize,
-    floor: u64,
-    lanes: &[Role],
-    out: &mut Vec<u8>,
-) -> Result<(), Memory>
-    requires columns { (3 ≤ columns) × (columns ≤ 34) }
-    requires lanes { length lanes.now ≤ most_roles }
-    ensures ok { OnOk result (out.new.items ≡ out.old.items
-        ++ pieces_from (svg_lane columns floor) 0 lanes.now) }
-    ensures memory { OnErr result (KeepsFront out.old.items out.new.items) }
-{
-    for (lane, role) in lanes.iter().enumerate() {
-        write_lane(alloc, columns, floor, lane, role, out)?;
-    }
-    Ok(())
-}
-
-/// Appends the boxes of the lanes at `y`.
-fn write_boxes(
-    alloc: Global,
-    columns: usize,
-    y: u64,
-    lanes: &[Role],
-    out: &mut Vec<u8>,
-) -> Result<(), Memory>
-    requires columns { (3 ≤ columns) × (columns ≤ 34) }
-    requires lanes { length lanes.now ≤ most_roles }
-    requires low { y < 2 ^ 40 }
-    ensures ok { OnOk result (out.new.items ≡ out.old.items
-        ++ pieces_from (name_box columns y) 0 lanes.now) }
-    ensures memory { OnErr result (KeepsFront out.old.items out.new.items) }
-{
-    for (lane, role) in lanes.iter().enumerate() {
-        write_box(alloc, columns, y, lane, role, out)?;
-    }
-    Ok(())
-}
-
 fn write_head(
     alloc: Global,
     columns: usize,
@@ -365,7 +325,10 @@ fn write_head(
 {
     let floor = row_y(rows);
     write_open(width(columns, lanes), floor + 62, out)?;
-    write_lanes(alloc, columns, floor, lanes, out)
+    for (lane, role) in lanes.iter().enumerate() {
+        write_lane(alloc, columns, floor, lane, role, out)?;
+    }
+    Ok(())
 }
 
 #[tactic(auto, unfolding(crate::specs::Svg::svg_last))]
@@ -406,7 +369,9 @@ fn write_tail(
     ensures memory { OnErr result (KeepsFront out.old.items out.new.items) }
 {
     let floor = row_y(rows);
-    write_boxes(alloc, columns, floor, lanes, out)?;
+    for (lane, role) in lanes.iter().enumerate() {
+        write_box(alloc, columns, floor, lane, role, out)?;
+    }
     write_end(alloc, floor, last, out)?;
     write_bytes(b"</svg>\n", out)
 }
@@ -432,22 +397,15 @@ fn write_entries(
     Ok(())
 }
 
-/// Appends the SVG of a trace with these lanes.
-pub fn write_svg(
-    alloc: Global,
-    lanes: &[Role],
-    entries: &[Entry],
-    last: &Option<Last>,
-    out: &mut Vec<u8>,
-) -> Result<(), Memory>
-    requires lanes { length lanes.now ≤ most_roles }
-    requires entries { length entries.now < 2 ^ 32 }
+/// Appends the SVG of a trace.
+pub fn write_svg(alloc: Global, scene: &Scene<'_>, out: &mut Vec<u8>) -> Result<(), Memory>
     ensures ok { OnOk result (out.new.items ≡ out.old.items
-        ++ svg_picture lanes.now entries.now last.now) }
+        ++ svg_picture scene.now.lanes.now scene.now.entries.now scene.now.last.now) }
     ensures memory { OnErr result (KeepsFront out.old.items out.new.items) }
 {
+    let (lanes, entries) = (scene.lanes, scene.entries);
     let columns = columns_of(alloc, lanes, entries)?;
     write_head(alloc, columns, lanes, entries.len(), out)?;
     write_entries(alloc, columns, lanes, entries, out)?;
-    write_tail(alloc, columns, lanes, entries.len(), last, out)
+    write_tail(alloc, columns, lanes, entries.len(), scene.last, out)
 }

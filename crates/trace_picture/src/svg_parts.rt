@@ -193,69 +193,56 @@ pub fn write_words_beside(
     }
 }
 
-/// Appends the colours.
+/// The colours.
 #[tactic(auto, unfolding(crate::specs::Svg::style_text))]
-fn write_style(out: &mut Vec<u8>) -> Result<(), Memory>
-    ensures ok { OnOk result (out.new.items ≡ out.old.items ++ style_text) }
-    ensures memory { OnErr result (KeepsFront out.old.items out.new.items) }
+fn style_text() -> &'static [u8]
+    ensures { result.now ≡ style_text }
 {
-    let fragments = [
-        Plain(b"<style>text{font:12px monospace;fill:#222}.back{text-anchor:end}"),
-        Plain(b".ground{fill:#fff}.lane{stroke:#b8b8b8;stroke-dasharray:5 4}"),
-        Plain(b".role rect{fill:#e8eef8;stroke:#42659c}"),
-        Plain(b".role text{text-anchor:middle;font-weight:bold}"),
-        Plain(b".put line,.put .open{stroke:#1d4f91;stroke-width:1.6}"),
-        Plain(b".aux line{stroke:#999;stroke-dasharray:3 3}.aux .open{stroke:#999}"),
-        Plain(b"g text{paint-order:stroke;stroke:#fff;stroke-width:7px;stroke-linejoin:round}"),
-        Plain(b".put circle,.take circle{fill:#1d4f91}.input circle{fill:#2e8540}"),
-        Plain(b".set circle{fill:#fff;stroke:#1d4f91;stroke-width:2}"),
-        Plain(b".pick circle{fill:#8a3ab9}.aux circle{fill:#999}"),
-        Plain(b"g .open{fill:#fff}#tip{fill:#1d4f91}#pale{fill:#999}"),
-        Plain(b".aux [marker-end]{marker-end:url(#pale)}"),
-        Plain(b".keep rect{fill:#f4f4f4;stroke:#999}.replace rect{fill:#ffe2b8;stroke:#c77700}"),
-        Plain(b".change rect{fill:#ddf1dd;stroke:#2e8540}"),
-        Plain(b".role text,.keep text,.replace text,.change text{stroke:none}\n"),
-    ];
-    write_fragments(&fragments, out)
+    b"<style>text{font:12px monospace;fill:#222}.back{text-anchor:end}\
+    .ground{fill:#fff}.lane{stroke:#b8b8b8;stroke-dasharray:5 4}\
+    .role rect{fill:#e8eef8;stroke:#42659c}\
+    .role text{text-anchor:middle;font-weight:bold}\
+    .put line,.put .open{stroke:#1d4f91;stroke-width:1.6}\
+    .aux line{stroke:#999;stroke-dasharray:3 3}.aux .open{stroke:#999}\
+    g text{paint-order:stroke;stroke:#fff;stroke-width:7px;stroke-linejoin:round}\
+    .put circle,.take circle{fill:#1d4f91}.input circle{fill:#2e8540}\
+    .set circle{fill:#fff;stroke:#1d4f91;stroke-width:2}\
+    .pick circle{fill:#8a3ab9}.aux circle{fill:#999}\
+    g .open{fill:#fff}#tip{fill:#1d4f91}#pale{fill:#999}\
+    .aux [marker-end]{marker-end:url(#pale)}\
+    .keep rect{fill:#f4f4f4;stroke:#999}.replace rect{fill:#ffe2b8;stroke:#c77700}\
+    .change rect{fill:#ddf1dd;stroke:#2e8540}\
+    .role text,.keep text,.replace text,.change text{stroke:none}\n"
 }
 
-/// Appends the colours on a dark ground.
+/// The colours on a dark ground.
 #[tactic(auto, unfolding(crate::specs::Svg::dark_text))]
-fn write_dark(out: &mut Vec<u8>) -> Result<(), Memory>
-    ensures ok { OnOk result (out.new.items ≡ out.old.items ++ dark_text) }
-    ensures memory { OnErr result (KeepsFront out.old.items out.new.items) }
+fn dark_text() -> &'static [u8]
+    ensures { result.now ≡ dark_text }
 {
-    let fragments = [
-        Plain(b"@media(prefers-color-scheme:dark){text{fill:#e4e4e4}.ground{fill:#16181d}"),
-        Plain(b".lane{stroke:#5c616b}.role rect{fill:#233049;stroke:#7fa8e8}"),
-        Plain(b".put line,.put .open{stroke:#7fb0ff}.aux line,.aux .open{stroke:#8a8f99}"),
-        Plain(b"g text{stroke:#16181d}.put circle,.take circle{fill:#7fb0ff}"),
-        Plain(b".set circle{fill:#16181d;stroke:#7fb0ff}.input circle{fill:#5ecb7b}"),
-        Plain(b".pick circle{fill:#c792ea}.aux circle{fill:#8a8f99}g .open{fill:#16181d}"),
-        Plain(b"#tip{fill:#7fb0ff}#pale{fill:#8a8f99}.keep rect{fill:#2a2d34;stroke:#8a8f99}"),
-        Plain(b".replace rect{fill:#4a3413;stroke:#e09a3e}"),
-        Plain(b".change rect{fill:#1d3a24;stroke:#5ecb7b}}</style>\n"),
-    ];
-    write_fragments(&fragments, out)
+    b"@media(prefers-color-scheme:dark){\
+    text{fill:#e4e4e4}.ground{fill:#16181d}\
+    .lane{stroke:#5c616b}.role rect{fill:#233049;stroke:#7fa8e8}\
+    .put line,.put .open{stroke:#7fb0ff}.aux line,.aux .open{stroke:#8a8f99}\
+    g text{stroke:#16181d}.put circle,.take circle{fill:#7fb0ff}\
+    .set circle{fill:#16181d;stroke:#7fb0ff}.input circle{fill:#5ecb7b}\
+    .pick circle{fill:#c792ea}.aux circle{fill:#8a8f99}g .open{fill:#16181d}\
+    #tip{fill:#7fb0ff}#pale{fill:#8a8f99}.keep rect{fill:#2a2d34;stroke:#8a8f99}\
+    .replace rect{fill:#4a3413;stroke:#e09a3e}\
+    .change rect{fill:#1d3a24;stroke:#5ecb7b}}</style>\n"
 }
 
-/// Appends the tips of arrows.
+/// The tips of arrows.
 #[tactic(auto, unfolding(crate::specs::Svg::tip_text))]
-fn write_tip(out: &mut Vec<u8>) -> Result<(), Memory>
-    ensures ok { OnOk result (out.new.items ≡ out.old.items ++ tip_text) }
-    ensures memory { OnErr result (KeepsFront out.old.items out.new.items) }
+fn tip_text() -> &'static [u8]
+    ensures { result.now ≡ tip_text }
 {
-    let fragments = [
-        Plain(b"<defs><marker id=\"tip\" viewBox=\"0 0 10 8\" refX=\"14\" refY=\"4\" "),
-        Plain(b"markerWidth=\"10\" markerHeight=\"8\" "),
-        Plain(b"markerUnits=\"userSpaceOnUse\" orient=\"auto\">"),
-        Plain(b"<path d=\"M0 0L10 4L0 8z\"/></marker>\n"),
-        Plain(b"<marker id=\"pale\" viewBox=\"0 0 10 8\" refX=\"14\" refY=\"4\" "),
-        Plain(b"markerWidth=\"10\" markerHeight=\"8\" "),
-        Plain(b"markerUnits=\"userSpaceOnUse\" orient=\"auto\">"),
-        Plain(b"<path d=\"M0 0L10 4L0 8z\"/></marker></defs>\n"),
-    ];
-    write_fragments(&fragments, out)
+    b"<defs><marker id=\"tip\" viewBox=\"0 0 10 8\" refX=\"14\" refY=\"4\" \
+    markerWidth=\"10\" markerHeight=\"8\" markerUnits=\"userSpaceOnUse\" orient=\"auto\">\
+    <path d=\"M0 0L10 4L0 8z\"/></marker>\n\
+    <marker id=\"pale\" viewBox=\"0 0 10 8\" refX=\"14\" refY=\"4\" \
+    markerWidth=\"10\" markerHeight=\"8\" markerUnits=\"userSpaceOnUse\" orient=\"auto\">\
+    <path d=\"M0 0L10 4L0 8z\"/></marker></defs>\n"
 }
 
 /// Appends the tag that opens a picture of this size.
@@ -299,8 +286,8 @@ pub fn write_open(wide: u64, high: u64, out: &mut Vec<u8>) -> Result<(), Memory>
     ensures memory { OnErr result (KeepsFront out.old.items out.new.items) }
 {
     write_tag(wide, high, out)?;
-    write_style(out)?;
-    write_dark(out)?;
-    write_tip(out)?;
+    write_bytes(style_text(), out)?;
+    write_bytes(dark_text(), out)?;
+    write_bytes(tip_text(), out)?;
     write_ground(wide, high, out)
 }

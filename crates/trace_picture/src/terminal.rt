@@ -12,6 +12,7 @@ ghost use Rattle.trace_picture.specs.Terminal.{are_named, reach_of, heading, nam
 use crate::labels::{write_label, write_last_line};
 use crate::lanes::longest_name;
 use crate::runs::{write_repeated, write_shortened};
+use crate::scene::Scene;
 use crate::shapes::{Shape, shape_of};
 use crate::strokes::write_cell;
 use dioc_terms::{Entry, Last, Memory, Role};
@@ -261,38 +262,15 @@ fn write_foot(lanes: &[Role], last: &Option<Last>, out: &mut Vec<u8>) -> Result<
     }
 }
 
-/// Appends the entries, in their order.
-fn write_entries(
-    alloc: Global,
-    lanes: &[Role],
-    entries: &[Entry],
-    out: &mut Vec<u8>,
-) -> Result<(), Memory>
-    requires lanes { length lanes.now ≤ most_roles }
+/// Appends the picture of a trace in letters.
+pub fn write_terminal(alloc: Global, scene: &Scene<'_>, out: &mut Vec<u8>) -> Result<(), Memory>
     ensures ok { OnOk result (out.new.items ≡ out.old.items
-        ++ flat_map (entry_row lanes.now) entries.now) }
+        ++ terminal_picture scene.now.lanes.now scene.now.entries.now scene.now.last.now) }
     ensures memory { OnErr result (KeepsFront out.old.items out.new.items) }
 {
-    for entry in entries {
-        write_entry(alloc, lanes, entry, out)?;
+    write_head(alloc, scene.lanes, out)?;
+    for entry in scene.entries {
+        write_entry(alloc, scene.lanes, entry, out)?;
     }
-    Ok(())
-}
-
-/// Appends the picture in letters of a trace with these lanes.
-pub fn write_terminal(
-    alloc: Global,
-    lanes: &[Role],
-    entries: &[Entry],
-    last: &Option<Last>,
-    out: &mut Vec<u8>,
-) -> Result<(), Memory>
-    requires lanes { length lanes.now ≤ most_roles }
-    ensures ok { OnOk result (out.new.items ≡ out.old.items
-        ++ terminal_picture lanes.now entries.now last.now) }
-    ensures memory { OnErr result (KeepsFront out.old.items out.new.items) }
-{
-    write_head(alloc, lanes, out)?;
-    write_entries(alloc, lanes, entries, out)?;
-    write_foot(lanes, last, out)
+    write_foot(scene.lanes, scene.last, out)
 }
