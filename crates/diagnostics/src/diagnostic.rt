@@ -1,6 +1,6 @@
 //! What is told of a fault of a text.
 
-ghost use Rattle.std.specs.Prelude.{◌≢◌, None, IfOk};
+ghost use Rattle.std.specs.Prelude.{◌≡◌, ◌≢◌, None, IfOk};
 
 use dioc_terms::Memory;
 
@@ -64,6 +64,19 @@ impl Code {
 pub struct Span {
     pub start: usize,
     pub end: usize,
+}
+
+impl Span {
+    /// No byte, at a place.
+    pub(crate) fn at(byte: usize) -> Span
+        ensures start { result.start ≡ byte }
+        ensures end { result.end ≡ byte }
+    {
+        Span {
+            start: byte,
+            end: byte,
+        }
+    }
 }
 
 /// A fault of a text: where it is, why it is one, and what helps.

@@ -8,13 +8,14 @@ use crate::crowds::crowded;
 use crate::diagnostic::{Code, Diagnostic, Span};
 use crate::mending::write_mended;
 use crate::places::{construct_at, name_at, part_at, span_at};
-use crate::wording::{Piece, line_of, made, stated, write_pieces, write_roles};
+use crate::wording::{Piece, line_of, made, stated, write_pieces, write_quoted_word, write_roles};
 use aioc_tokens::{Lexed, Token, sorts};
 use dioc_terms::{Bundle, Index, Memory, Role};
 use index_marks::{depth, nodes};
 use limits::{MOST_BODY_DEPTH, MOST_BODY_NODES, MOST_CHANGES, MOST_NODES, MOST_ROLES, MOST_RULES};
 use rule_checks::{Refusal, Where, Which};
 use std::alloc::Global;
+use text_pieces::write_bytes;
 use text_places::{Mark, find_mark, position_at, tokens_of};
 
 /// A text with its tokens, and the bundle that it spells.
@@ -68,7 +69,7 @@ impl<'a> Spelled<'a> {
     fn span(&self, at: Option<usize>) -> Span {
         match at {
             Some(at) => span_at(self.bytes, self.tokens, at),
-            None => Span { start: 0, end: 0 },
+            None => Span::at(0),
         }
     }
 
@@ -106,19 +107,29 @@ impl<'a> Spelled<'a> {
     }
 }
 
-/// Appends which part of the bundle is spoken of.
-fn write_part(spelled: &Spelled<'_>, part: Where, out: &mut Vec<u8>) -> Result<(), Memory> {
-    match part {
-        Where::Program => Ok(()),
-        Where::Rule(number) => write_pieces(
+/// A line that says this of a role in a part of the bundle.
+fn line_of_role(
+    alloc: Global,
+    spelled: &Spelled<'_>,
+    part: Where,
+    role: &[u8],
+    says: &[u8],
+) -> Result<Vec<u8>, Memory> {
+    let mut line = Vec::new(alloc);
+    if let Where::Rule(number) = part {
+        let rule = spelled.rule_name(number);
+        write_pieces(
             &[
                 Piece::Bytes(b"in rule '"),
-                Piece::Bytes(spelled.rule_name(number)),
+                Piece::Bytes(rule),
                 Piece::Bytes(b"': "),
             ],
-            out,
-        ),
+            &mut line,
+        )?;
     }
+    write_quoted_word(role, &mut line)?;
+    write_bytes(says, &mut line)?;
+    Ok(line)
 }
 
 /// A diagnostic that says how many there are and how many may be.
@@ -126,25 +137,12 @@ fn counted(
     alloc: Global,
     span: Span,
     count: usize,
-    what: &[u8],
+    what: &str,
     most: usize,
 ) -> Result<Diagnostic, Memory> {
-    let help: &[u8] = b"docs/LANGUAGE.md has all limits of a bundle";
-    stated(
-        alloc,
-        Code::TooMany,
-        span,
-        &[
-            Piece::Bytes(b"there are "),
-            Piece::Number(count as u64),
-            Piece::Bytes(b" "),
-            Piece::Bytes(what),
-            Piece::Bytes(b", and at most "),
-            Piece::Number(most as u64),
-            Piece::Bytes(b" may be"),
-        ],
-        &[Piece::Bytes(help)],
-    )
+    let message = format!(in alloc; "there are {count} {what}, and at most {most} may be")?;
+    let help = b"docs/LANGUAGE.md has all limits of a bundle";
+    stated(alloc, Code::TooMany, span, message, help)
 }
 
 /// More roles than may be: the place is that of the first role that is one too many.
@@ -159,7 +157,7 @@ fn too_many_roles(alloc: Global, spelled: &Spelled<'_>) -> Result<Diagnostic, Me
         alloc,
         span,
         cast.len(),
-        b"roles of the choreography",
+        "roles of the choreography",
         MOST_ROLES,
     )
 }
@@ -176,7 +174,7 @@ fn too_many_rules(alloc: Global, spelled: &Spelled<'_>) -> Result<Diagnostic, Me
         alloc,
         span,
         crowd.count,
-        b"rules in the book at once",
+        "rules in the book at once",
         MOST_RULES,
     )
 }
@@ -186,14 +184,14 @@ fn too_many(alloc: Global, spelled: &Spelled<'_>, which: Which) -> Result<Diagno
         Which::Nodes => {
             let span = spelled.span(spelled.part(Where::Program));
             let count = nodes(&spelled.bundle.choreo);
-            counted(alloc, span, count, b"nodes of the choreography", MOST_NODES)
+            counted(alloc, span, count, "nodes of the choreography", MOST_NODES)
         }
         Which::Roles => too_many_roles(alloc, spelled),
         Which::Rules => too_many_rules(alloc, spelled),
         Which::Changes => {
             let span = spelled.span(find_mark(spelled.text, Mark::Change, 0, MOST_CHANGES));
             let count = spelled.bundle.script.len();
-            counted(alloc, span, count, b"changes of the script", MOST_CHANGES)
+            counted(alloc, span, count, "changes of the script", MOST_CHANGES)
         }
     }
 }
@@ -208,16 +206,8 @@ fn unknown_role(
         Where::Program => find_mark(spelled.text, Mark::Input(role.0.bytes()), 0, 0),
         Where::Rule(_) => spelled.role(part, role),
     };
-    let mut message = Vec::new(alloc);
-    write_part(spelled, part, &mut message)?;
-    write_pieces(
-        &[
-            Piece::Bytes(b"'"),
-            Piece::Bytes(role.0.bytes()),
-            Piece::Bytes(b"' is no role of the choreography"),
-        ],
-        &mut message,
-    )?;
+    let says = b" is no role of the choreography";
+    let message = line_of_role(alloc, spelled, part, role.0.bytes(), says)?;
     let mut help = line_of(
         alloc,
         &[Piece::Bytes(b"the roles of the choreography are: ")],
@@ -242,45 +232,21 @@ fn self_message(
         Some(at) => name_at(spelled.text, at.saturating_add(2)),
         None => b"?",
     };
-    let mut message = Vec::new(alloc);
-    write_part(spelled, part, &mut message)?;
-    write_pieces(
-        &[
-            Piece::Bytes(b"'"),
-            Piece::Bytes(role),
-            Piece::Bytes(b"' sends to itself"),
-        ],
-        &mut message,
-    )?;
-    made(
+    let message = line_of_role(alloc, spelled, part, role, b" sends to itself")?;
+    let help = line_of(
         alloc,
-        Code::SelfMessage,
-        spelled.span(at),
-        message,
         &[
             Piece::Bytes(b"a role sets a variable of its own by an assignment: x@"),
             Piece::Bytes(role),
             Piece::Bytes(b" = .."),
         ],
-    )
-}
-
-/// Appends where a token of the text stands.
-fn write_position(
-    spelled: &Spelled<'_>,
-    at: Option<usize>,
-    out: &mut Vec<u8>,
-) -> Result<(), Memory> {
-    let start = spelled.span(at).start.min(spelled.bytes.len());
-    let position = position_at(spelled.bytes, start);
-    write_pieces(
-        &[
-            Piece::Number(position.line as u64),
-            Piece::Bytes(b":"),
-            Piece::Number(position.column as u64),
-        ],
-        out,
-    )
+    )?;
+    Ok(Diagnostic {
+        code: Code::SelfMessage,
+        span: spelled.span(at),
+        message,
+        help,
+    })
 }
 
 fn unlinked(
@@ -292,20 +258,16 @@ fn unlinked(
 ) -> Result<Diagnostic, Memory>
     requires { IsFormed (plain spelled.now.bundle.now) }
 {
-    let mut message = Vec::new(alloc);
-    write_part(spelled, part, &mut message)?;
+    let start = spelled.span(spelled.construct(part, indices[0])).start;
+    let from = position_at(spelled.bytes, start.min(spelled.bytes.len()));
+    let says = b" begins this part of a sequence, but has no part in an end of what \
+        comes before it, from ";
+    let mut message = line_of_role(alloc, spelled, part, role.0.bytes(), says)?;
     write_pieces(
         &[
-            Piece::Bytes(b"'"),
-            Piece::Bytes(role.0.bytes()),
-            Piece::Bytes(b"' begins this part of a sequence, but has no part in an end of what"),
-            Piece::Bytes(b" comes before it, from "),
-        ],
-        &mut message,
-    )?;
-    write_position(spelled, spelled.construct(part, indices[0]), &mut message)?;
-    write_pieces(
-        &[
+            Piece::Number(from.line as u64),
+            Piece::Bytes(b":"),
+            Piece::Number(from.column as u64),
             Piece::Bytes(b" on: so '"),
             Piece::Bytes(role.0.bytes()),
             Piece::Bytes(b"' can't know when to begin"),
@@ -328,11 +290,8 @@ fn body_too_big(alloc: Global, spelled: &Spelled<'_>, number: u32) -> Result<Dia
         None => (0, 0),
     };
     let span = spelled.span(spelled.part(Where::Rule(number)));
-    let help: &[u8] = b"each step, 'skip', ';' and '|' is a node: move steps out of the rule";
-    stated(
+    let message = line_of(
         alloc,
-        Code::BodyTooBig,
-        span,
         &[
             Piece::Bytes(b"the body of rule '"),
             Piece::Bytes(spelled.rule_name(number)),
@@ -346,6 +305,7 @@ fn body_too_big(alloc: Global, spelled: &Spelled<'_>, number: u32) -> Result<Dia
             Piece::Number(MOST_BODY_DEPTH as u64),
             Piece::Bytes(b" may be"),
         ],
-        &[Piece::Bytes(help)],
-    )
+    )?;
+    let help = b"each step, 'skip', ';' and '|' is a node: move steps out of the rule";
+    made(alloc, Code::BodyTooBig, span, message, help)
 }

@@ -188,50 +188,67 @@ impl<'a> Standing<'a> {
     /// construct of the choreography and of bodies that replaced scopes those that its kind can
     /// make, and the script's next change. All that may come next are among them.
     pub(crate) fn candidates(&self, alloc: Global) -> Result<Vec<Entry>, Memory> {
-        let mut found = Vec::new(alloc);
-        self.add_part(alloc, &self.bundle.choreo, 0, &mut found)?;
+        let mut candidates = Candidates {
+            alloc,
+            standing: self,
+            found: Vec::new(alloc),
+        };
+        candidates.add_part(&self.bundle.choreo, 0)?;
         for body in &self.bodies {
-            self.add_part(alloc, body.choreo, body.epoch, &mut found)?;
+            candidates.add_part(body.choreo, body.epoch)?;
         }
-        self.add_change(alloc, &mut found)?;
-        Ok(found)
+        candidates.add_change()?;
+        Ok(candidates.found)
     }
+}
 
+/// The entries that may come next, as far as they are found.
+#[derive(Drop)]
+struct Candidates<'a> {
+    alloc: Global,
+    standing: &'a Standing<'a>,
+    found: Vec<Entry>,
+}
+
+impl<'a> Candidates<'a> {
     /// Adds what the constructs of a choreography can make.
-    fn add_part(
-        &self,
-        alloc: Global,
-        choreo: &Choreo,
-        epoch: u32,
-        out: &mut Vec<Entry>,
-    ) -> Result<(), Memory> {
+    fn add_part(&mut self, choreo: &Choreo, epoch: u32) -> Result<(), Memory> {
+        self.add_own(choreo, epoch)?;
         match choreo {
             Choreo::Seq(first, second) | Choreo::Par(first, second) => {
-                self.add_part(alloc, first, epoch, out)?;
-                self.add_part(alloc, second, epoch, out)
+                self.add_part(first, epoch)?;
+                self.add_part(second, epoch)
             }
             Choreo::If { yes, no, .. } => {
-                self.add_lead(alloc, choreo, epoch, out)?;
-                self.add_part(alloc, yes, epoch, out)?;
-                self.add_part(alloc, no, epoch, out)
+                self.add_part(yes, epoch)?;
+                self.add_part(no, epoch)
             }
-            Choreo::While { body, .. } | Choreo::Scope { body, .. } => {
-                self.add_lead(alloc, choreo, epoch, out)?;
-                self.add_part(alloc, body, epoch, out)
-            }
-            step => self.add_step(alloc, step, epoch, out),
+            Choreo::While { body, .. } | Choreo::Scope { body, .. } => self.add_part(body, epoch),
+            _ => Ok(()),
         }
     }
 
-    /// Adds what the leader of a choice, a loop or a scope can make there.
-    fn add_lead(
-        &self,
-        alloc: Global,
-        construct: &Choreo,
-        epoch: u32,
-        out: &mut Vec<Entry>,
-    ) -> Result<(), Memory> {
+    /// Adds what a construct makes itself, without its parts.
+    fn add_own(&mut self, construct: &Choreo, epoch: u32) -> Result<(), Memory> {
         match construct {
+            Choreo::Com {
+                index,
+                op,
+                from,
+                expr,
+                to,
+                var,
+            } => {
+                let key = key_of(self.alloc, at(epoch, index), op, from, to)?;
+                self.add_message(key, expr, var)
+            }
+            Choreo::Set {
+                index,
+                var,
+                role,
+                expr,
+            } => self.add_setting(at(epoch, index), var, role, expr),
+            Choreo::Input { index, var, role } => self.add_input(at(epoch, index), var, role),
             Choreo::If {
                 index,
                 leader,
@@ -243,125 +260,67 @@ impl<'a> Standing<'a> {
                 leader,
                 guard,
                 ..
-            } => self.add_pick(alloc, at(epoch, index), leader, guard, out),
-            Choreo::Scope { index, leader, .. } => {
-                self.add_choices(alloc, at(epoch, index), leader, out)
-            }
-            _ => Ok(()),
-        }
-    }
-
-    /// Adds what a step can make.
-    fn add_step(
-        &self,
-        alloc: Global,
-        step: &Choreo,
-        epoch: u32,
-        out: &mut Vec<Entry>,
-    ) -> Result<(), Memory> {
-        match step {
-            Choreo::Com {
-                index,
-                op,
-                from,
-                expr,
-                to,
-                var,
-            } => {
-                let key = key_of(alloc, at(epoch, index), op, from, to)?;
-                self.add_message(alloc, key, expr, var, out)
-            }
-            Choreo::Set {
-                index,
-                var,
-                role,
-                expr,
-            } => self.add_setting(alloc, at(epoch, index), var, role, expr, out),
-            Choreo::Input { index, var, role } => {
-                self.add_input(alloc, at(epoch, index), var, role, out)
-            }
+            } => self.add_pick(at(epoch, index), leader, guard),
+            Choreo::Scope { index, leader, .. } => self.add_choices(at(epoch, index), leader),
             _ => Ok(()),
         }
     }
 
     /// Adds that a message is sent, and that it is taken.
-    fn add_message(
-        &self,
-        alloc: Global,
-        key: Key,
-        expr: &Expr,
-        var: &Name,
-        out: &mut Vec<Entry>,
-    ) -> Result<(), Memory> {
-        if let Some(store) = self.store(&key.from) {
-            let value = eval(alloc, expr, store)?;
-            out.push(Entry::Put {
-                key: key.copy(alloc)?,
+    fn add_message(&mut self, key: Key, expr: &Expr, var: &Name) -> Result<(), Memory> {
+        if let Some(store) = self.standing.store(&key.from) {
+            let value = eval(self.alloc, expr, store)?;
+            self.found.push(Entry::Put {
+                key: key.copy(self.alloc)?,
                 note: Note::Val(value),
             })?;
         }
-        out.push(Entry::Take {
+        self.found.push(Entry::Take {
             key,
-            var: Some(var.copy(alloc)?),
+            var: Some(var.copy(self.alloc)?),
         })?;
         Ok(())
     }
 
     /// Adds that a role sets a variable.
     fn add_setting(
-        &self,
-        alloc: Global,
+        &mut self,
         index: Index,
         var: &Name,
         role: &Role,
         expr: &Expr,
-        out: &mut Vec<Entry>,
     ) -> Result<(), Memory> {
-        if let Some(store) = self.store(role) {
-            out.push(Entry::Set {
+        if let Some(store) = self.standing.store(role) {
+            self.found.push(Entry::Set {
                 index,
-                role: role.copy(alloc)?,
-                var: var.copy(alloc)?,
-                value: eval(alloc, expr, store)?,
+                role: role.copy(self.alloc)?,
+                var: var.copy(self.alloc)?,
+                value: eval(self.alloc, expr, store)?,
             })?;
         }
         Ok(())
     }
 
     /// Adds that a role reads its next input.
-    fn add_input(
-        &self,
-        alloc: Global,
-        index: Index,
-        var: &Name,
-        role: &Role,
-        out: &mut Vec<Entry>,
-    ) -> Result<(), Memory> {
-        if let Some(store) = self.store(role) {
-            out.push(Entry::Input {
+    fn add_input(&mut self, index: Index, var: &Name, role: &Role) -> Result<(), Memory> {
+        if let Some(store) = self.standing.store(role) {
+            self.found.push(Entry::Input {
                 index,
-                role: role.copy(alloc)?,
-                var: var.copy(alloc)?,
-                value: store.copy_of_next_input(alloc)?,
+                role: role.copy(self.alloc)?,
+                var: var.copy(self.alloc)?,
+                value: store.copy_of_next_input(self.alloc)?,
             })?;
         }
         Ok(())
     }
 
     /// Adds that a leader picks by a guard.
-    fn add_pick(
-        &self,
-        alloc: Global,
-        index: Index,
-        leader: &Role,
-        guard: &Expr,
-        out: &mut Vec<Entry>,
-    ) -> Result<(), Memory> {
-        if let Some(store) = self.store(leader) {
-            let flag = eval(alloc, guard, store)? == Value::Bool(true);
-            out.push(Entry::Pick {
+    fn add_pick(&mut self, index: Index, leader: &Role, guard: &Expr) -> Result<(), Memory> {
+        if let Some(store) = self.standing.store(leader) {
+            let flag = eval(self.alloc, guard, store)? == Value::Bool(true);
+            self.found.push(Entry::Pick {
                 index,
-                role: leader.copy(alloc)?,
+                role: leader.copy(self.alloc)?,
                 flag,
             })?;
         }
@@ -369,25 +328,19 @@ impl<'a> Standing<'a> {
     }
 
     /// Adds that a leader keeps a scope, and that a rule of the book replaces it.
-    fn add_choices(
-        &self,
-        alloc: Global,
-        index: Index,
-        leader: &Role,
-        out: &mut Vec<Entry>,
-    ) -> Result<(), Memory> {
-        out.push(Entry::Scope {
+    fn add_choices(&mut self, index: Index, leader: &Role) -> Result<(), Memory> {
+        self.found.push(Entry::Scope {
             index,
-            role: leader.copy(alloc)?,
+            role: leader.copy(self.alloc)?,
             chosen: Chosen::Keep,
         })?;
-        for name in &self.book {
-            out.push(Entry::Scope {
+        for name in &self.standing.book {
+            self.found.push(Entry::Scope {
                 index,
-                role: leader.copy(alloc)?,
+                role: leader.copy(self.alloc)?,
                 chosen: Chosen::Rule {
-                    name: name.copy(alloc)?,
-                    epoch: self.updates.saturating_add(1),
+                    name: name.copy(self.alloc)?,
+                    epoch: self.standing.updates.saturating_add(1),
                 },
             })?;
         }
@@ -395,27 +348,28 @@ impl<'a> Standing<'a> {
     }
 
     /// Adds the script's next change.
-    fn add_change(&self, alloc: Global, out: &mut Vec<Entry>) -> Result<(), Memory> {
-        let timed = match self.bundle.script.as_slice().get(self.changes) {
+    fn add_change(&mut self) -> Result<(), Memory> {
+        let bundle = self.standing.bundle;
+        let timed = match bundle.script.as_slice().get(self.standing.changes) {
             Some(timed) => timed,
             None => return Ok(()),
         };
         let entry = match &timed.change {
-            Change::Add(number) => match self.bundle.rules.as_slice().get(*number as usize) {
+            Change::Add(number) => match bundle.rules.as_slice().get(*number as usize) {
                 Some(rule) => Entry::Add {
-                    name: rule.name.copy(alloc)?,
+                    name: rule.name.copy(self.alloc)?,
                 },
                 None => return Ok(()),
             },
             Change::Drop(name) => Entry::Drop {
-                name: name.copy(alloc)?,
+                name: name.copy(self.alloc)?,
             },
             Change::Env(key, value) => Entry::Env {
-                key: key.copy(alloc)?,
-                value: value.copy(alloc)?,
+                key: key.copy(self.alloc)?,
+                value: value.copy(self.alloc)?,
             },
         };
-        out.push(entry)?;
+        self.found.push(entry)?;
         Ok(())
     }
 }

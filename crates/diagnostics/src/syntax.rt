@@ -35,24 +35,12 @@ pub fn of_syntax(alloc: Global, bytes: &[u8], byte: usize) -> Result<Diagnostic,
 }
 
 fn too_long(alloc: Global, bytes: &[u8]) -> Result<Diagnostic, Memory> {
-    let span = Span {
-        start: MOST_BYTES,
-        end: MOST_BYTES,
-    };
-    let help: &[u8] =
-        b"drop comments and spaces, or the trace, which may stand in a text of its own";
-    stated(
-        alloc,
-        Code::TooLong,
-        span,
-        &[
-            Piece::Bytes(b"the text has "),
-            Piece::Number(bytes.len() as u64),
-            Piece::Bytes(b" bytes, and a bundle at most "),
-            Piece::Number(MOST_BYTES as u64),
-        ],
-        &[Piece::Bytes(help)],
-    )
+    let count = bytes.len();
+    let message = format!(in alloc;
+        "the text has {count} bytes, and a bundle at most {MOST_BYTES}"
+    )?;
+    let help = b"drop comments and spaces, or the trace, which may stand in a text of its own";
+    stated(alloc, Code::TooLong, Span::at(MOST_BYTES), message, help)
 }
 
 /// A byte that is in no token.
@@ -61,59 +49,35 @@ fn bad_byte(alloc: Global, bytes: &[u8], at: usize) -> Result<Diagnostic, Memory
         start: at,
         end: at.saturating_add(1).min(bytes.len()),
     };
-    let byte = match bytes.get(at) {
-        Some(byte) => *byte,
-        None => 0,
-    };
-    if byte == b'"' {
-        return open_text(alloc, span);
+    match bytes.get(at) {
+        Some(b'"') => open_text(alloc, span),
+        Some(sign @ 0x21..=0x7e) => stray_sign(alloc, span, *sign),
+        Some(byte) => stray_byte(alloc, span, *byte),
+        None => stray_byte(alloc, span, 0),
     }
-    if byte > 0x20 && byte < 0x7f {
-        return stray_sign(alloc, span, byte);
-    }
-    let help: &[u8] = b"outside of comments a bundle has printable ASCII, tabs and line ends alone";
-    stated(
-        alloc,
-        Code::BadByte,
-        span,
-        &[
-            Piece::Bytes(b"found the byte "),
-            Piece::Number(byte as u64),
-            Piece::Bytes(b", which is in no token"),
-        ],
-        &[Piece::Bytes(help)],
-    )
 }
 
 /// A text in quotes that doesn't end.
 fn open_text(alloc: Global, span: Span) -> Result<Diagnostic, Memory> {
-    let line: &[u8] = b"a text ends on its line; it has printable ASCII, ";
-    let pairs: &[u8] = b"and '\"' and '\\' behind a '\\'";
-    stated(
-        alloc,
-        Code::BadByte,
-        span,
-        &[Piece::Bytes(b"a text in quotes begins here and doesn't end")],
-        &[Piece::Bytes(line), Piece::Bytes(pairs)],
-    )
+    let message = format!(in alloc; "a text in quotes begins here and doesn't end")?;
+    let help = b"a text ends on its line; it has printable ASCII, and '\"' and '\\' behind a '\\'";
+    stated(alloc, Code::BadByte, span, message, help)
 }
 
 /// A printable byte that is in no token.
 fn stray_sign(alloc: Global, span: Span, byte: u8) -> Result<Diagnostic, Memory> {
-    let shown = [byte];
-    let name: &[u8] = b"a name has letters, digits and '_', and begins with a letter; ";
-    let comment: &[u8] = b"comments begin with '//'";
-    stated(
-        alloc,
-        Code::BadByte,
-        span,
-        &[
-            Piece::Bytes(b"found '"),
-            Piece::Bytes(&shown),
-            Piece::Bytes(b"', which is in no token"),
-        ],
-        &[Piece::Bytes(name), Piece::Bytes(comment)],
-    )
+    let sign = char::from(byte);
+    let message = format!(in alloc; "found '{sign}', which is in no token")?;
+    let help = b"a name has letters, digits and '_', and begins with a letter; \
+        comments begin with '//'";
+    stated(alloc, Code::BadByte, span, message, help)
+}
+
+/// Another byte that is in no token.
+fn stray_byte(alloc: Global, span: Span, byte: u8) -> Result<Diagnostic, Memory> {
+    let message = format!(in alloc; "found the byte {byte}, which is in no token")?;
+    let help = b"outside of comments a bundle has printable ASCII, tabs and line ends alone";
+    stated(alloc, Code::BadByte, span, message, help)
 }
 
 /// A token that may not stand where it does, or the end of the text where more is wanted.
@@ -141,8 +105,7 @@ fn unwanted(
     write_items(alloc, &items, over, &mut message)?;
     write_bytes(b", found ", &mut message)?;
     write_found(text, bytes, found, at, &mut message)?;
-    let help = help_of(sort, &items);
-    made(alloc, Code::Syntax, span, message, &[Piece::Bytes(help)])
+    made(alloc, Code::Syntax, span, message, help_of(sort, &items))
 }
 
 /// What helps where a token of this sort may not stand, and these may.
@@ -162,49 +125,32 @@ fn help_of(sort: Sort, items: &[Item]) -> &'static [u8] {
 /// A name or a text that is too long.
 fn long(alloc: Global, span: Span, token: &[u8]) -> Result<Diagnostic, Memory> {
     if token.starts_with(b"\"") {
-        let help: &[u8] = b"split the text, and join its parts by '++' where they are used";
-        return stated(
-            alloc,
-            Code::Long,
-            span,
-            &[
-                Piece::Bytes(b"this text is too long: a text has at most "),
-                Piece::Number(MOST_TEXT_BYTES as u64),
-                Piece::Bytes(b" bytes"),
-            ],
-            &[Piece::Bytes(help)],
-        );
+        let message = format!(in alloc;
+            "this text is too long: a text has at most {MOST_TEXT_BYTES} bytes"
+        )?;
+        let help = b"split the text, and join its parts by '++' where they are used";
+        return stated(alloc, Code::Long, span, message, help);
     }
-    let help: &[u8] = b"choose a shorter name";
-    stated(
-        alloc,
-        Code::Long,
-        span,
-        &[
-            Piece::Bytes(b"this name has "),
-            Piece::Number(token.len() as u64),
-            Piece::Bytes(b" bytes, and a name at most "),
-            Piece::Number(MOST_NAME_BYTES as u64),
-        ],
-        &[Piece::Bytes(help)],
-    )
+    let count = token.len();
+    let message = format!(in alloc;
+        "this name has {count} bytes, and a name at most {MOST_NAME_BYTES}"
+    )?;
+    stated(alloc, Code::Long, span, message, b"choose a shorter name")
 }
 
 /// A number where one may stand, but a smaller one.
 fn great_number(alloc: Global, span: Span, token: &[u8]) -> Result<Diagnostic, Memory> {
-    let value: &[u8] = b"a value is at most 9223372036854775807, ";
-    let others: &[u8] = b"a place or an epoch 4294967295, a priority 1000000";
-    stated(
+    let message = line_of(
         alloc,
-        Code::Number,
-        span,
         &[
             Piece::Bytes(b"the number "),
             Piece::Bytes(&token[..token.len().min(40)]),
             Piece::Bytes(b" is too great here"),
         ],
-        &[Piece::Bytes(value), Piece::Bytes(others)],
-    )
+    )?;
+    let help = b"a value is at most 9223372036854775807, \
+        a place or an epoch 4294967295, a priority 1000000";
+    made(alloc, Code::Number, span, message, help)
 }
 
 /// The place of the first bracket that is open with as many others as may be, if any.
@@ -236,42 +182,25 @@ fn past_limit(
     byte: usize,
 ) -> Result<Diagnostic, Memory> {
     match bracket_past_limit(text) {
-        Some(at) => {
-            let help: &[u8] = b"drop brackets around single steps and operands";
-            stated(
-                alloc,
-                Code::Brackets,
-                span_at(bytes, found, at),
-                &[
-                    Piece::Bytes(b"too many brackets are open here: at most "),
-                    Piece::Number(MOST_BRACKETS as u64),
-                    Piece::Bytes(b" may be open at once"),
-                ],
-                &[Piece::Bytes(help)],
-            )
-        }
-        None => too_deep(alloc, byte),
+        Some(at) => too_many_brackets(alloc, span_at(bytes, found, at)),
+        None => too_deep(alloc, Span::at(byte)),
     }
 }
 
-fn too_deep(alloc: Global, byte: usize) -> Result<Diagnostic, Memory> {
-    let span = Span {
-        start: byte,
-        end: byte,
-    };
-    let why: &[u8] =
-        b"a step behind ';' and a part behind '|' lie one deeper than the one before it";
-    let help: &[u8] = b": put some into brackets";
-    stated(
-        alloc,
-        Code::Depth,
-        span,
-        &[
-            Piece::Bytes(b"what stands here is too deep: the tree of a choreography is at most "),
-            Piece::Number(MOST_DEPTH as u64),
-            Piece::Bytes(b" deep, that of an expression at most "),
-            Piece::Number(MOST_EXPRESSION_DEPTH as u64),
-        ],
-        &[Piece::Bytes(why), Piece::Bytes(help)],
-    )
+fn too_many_brackets(alloc: Global, span: Span) -> Result<Diagnostic, Memory> {
+    let message = format!(in alloc;
+        "too many brackets are open here: at most {MOST_BRACKETS} may be open at once"
+    )?;
+    let help = b"drop brackets around single steps and operands";
+    stated(alloc, Code::Brackets, span, message, help)
+}
+
+fn too_deep(alloc: Global, span: Span) -> Result<Diagnostic, Memory> {
+    let message = format!(in alloc;
+        "what stands here is too deep: the tree of a choreography is at most {MOST_DEPTH} deep, \
+        that of an expression at most {MOST_EXPRESSION_DEPTH}"
+    )?;
+    let help = b"a step behind ';' and a part behind '|' lie one deeper than the one before it: \
+        put some into brackets";
+    stated(alloc, Code::Depth, span, message, help)
 }

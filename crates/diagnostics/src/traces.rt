@@ -232,7 +232,7 @@ fn span_among(
             start: span_at(bytes, tokens, line.0).start,
             end: span_at(bytes, tokens, line.1.saturating_sub(1)).end,
         }),
-        None => Ok(Span { start: 0, end: 0 }),
+        None => Ok(Span::at(0)),
     }
 }
 

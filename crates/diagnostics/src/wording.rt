@@ -6,7 +6,7 @@ ghost use Rattle.diagnostics.specs.Wording.{piece_text};
 
 use crate::diagnostic::{Code, Diagnostic, Span};
 use aioc_tokens::{Lexed, Punctuator, Sort, Token, Word};
-use dioc_terms::{Memory, Role, give_up};
+use dioc_terms::{Memory, Role};
 use std::alloc::Global;
 use text_pieces::{write_bytes, write_number};
 use wanted_items::Item::{self, Name, Number, Text};
@@ -47,35 +47,31 @@ pub fn line_of(alloc: Global, pieces: &[Piece<'_>]) -> Result<Vec<u8>, Memory>
     Ok(line)
 }
 
-/// A diagnostic with this message, whose help is a line of pieces.
+/// A diagnostic with this message and help.
 pub fn made(
     alloc: Global,
     code: Code,
     span: Span,
     message: Vec<u8>,
-    help: &[Piece<'_>],
+    help: &[u8],
 ) -> Result<Diagnostic, Memory> {
-    match line_of(alloc, help) {
-        Ok(help) => Ok(Diagnostic {
-            code,
-            span,
-            message,
-            help,
-        }),
-        Err(fault) => give_up(message, fault),
-    }
+    Ok(Diagnostic {
+        code,
+        span,
+        message,
+        help: Vec::from_slice(alloc, help)?,
+    })
 }
 
-/// A diagnostic whose message and help are lines of pieces.
+/// As `made`, of a message that is a string.
 pub fn stated(
     alloc: Global,
     code: Code,
     span: Span,
-    message: &[Piece<'_>],
-    help: &[Piece<'_>],
+    message: String,
+    help: &[u8],
 ) -> Result<Diagnostic, Memory> {
-    let message = line_of(alloc, message)?;
-    made(alloc, code, span, message, help)
+    made(alloc, code, span, message.into_bytes(), help)
 }
 
 /// What several items together are called.
@@ -181,7 +177,7 @@ fn write_item(item: Item, out: &mut Vec<u8>) -> Result<(), Memory> {
 }
 
 /// Appends a word between `'`.
-fn write_quoted_word(word: &[u8], out: &mut Vec<u8>) -> Result<(), Memory> {
+pub fn write_quoted_word(word: &[u8], out: &mut Vec<u8>) -> Result<(), Memory> {
     write_pieces(
         &[Piece::Bytes(b"'"), Piece::Bytes(word), Piece::Bytes(b"'")],
         out,
