@@ -130,6 +130,7 @@ impl Drop for Key {
 
 impl Key {
     /// A copy, the same key.
+    #[inline(always)]
     pub fn copy(&self, alloc: Global) -> Result<Key, Memory>
         ensures { IfOk result (λ copy. copy ≡ self.now) }
     {

@@ -27,6 +27,7 @@ pub fn is_ended(proc: &Proc) -> bool
 }
 
 /// The key of a message.
+#[inline(always)]
 pub fn key_of(alloc: Global, from: &Role, to: &Role, index: Index, tag: Tag) -> Result<Key, Memory>
     ensures { IfOk result (λ made. made ≡ key from.now to.now index tag) }
 {

@@ -25,7 +25,8 @@ offers_of N q = offers q (N.processes q)
 
 -- all acts that the role at a place of the cast offers, none where no role stands there
 abbrev pub offers_at : NetState → ℕ → List Act
-offers_at net place = option_map_or (offers_of (network_of net)) (slice_get net.bundle.cast place) []
+offers_at net place =
+    option_map_or (offers_of (network_of net)) (slice_get net.bundle.cast place) []
 
 -- the role is at a place, and these are all acts that it offers, and the places of those that it
 -- can do now

@@ -251,7 +251,7 @@ fn place_for(places: &[usize], at: usize) -> Option<usize>
 
 /// Where an act was taken out of those that a role offers.
 #[derive(Clone, Copy)]
-struct Gap {
+struct Vacancy {
     /// The place of the role in the cast.
     doer: usize,
     /// Which of the places of what the role can do is that of the act.
@@ -306,7 +306,7 @@ fn fill_in<R: Runs>(
 {
     let at = ready[place];
     let act = acts.remove(at);
-    match fill_others(net, role, &act, Gap { doer, place, at }, acts, ready) {
+    match fill_others(net, role, &act, Vacancy { doer, place, at }, acts, ready) {
         Ok(()) => Ok(act),
         Err(fault) => {
             ready.clear();
@@ -321,15 +321,15 @@ fn fill_others<R: Runs>(
     net: &Net<R>,
     role: &Role,
     act: &Act,
-    gap: Gap,
+    vacancy: Vacancy,
     acts: &mut Vec<Act>,
     ready: &mut Vec<usize>,
 ) -> Result<(), Memory>
-    requires here { slice_get net.now.bundle.cast gap.doer ≡ Some role.now }
-    requires inside { gap.at ≤ length acts.old.items }
-    requires lacks { LacksAt gap.at acts.old.items (offers_of (network_of net.now) role.now) }
+    requires here { slice_get net.now.bundle.cast vacancy.doer ≡ Some role.now }
+    requires inside { vacancy.at ≤ length acts.old.items }
+    requires lacks { LacksAt vacancy.at acts.old.items (offers_of (network_of net.now) role.now) }
     requires stands { puts_to act.now role.now ≡ false
-        → StandsAt (is_ready (network_of net.now)) gap.place gap.at acts.old.items
+        → StandsAt (is_ready (network_of net.now)) vacancy.place vacancy.at acts.old.items
         ready.old.items }
     ensures { OnOk result (IsFilled (network_of net.now) (offers_of (network_of net.now) role.now)
         acts.new.items ready.new.items) }
@@ -337,7 +337,7 @@ fn fill_others<R: Runs>(
     if puts_to(act, role) {
         return net.refresh_ready(role, acts, ready);
     }
-    fill_place(net, gap, acts, ready)
+    fill_place(net, vacancy, acts, ready)
 }
 
 /// Whether the act puts a message to the role.
@@ -354,19 +354,19 @@ fn puts_to(act: &Act, role: &Role) -> bool
 /// it can do.
 fn fill_place<R: Runs>(
     net: &Net<R>,
-    gap: Gap,
+    vacancy: Vacancy,
     acts: &mut Vec<Act>,
     ready: &mut Vec<usize>,
 ) -> Result<(), Memory>
-    requires there { gap.doer < length net.now.bundle.cast }
-    requires inside { gap.at ≤ length acts.old.items }
-    requires lacks { LacksAt gap.at acts.old.items (offers_at net.now gap.doer) }
-    requires stands { StandsAt (is_ready (network_of net.now)) gap.place gap.at acts.old.items
-        ready.old.items }
-    ensures { OnOk result (IsFilled (network_of net.now) (offers_at net.now gap.doer)
+    requires there { vacancy.doer < length net.now.bundle.cast }
+    requires inside { vacancy.at ≤ length acts.old.items }
+    requires lacks { LacksAt vacancy.at acts.old.items (offers_at net.now vacancy.doer) }
+    requires stands { StandsAt (is_ready (network_of net.now)) vacancy.place vacancy.at
+        acts.old.items ready.old.items }
+    ensures { OnOk result (IsFilled (network_of net.now) (offers_at net.now vacancy.doer)
         acts.new.items ready.new.items) }
 {
-    let Gap { doer, place, at } = gap;
+    let Vacancy { doer, place, at } = vacancy;
     let before = acts.len();
     net.fill_acts_at(doer, acts, at)?;
     let count = acts.len() - before;

@@ -15,7 +15,7 @@ move_behind-requires g c =
     let p = is_ready (network_of c.args.net.now) in
     let old = c.args.acts.now.items in
     let new = c.fill_acts_at.new.acts.items in
-    let at = c.args.gap.at in
+    let at = c.args.vacancy.at in
     let long : length new ≡ length old + length c.requires.lacks.0 =
     filled_long p old new c.requires.lacks.0 at c.requires.inside (c.in_ok-fill_acts_at.ensures ∙ c.requires.lacks.1) in
     let count : c.len.result - c.len-before.result ≡ length c.requires.lacks.0 =
@@ -23,7 +23,7 @@ move_behind-requires g c =
     let room : (length (take at old) + length (drop at old)) + (c.len.result - c.len-before.result) < 18446744073709551616 =
     omega (arith, long, count, c.requires.inside, length-take-le at old c.requires.inside, length-drop at old, c.fill_acts_at.new.acts.ok.0, c.fill_acts_at.new.acts.ok.1) in
     record {
-      small = ap (list_all (λ place. nat_le (place + (c.len.result - c.len-before.result)) 18446744073709551616)) (c.as_mut_slice.ensures.value ∙ c.remove.ensures.items ∙ taken_out p old c.args.gap.place at c.args.ready.now.items c.requires.stands)
+      small = ap (list_all (λ place. nat_le (place + (c.len.result - c.len-before.result)) 18446744073709551616)) (c.as_mut_slice.ensures.value ∙ c.remove.ensures.items ∙ taken_out p old c.args.vacancy.place at c.args.ready.now.items c.requires.stands)
           ∙ all_small p (take at old) (drop at old) at (c.len.result - c.len-before.result) 18446744073709551616 (sym (length-take-le at old c.requires.inside)) room;
     }
 
@@ -32,7 +32,7 @@ ask-requires-clause-parted g c =
     let p = is_ready (network_of c.args.net.now) in
     let old = c.args.acts.now.items in
     let new = c.fill_acts_at.new.acts.items in
-    let at = c.args.gap.at in
+    let at = c.args.vacancy.at in
     let n : ℕ = c.len.result - c.len-before.result in
     let is = c.in_ok-fill_acts_at.ensures ∙ c.requires.lacks.1 in
     let long : length new ≡ length old + length c.requires.lacks.0 = filled_long p old new c.requires.lacks.0 at c.requires.inside is in
@@ -41,7 +41,7 @@ ask-requires-clause-parted g c =
     let places : c.move_behind.new.places ≡ map (moved at n) c.remove.new.self.items = c.move_behind.ensures ∙ ap (map (moved at n)) c.as_mut_slice.ensures.value in
     let size : length c.move_behind.new.places ≡ length c.remove.new.self.items = ap length places ∙ length-map c.remove.new.self.items (moved at n) in
     written c.remove.new.self.len c.move_behind.new.places c.remove.new.self.items (omega (arith, c.remove.new.self.ok.0)) size
-    ∙ places ∙ ap (map (moved at n)) (c.remove.ensures.items ∙ taken_out p old c.args.gap.place at c.args.ready.now.items c.requires.stands)
+    ∙ places ∙ ap (map (moved at n)) (c.remove.ensures.items ∙ taken_out p old c.args.vacancy.place at c.args.ready.now.items c.requires.stands)
     ∙ all_behind p (take at old) (drop at old) at n (sym (length-take-le at old c.requires.inside))
     ∙ parts_are p old new c.requires.lacks.0 at c.requires.inside is (at + n) last
     ∙ ap (λ (l : List Act). parted p (at + n) (take at l) (drop (at + n) l)) (sym c.as_slice.ensures.value)
@@ -51,7 +51,7 @@ returns-then-count-eq1 g c =
     let p = is_ready (network_of c.args.net.now) in
     let old = c.args.acts.now.items in
     let new = c.fill_acts_at.new.acts.items in
-    let at = c.args.gap.at in
+    let at = c.args.vacancy.at in
     let news = c.requires.lacks.0 in
     let is = c.in_ok-fill_acts_at.ensures ∙ c.requires.lacks.1 in
     let long : length new ≡ length old + length news = filled_long p old new news at c.requires.inside is in
@@ -59,5 +59,5 @@ returns-then-count-eq1 g c =
     record {
       all = c.in_ok-fill_acts_at.ensures;
       ready = c.ask_one.ensures
-          ∙ one_came p old c.args.gap.place at c.args.ready.now.items c.requires.stands new news c.index.result.now c.requires.inside one is c.index.ensures;
+          ∙ one_came p old c.args.vacancy.place at c.args.ready.now.items c.requires.stands new news c.index.result.now c.requires.inside one is c.index.ensures;
     }
