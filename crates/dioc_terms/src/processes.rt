@@ -14,7 +14,7 @@ use crate::lists::{Bindings, Keys, Roles};
 use crate::names::{Index, Name, Role};
 use crate::values::Value;
 use std::alloc::Global;
-use std::hash::Hash;
+use std::hash::{Hash, Hasher};
 
 /// What a message is for: an operation of the choreography, or one of the six auxiliary tags.
 #[derive(Hash)]
@@ -105,7 +105,6 @@ impl Hash for Tag {
 }
 
 /// The key of a message. A receive takes the message of exactly its key.
-#[derive(Hash)]
 pub struct Key {
     /// The sender.
     pub from: Role,
@@ -168,12 +167,22 @@ impl Eq for Key {
     ghost laws = { equivalence_from_Decides key_eq key_eq-decides };
 }
 
-#[derived]
+// Messages that are pending at once differ mostly by their constructs, so no name is looked at.
 impl Hash for Key {
+    ghost use Rattle.std.specs.Prelude.{◌++◌};
+    ghost use Rattle.std.specs.Hash as fed;
     ghost use Rattle.dioc_terms.specs.Equality.{key_eq};
     ghost use Rattle.dioc_terms.specs.EqualityLemmas.{fed_alike, key_eq-decides};
 
-    ghost respects_eq = { fed_alike key_eq key_eq-decides _ };
+    ghost hash_input = { λ key. fed.u32 key.index.epoch ++ fed.u32 key.index.place };
+
+    ghost respects_eq = { fed_alike key_eq key_eq-decides
+        (λ key. fed.u32 key.index.epoch ++ fed.u32 key.index.place) };
+
+    fn hash<H: Hasher>(&self, state: &mut H) {
+        self.index.epoch.hash(state);
+        self.index.place.hash(state);
+    }
 }
 
 /// What the leader of a scope shows the book: the scope without its body.
