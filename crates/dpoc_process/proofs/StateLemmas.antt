@@ -1,22 +1,63 @@
 -- What a role state makes ready and shows.
-use Rattle.std.proofs.Common.{◌≡◌, true, false, Option, Some, None, refl, sym, ap, ap₂, ◌∙◌, subst}
+use Rattle.std.proofs.Common.{◌≡◌, ℕ, zero, suc, List, [], ◌∷◌, Bool, true, false, ◌||◌, Option, Some, None, refl, sym, ap, ap₂, ◌∙◌, slice_get, subst}
 use Rattle.std.specs.Option.{is_some, option_and_then}
 use Rattle.std.specs.Prelude.{option_map}
 use Rattle.dioc_terms.specs.declared.names.Role.{Role}
 use Rattle.dioc_terms.specs.declared.entries.Act.{Act}
+use Rattle.dioc_terms.specs.EqualityLemmas.{act_eq-decides}
+use Rattle.dioc_terms.specs.Equality.{act_eq}
 use Rattle.dioc_terms.specs.Processes.{Process}
 use Rattle.dioc_terms.specs.Stores.{Store}
 use Rattle.dpoc_process.proofs.ActingLemmas.{acting-offered}
 use Rattle.dpoc_process.proofs.LeafLemmas.{advances-are_steps, prepared-is_done}
 use Rattle.dpoc_process.specs.declared.runs.Prepared.{Prepared}
+use Rattle.dpoc_process.specs.declared.runs.Shown.{Shown}
 use Rattle.dpoc_process.specs.Acting.{acting, lead_of, lead_head}
 use Rattle.dpoc_process.specs.Changes.{replaced}
 use Rattle.dpoc_process.specs.Growth.{Growth, Write, value_at, growth, grown, write_at, handed_value, with_written}
 use Rattle.dpoc_process.specs.Handed.{Handed, Brings, StandsFor, IsEnabled}
-use Rattle.dpoc_process.specs.KeptReady.{IsPreparedFor}
+use Rattle.dpoc_process.specs.KeptReady.{IsPreparedFor, IsShownFor}
 use Rattle.dpoc_process.specs.RoleLaws.{local}
-use Rattle.dpoc_process.specs.RoleSteps.{IsPrepared, IsStep}
+use Rattle.dpoc_process.specs.LocalStates.{LocalState}
+use Rattle.dpoc_process.specs.RoleSteps.{IsPrepared, IsShown, IsStep, shown_of}
 use Rattle.process_steps.specs.Steps.{Given, offers, is_offered}
+
+either_way : (t u : Bool) → u ≡ true → (t || u) ≡ true
+either_way true u h = refl
+either_way false u h = h
+
+same_some : {X : Type 0} {x y : X} → Some x ≡ Some y → x ≡ y
+same_some e = cc
+
+-- an act that stands among some is one of them
+pub stands-offered : (acts : List Act) (number : ℕ) (a : Act) → slice_get acts number ≡ Some a
+    → is_offered a acts ≡ true
+stands-offered [] number a there = cc
+stands-offered (b ∷ acts) zero a there =
+    ap (λ t. t || is_offered a acts) ((act_eq-decides a b).1 (sym (same_some there)))
+stands-offered (b ∷ acts) (suc number) a there =
+    either_way (act_eq a b) (is_offered a acts) (stands-offered acts number a there)
+
+-- what is shown with the act is shown without it
+pub prepared-shows : (s : LocalState) (a : Act) (p : Prepared) → IsPrepared s a p
+    → IsShown s a (shown_of p)
+prepared-shows s a p is = record {
+  can_act = is.can_act;
+  head = is.head;
+  entry = is.entry;
+  payload = is.payload;
+}
+
+-- and with it where it is this act
+pub shown-prepares : (s : LocalState) (a : Act) (p : Prepared) → p.act ≡ a
+    → IsShown s a (shown_of p) → IsPrepared s a p
+shown-prepares s a p is shown = record {
+  act = is;
+  can_act = shown.can_act;
+  head = shown.head;
+  entry = shown.entry;
+  payload = shown.payload;
+}
 
 module _ (me : Role) (a : Act) (P : Process) where
   pub offered_where_acting : {R : Process} → acting me a P ≡ Some R → is_offered a (offers me P)
@@ -39,6 +80,15 @@ module _ (me : Role) (s : Store) (a : Act) (P : Process) {R : Process}
   pub shows-prepared : {p : Prepared} → IsPreparedFor me a (value_at s R) R p → IsPrepared (local me P s) a p
   shows-prepared shows = record {
     act = shows.act;
+    can_act = offered_where_acting me a P acts;
+    head = shows.head ∙ ap (λ part. option_map lead_head (option_and_then lead_of part)) (sym acts);
+    entry = λ given d Q does. shows.entry ∙ (prepared-is_done me s a P R given d Q acts does).entry;
+    payload = λ given d Q does. shows.payload ∙ (prepared-is_done me s a P R given d Q acts
+        does).payload;
+  }
+
+  pub shows-shown : {p : Shown} → IsShownFor me (value_at s R) R p → IsShown (local me P s) a p
+  shows-shown shows = record {
     can_act = offered_where_acting me a P acts;
     head = shows.head ∙ ap (λ part. option_map lead_head (option_and_then lead_of part)) (sym acts);
     entry = λ given d Q does. shows.entry ∙ (prepared-is_done me s a P R given d Q acts does).entry;

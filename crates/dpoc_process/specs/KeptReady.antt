@@ -7,6 +7,7 @@ use Rattle.dioc_terms.specs.Processes.{Process, load}
 use Rattle.dioc_terms.specs.Stores.{Store}
 use Rattle.dpoc_process.specs.declared.ready.Ready.{Ready}
 use Rattle.dpoc_process.specs.declared.runs.Prepared.{Prepared}
+use Rattle.dpoc_process.specs.declared.runs.Shown.{Shown}
 use Rattle.dpoc_process.specs.Acting.{lead_of, lead_head}
 use Rattle.dpoc_process.specs.Growth.{value_at, growth, write_at, entry_at, load_at}
 use Rattle.dpoc_process.specs.KeptGrowth.{growth_of, write_of}
@@ -21,6 +22,12 @@ pub record IsReadyFor (me : Role) (a : Act) (v : Value) (R : Process) (ready : R
 pub record IsPreparedFor (me : Role) (a : Act) (v : Value) (R : Process)
     (p : Prepared) : Type 0 where
   pub act : p.act ≡ a
+  pub head : p.head ≡ option_map lead_head (lead_of R)
+  pub entry : p.entry ≡ entry_at me v R
+  pub payload : option_map load p.payload ≡ load_at v R
+
+-- the same but for the act itself
+pub record IsShownFor (me : Role) (v : Value) (R : Process) (p : Shown) : Type 0 where
   pub head : p.head ≡ option_map lead_head (lead_of R)
   pub entry : p.entry ≡ entry_at me v R
   pub payload : option_map load p.payload ≡ load_at v R

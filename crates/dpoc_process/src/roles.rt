@@ -7,12 +7,12 @@ ghost use Rattle.dioc_terms.specs.Equality.{member};
 ghost use Rattle.dioc_terms.specs.KeptStores.{store_of};
 ghost use Rattle.dioc_terms.specs.Terms.{is_in, term};
 ghost use Rattle.dpoc_process.specs.Handed.{handed, Brings, IsEnabled};
-ghost use Rattle.dpoc_process.specs.RoleSteps.{IsPrepared, IsStep};
-ghost use Rattle.dpoc_process.specs.LocalStates.{LacksAt, LocalState, offered};
+ghost use Rattle.dpoc_process.specs.RoleSteps.{IsPrepared, IsShown, IsStep};
+ghost use Rattle.dpoc_process.specs.LocalStates.{IsNumbered, LacksAt, LocalState, offered};
 ghost use Rattle.process_steps.specs.Steps.{Given, ended, is_offered};
 ghost use Rattle.projection.specs.Projection.{projected};
 
-use crate::runs::{Got, PrepareFault, Prepared};
+use crate::runs::{Got, PrepareFault, Prepared, Shown};
 use dioc_terms::{Act, Choreo, Memory, Role, Store};
 use std::alloc::Global;
 
@@ -57,6 +57,17 @@ pub trait Runs: Drop {
         ensures no_act { IsErrOf result PrepareFault.NoAct ↔
             (is_offered act.now (offered (local self.old)) ≡ false) }
         ensures shown { IfOk result (IsPrepared (local self.old) act.now) };
+
+    /// Makes the role ready for the act of that number among those that the process offers, counted
+    /// from 0, as `prepare` does, and shows the same but the act. No act before it is the same.
+    /// After an error, which says that memory ran out, the role is ready for none.
+    fn prepare_at(&mut self, alloc: Global, number: usize, act: &Act) -> Result<Shown, Memory>
+        requires { IsNumbered number act.now (offered (local self.old)) }
+        ensures same { local self.new ≡ local self.old }
+        ensures ready { OnOk result (is_ready self.new act.now) }
+        ensures ready_alone { (other : OneAct) → is_ready self.new other → other ≡ act.now }
+        ensures unready { OnErr result ((other : OneAct) → ¬ is_ready self.new other) }
+        ensures shown { IfOk result (IsShown (local self.old) act.now) };
 
     /// Does an act for which the role is ready, with what comes with it: the message of a take,
     /// what the book says of a scope, else nothing. It takes no memory. The act can be done with

@@ -32,11 +32,23 @@ pub struct Prepared {
     pub payload: Option<Payload>,
 }
 
+/// What is known of an act before it is done, but for the act itself.
+#[derive(Drop)]
+pub struct Shown {
+    /// Its entry. It is missing exactly for a scope, whose choice isn't known yet.
+    pub entry: Option<Entry>,
+    /// What the book sees of the scope, there exactly for a scope.
+    pub head: Option<ScopeHead>,
+    /// A copy of the message, there exactly for a put.
+    pub payload: Option<Payload>,
+}
+
 impl Prepared {
-    /// What the book sees of the scope for which the role was made ready; the rest is let go.
-    pub fn into_head(self) -> ScopeHead
-        requires { IsSome self.head }
-        ensures { self.head ≡ Some result }
+    ghost use Rattle.dpoc_process.specs.RoleSteps.{shown_of};
+
+    /// All but the act, which is dropped.
+    pub fn into_shown(self) -> Shown
+        ensures { result ≡ shown_of self }
     {
         let Prepared {
             act,
@@ -44,7 +56,55 @@ impl Prepared {
             head,
             payload,
         } = self;
-        drop((act, entry, payload));
+        drop(act);
+        Shown {
+            entry,
+            head,
+            payload,
+        }
+    }
+
+    /// What the book sees of the scope for which the role was made ready; the rest is dropped.
+    pub fn into_head(self) -> ScopeHead
+        requires { IsSome self.head }
+        ensures { self.head ≡ Some result }
+    {
+        self.into_shown().into_head()
+    }
+}
+
+impl Shown {
+    ghost use Rattle.dpoc_process.specs.RoleSteps.{shown_of};
+
+    /// The same with the act of which it is shown.
+    pub fn with_act(self, act: Act) -> Prepared
+        ensures act { result.act ≡ act }
+        ensures shown { shown_of result ≡ self }
+    {
+        let Shown {
+            entry,
+            head,
+            payload,
+        } = self;
+        Prepared {
+            act,
+            entry,
+            head,
+            payload,
+        }
+    }
+
+    /// What the book sees of the scope for which the role was made ready; the rest is dropped.
+    pub fn into_head(self) -> ScopeHead
+        requires { IsSome self.head }
+        ensures { self.head ≡ Some result }
+    {
+        let Shown {
+            entry,
+            head,
+            payload,
+        } = self;
+        drop((entry, payload));
         known_head(head)
     }
 }

@@ -7,7 +7,7 @@ ghost use Rattle.dioc_terms.specs.Processes.{process};
 use crate::offered::{is_ended, offers_of};
 use crate::ready::{Ready, advanced, clear, keep_ready, make_ready};
 use crate::roles::{Begins, Runs};
-use crate::runs::{Got, PrepareFault, Prepared};
+use crate::runs::{Got, PrepareFault, Prepared, Shown};
 use dioc_terms::{Act, Choreo, Memory, Proc, Role, Store, give_up};
 use projection::project;
 use std::alloc::Global;
@@ -79,6 +79,14 @@ impl Runs for RoleState {
                 Ok(prepared)
             }
             Err(fault) => Err(fault),
+        }
+    }
+
+    fn prepare_at(&mut self, alloc: Global, _number: usize, act: &Act) -> Result<Shown, Memory> {
+        match self.prepare(alloc, act) {
+            Ok(prepared) => Ok(prepared.into_shown()),
+            Err(PrepareFault::NoAct) => unreachable!(),
+            Err(PrepareFault::Memory) => Err(Memory),
         }
     }
 

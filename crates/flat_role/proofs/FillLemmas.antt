@@ -1,9 +1,9 @@
 -- Where no update runs, each place that can act offers just one act, so the lengths say what a list
 -- of acts lacks.
-use Rattle.std.proofs.Common.{◌≡◌, ◌+◌, ◌<◌, ◌≤◌, ℕ, zero, suc, List, [], ◌∷◌, ◌++◌, Bool, true, false, ◌||◌, ◌&&◌, length, map, take, drop, get_or, refl, ap, ap₂, ◌∙◌, sym, subst, arith, ⊎_elim}
+use Rattle.std.proofs.Common.{◌≡◌, ◌+◌, ◌<◌, ◌≤◌, ℕ, zero, suc, List, [], ◌∷◌, ◌++◌, Bool, true, false, ◌||◌, ◌&&◌, Some, slice_get, length, map, take, drop, get_or, refl, ap, ap₂, ◌∙◌, sym, subst, arith, ⊎_elim}
 use Rattle.std.specs.List.{between, list_all}
 use Rattle.std.proofs.lemmas.Bool.{cases_Bool, cases_lt, cond-true, cond-false}
-use Rattle.std.proofs.lemmas.List.{drop_at, get_or-take, length-append, length-drop, length-take-le, take_at}
+use Rattle.std.proofs.lemmas.List.{append_assoc, drop_at, get_or-take, length-append, length-drop, length-take-le, map-append, take-append-drop, take_at}
 use Rattle.std.proofs.lemmas.List.Edits.{get_or-between, length-between}
 use Rattle.std.proofs.lemmas.List.Elements.{All-get_or}
 use Rattle.std.proofs.lemmas.List.Folds.{list_all-append, list_all-map}
@@ -12,7 +12,7 @@ use Rattle.dioc_terms.specs.declared.names.Role.{Role}
 use Rattle.dioc_terms.specs.declared.entries.Act.{Act}
 use Rattle.dioc_terms.specs.EqualityLemmas.{act_eq-decides}
 use Rattle.dioc_terms.specs.Processes.{Process, Skip, Seq, Par, IfLead, IfFollow, WhileLead, WhileFollow, ScopeLead, ScopeFollow, Tell, Gather, Nothing}
-use Rattle.dpoc_process.specs.LocalStates.{LacksAt}
+use Rattle.dpoc_process.specs.LocalStates.{IsNumbered, LacksAt}
 use Rattle.flat_code.specs.Codes.{process_of}
 use Rattle.flat_code.specs.declared.plan.Plan.{Plan}
 use Rattle.flat_role.specs.declared.marks.Mark.{Mark as KeptMark}
@@ -21,10 +21,10 @@ use Rattle.flat_role.specs.declared.progress.Progress.{Progress}
 use Rattle.flat_role.specs.KeptMarks.{end_keys, first_letters, last_keys, last_letters, letters_from, meant}
 use Rattle.flat_role.specs.Leaves.{front, is_became, is_leaf}
 use Rattle.flat_role.specs.PlanMarks.{plan_layout, plan_len, static_at}
-use Rattle.flat_role.specs.Progress.{IsProgress, acts_at, marks_by, runs_by}
+use Rattle.flat_role.specs.Progress.{IsFound, IsProgress, acts_at, marks_by, offers_there, runs_by}
 use Rattle.flat_role.proofs.LeafActs.{leaf_offers}
 use Rattle.flat_role.proofs.NextLemmas.{awaited_own, gathered_own, left_own, told_own}
-use Rattle.flat_role.proofs.ProgressLemmas.{is-code, offers-acts, place-acts}
+use Rattle.flat_role.proofs.ProgressLemmas.{acts-more, found-at, is-code, offers-acts, offers-places, place-acts}
 use Rattle.flat_role.proofs.RelistLemmas.{acts_split}
 use Rattle.flat_role.proofs.SingleActs.{leaf_offers_just}
 use Rattle.process_steps.specs.Steps.{ended, is_offered, offers}
@@ -35,6 +35,7 @@ use Rattle.role_statuses.specs.Marks.{Mark}
 use Rattle.role_statuses.specs.Spots.{Spot, acts_of, spot_of, spots, still}
 use Rattle.role_statuses.specs.Statuses.{Status, Untouched, Finished, First, Second, Both, Branch, Body, Became, Telling, Gathering, Ending, Left, Waiting, is_over, leaves}
 use Rattle.role_statuses.proofs.ListLemmas.{places-are_listed}
+use Rattle.role_statuses.proofs.SpotLemmas.{acts-append}
 
 -- Of lists.
 
@@ -80,6 +81,17 @@ filled all old news front mid back at inside lacks split long count =
     same_split mid news back (drop at old)
     (omega (arith, count, lacks_many all old news at inside lacks)) outer.1 in
     ap₂ (λ xs ys. xs ++ (mid ++ ys)) (sym outer.0) (sym inner.1) ∙ split
+
+-- the one behind so many at the front
+behind_front : {X : Type 0} (front back : List X) (y x : X) → slice_get (front ++ y ∷ back) (length front) ≡ Some x → y ≡ x
+behind_front [] back y x there = cc
+behind_front (z ∷ front) back y x there = behind_front front back y x there
+
+-- a list of one
+one_in : {X : Type 0} (xs : List X) → length xs ≡ 1 → (x : X) × (xs ≡ x ∷ [])
+one_in [] long = cc
+one_in (x ∷ []) long = (x, refl)
+one_in (x ∷ y ∷ xs) long = absurd (omega (arith, long))
 
 -- Of acts.
 
@@ -243,6 +255,49 @@ module _ (me : Role) (plan : Plan) (progress : Progress) (k : IsProgress me plan
 
   abbrev all_acts : List Act
   all_acts = offers me (runs_by me plan progress)
+
+  -- where no update runs at it or before it, the place of this number offers the act of this number
+  module _ (number : ℕ) (inside : number < length ps)
+      (own : (i : ℕ) → i < number + 1 → is_became (ms (get_or ps i 0)) ≡ false) where
+    abbrev acts_before : List Act
+    acts_before = acts_of (map here (take number ps))
+
+    abbrev acts_behind : List Act
+    acts_behind = acts_of (map here (drop (number + 1) ps))
+
+    abbrev at_place : List Act
+    at_place = (here (get_or ps number 0)).acts
+
+    single : (i : ℕ) → i < number + 1 → length (here (get_or ps i 0)).acts ≡ 1
+    single i h = let low : i < length ps = omega (arith, h, inside) in
+        leaf_one me (ms (get_or ps i 0)) (static_at plan (get_or ps i 0)) (place-acts me plan progress k i low) (own i h) (some_acts i low)
+
+    before_long : length acts_before ≡ number
+    before_long = let long : length (take number ps) ≡ number = length-take-le number ps (omega (arith, inside)) in
+        many_acts here (take number ps)
+        (λ i h. let low : i < number = omega (arith, h, long) in
+        ap (λ p. length (here p).acts) (get_or-take number ps i 0 low) ∙ single i (omega (arith, low)))
+        ∙ long
+
+    split_acts : all_acts ≡ acts_before ++ (at_place ++ acts_behind)
+    split_acts = sym (offers-acts me plan progress k)
+        ∙ ap (λ qs. acts_of (map here qs)) (sym (take-append-drop (number + 1) ps))
+        ∙ ap acts_of (map-append here (take (number + 1) ps) (drop (number + 1) ps))
+        ∙ acts-append (map here (take (number + 1) ps)) (map here (drop (number + 1) ps))
+        ∙ ap (λ acts. acts ++ acts_behind) (acts-more me (plan_layout plan) ms ps number 0 inside)
+        ∙ append_assoc acts_before at_place acts_behind
+
+    pub numbered-found : (a : Act) → IsNumbered number a all_acts
+        → IsFound me plan progress a number (get_or ps number 0)
+    numbered-found a numbered =
+        let one = one_in at_place (single number (omega arith)) in
+        let split : all_acts ≡ acts_before ++ one.0 ∷ acts_behind = split_acts ∙ ap (λ acts. acts_before ++ (acts ++ acts_behind)) one.1 in
+        let is : one.0 ≡ a = behind_front acts_before acts_behind one.0 a
+        (ap₂ slice_get (sym split) before_long ∙ numbered.stands) in
+        let before : take number all_acts ≡ acts_before = ap (take number) split ∙ take_at acts_before (one.0 ∷ acts_behind) number before_long in
+        found-at me plan progress k a number inside
+        (sym (offers-places me (plan_layout plan) ms a (take number ps)) ∙ ap (is_offered a) (sym before) ∙ numbered.first)
+        (ap (is_offered a) one.1 ∙ ap (λ t. t || false) ((act_eq-decides a one.0).1 (sym is)))
 
   as_many : NoUpdate → length all_acts ≡ length ps
   as_many own = ap length (sym (offers-acts me plan progress k)) ∙ many_acts here ps (one_act own)

@@ -22,6 +22,7 @@ pub mod ProgressLemmas
 pub mod ReadyLemmas
 pub mod RelistLemmas
 pub mod ReplacingLemmas
+pub mod ShowLemmas
 pub mod SingleActs
 pub mod SpotLeaves
 pub mod UpdateFacts

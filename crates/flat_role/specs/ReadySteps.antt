@@ -1,15 +1,15 @@
 -- What was made ready of an act of a role over code.
-use Rattle.std.specs.Prelude.{◌≡◌, ℕ, Bool, List, Option, None, Some}
+use Rattle.std.specs.Prelude.{◌≡◌, ℕ, Bool, false, List, Option, None, Some}
 use Rattle.dioc_terms.specs.declared.names.Role.{Role}
 use Rattle.dioc_terms.specs.declared.entries.Act.{Act}
 use Rattle.dioc_terms.specs.Processes.{Process}
 use Rattle.dioc_terms.specs.Stores.{Store}
 use Rattle.dioc_terms.specs.Values.{is_true}
 use Rattle.dpoc_process.specs.Acting.{acting}
-use Rattle.dpoc_process.specs.Growth.{value_at, write_at}
-use Rattle.dpoc_process.specs.declared.runs.Prepared.{Prepared}
+use Rattle.dpoc_process.specs.Growth.{Nothing, value_at, write_at}
+use Rattle.dpoc_process.specs.declared.runs.Shown.{Shown}
 use Rattle.dpoc_process.specs.KeptGrowth.{write_of}
-use Rattle.dpoc_process.specs.KeptReady.{IsPreparedFor}
+use Rattle.dpoc_process.specs.KeptReady.{IsShownFor}
 use Rattle.flat_code.specs.declared.plan.Plan.{Plan}
 use Rattle.flat_role.specs.declared.marks.Mark.{Mark as KeptMark}
 use Rattle.flat_role.specs.declared.progress.Progress.{Progress}
@@ -36,6 +36,14 @@ pub record IsOwnOf (me : Role) (s : Store) (a : Act) (P : Process) (fresh : Bool
   pub made : IsOwn me s part own
   pub room : IsRoomWhen fresh me part own.room
 
+-- it writes nothing, picks nothing, and puts no other process in its place
+pub record IsIdle (held : Option Own) : Type 0 where
+  pub own : Own
+  pub is : held ≡ Some own
+  pub write : write_of own.write ≡ Nothing
+  pub pick : own.pick ≡ false
+  pub room : own.room ≡ None
+
 -- it is kept
 pub record IsKeptOwn (me : Role) (s : Store) (a : Act) (P : Process) (fresh : Bool)
     (held : Option Own) : Type 0 where
@@ -44,10 +52,10 @@ pub record IsKeptOwn (me : Role) (s : Store) (a : Act) (P : Process) (fresh : Bo
   pub made : IsOwnOf me s a P fresh own
 
 -- what is shown of an act of the process P, of the part of it that acts
-pub record IsShownBy (me : Role) (s : Store) (a : Act) (P : Process) (p : Prepared) : Type 0 where
+pub record IsShownBy (me : Role) (s : Store) (a : Act) (P : Process) (p : Shown) : Type 0 where
   pub part : Process
   pub acts : acting me a P ≡ Some part
-  pub shown : IsPreparedFor me a (value_at s part) part p
+  pub shown : IsShownFor me (value_at s part) part p
 
 -- this is next of the part of the process that does the act, at a place where nothing was done yet
 -- or where something was
@@ -73,3 +81,10 @@ pub record IsReadyBy (me : Role) (plan : Plan) (progress : Progress) (s : Store)
     (own : Own) : Type 0 where
   pub chosen : IsChosenFor me plan progress a progress.chosen
   pub made : IsOwnOf me s a (runs_by me plan progress) (fresh_by progress progress.chosen) own
+
+-- and it is kept
+pub record IsKeptReady (me : Role) (plan : Plan) (progress : Progress) (s : Store) (a : Act)
+    (held : Option Own) : Type 0 where
+  pub own : Own
+  pub kept : held ≡ Some own
+  pub made : IsReadyBy me plan progress s a own

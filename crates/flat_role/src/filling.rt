@@ -1,16 +1,12 @@
 //! The acts of a role over code, filled in where a list lacks some of them.
 
-ghost use Rattle.std.specs.Prelude.{◌≡◌, ◌<◌, ◌≤◌, ◌+◌, ◌++◌, ℕ, List, false, get_or, length, OnOk};
+ghost use Rattle.std.specs.Prelude.{◌≡◌, ◌≤◌, ◌+◌, ◌++◌, List, length, OnOk};
 ghost use Rattle.dioc_terms.specs.declared.entries.Act.{Act as OneAct};
-ghost use Rattle.dioc_terms.specs.declared.names.Role.{Role as RoleName};
 ghost use Rattle.dpoc_process.specs.LocalStates.{LacksAt};
-ghost use Rattle.flat_code.specs.declared.plan.Plan.{Plan as PlanOf};
-ghost use Rattle.flat_role.specs.Leaves.{is_became};
-ghost use Rattle.flat_role.specs.PlanMarks.{plan_marks};
-ghost use Rattle.flat_role.specs.Progress.{IsProgress, marks_by, runs_by};
+ghost use Rattle.flat_role.specs.Progress.{IsProgress, runs_by};
 ghost use Rattle.process_steps.specs.Steps.{offers};
 
-use crate::marks::Mark;
+use crate::numbered::runs_updates;
 use crate::progress::Progress;
 use crate::relisting::{add_acts, refresh_acts};
 use dioc_terms::{Act, Memory, Role};
@@ -35,10 +31,11 @@ pub(crate) fn fill_acts(
         (offers me.now (runs_by me.now plan.now progress.now)) }
     ensures { OnOk result (acts.new.items ≡ offers me.now (runs_by me.now plan.now progress.now)) }
 {
-    if runs_updates(progress, me, plan) {
+    let places = progress.active.len();
+    if runs_updates(progress, me, plan, places) {
         return refresh_acts(progress, alloc, me, plan, acts);
     }
-    let missing = progress.active.len() - acts.len();
+    let missing = places - acts.len();
     // Listed at the end and moved from there, they need no list of their own.
     add_acts(progress, alloc, me, plan, at, at + missing, acts)?;
     bring_forward(acts, at, missing);
@@ -52,30 +49,4 @@ fn bring_forward(acts: &mut Vec<Act>, at: usize, count: usize)
         length front ≡ at → length last ≡ count → acts.new.items ≡ front ++ (last ++ behind) }
 {
     acts[at..].rotate_right(count);
-}
-
-/// Whether an update runs at one of the places that can act.
-fn runs_updates(progress: &Progress, me: &Role, plan: &Plan) -> bool
-    requires { IsProgress me.now plan.now progress.now }
-    ensures { result ≡ false → (at : ℕ) → at < length progress.now.active.items →
-        is_became (marks_by me.now plan.now progress.now (get_or progress.now.active.items at 0))
-        ≡ false }
-{
-    let marks = progress.marks.as_slice();
-    for at in 0..progress.active.len() {
-        let place = progress.active[at];
-        if is_update(marks, place) {
-            return true;
-        }
-    }
-    false
-}
-
-/// Whether an update runs at a place.
-fn is_update(marks: &[Mark], place: usize) -> bool
-    requires { place < length marks.now }
-    ensures { (me : RoleName) (plan : PlanOf) →
-        result ≡ is_became (plan_marks me plan marks.now place) }
-{
-    matches!(&marks[place], Mark::Became(_))
 }

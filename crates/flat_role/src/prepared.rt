@@ -112,7 +112,7 @@ fn entry_of_receive(
 }
 
 /// The entry by which the role takes an auxiliary message of another.
-fn entry_of_take(
+pub(crate) fn entry_of_take(
     alloc: Global,
     from: &Role,
     me: &Role,
@@ -127,7 +127,7 @@ fn entry_of_take(
 }
 
 /// The entry by which the role puts an auxiliary message.
-fn entry_of_put(
+pub(crate) fn entry_of_put(
     alloc: Global,
     me: &Role,
     to: &Role,

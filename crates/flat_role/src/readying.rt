@@ -1,28 +1,23 @@
 //! What is made ready of an act before it is done.
 
-ghost use Rattle.std.specs.Prelude.{◌≡◌, ◌<◌, true, Bool, IfErr, IfOk, OnErr, OnOk, get_or, length};
-ghost use Rattle.dioc_terms.specs.declared.names.Role.{Role as RoleName};
+ghost use Rattle.std.specs.Prelude.{◌≡◌, ◌<◌, true, IfOk, OnErr, OnOk, get_or, length};
 ghost use Rattle.dioc_terms.specs.KeptStores.{store_of, room};
-ghost use Rattle.dioc_terms.specs.Processes.{Process};
-ghost use Rattle.dioc_terms.specs.Stores.{Store as Spec};
-ghost use Rattle.dpoc_process.specs.Growth.{value_at};
-ghost use Rattle.flat_role.specs.Leaves.{IsNext, is_first, is_leaf};
+ghost use Rattle.dpoc_process.specs.RoleLaws.{local};
+ghost use Rattle.dpoc_process.specs.RoleSteps.{IsShown};
+ghost use Rattle.flat_role.specs.Leaves.{is_leaf};
 ghost use Rattle.flat_role.specs.PlanMarks.{mark_in, plan_len, plan_marks, static_at};
 ghost use Rattle.flat_role.specs.Progress.{AreOf, IsFound, IsProgress, runs_by};
-ghost use Rattle.flat_role.specs.ReadySteps.{IsChosenFor, IsKeptOwn, IsNextOf, IsOwn, IsShownBy, front_at};
-ghost use Rattle.flat_role.specs.Replacing.{IsRoomWhen};
+ghost use Rattle.flat_role.specs.ReadySteps.{IsChosenFor, IsKeptReady, IsNextOf, front_at};
 ghost use Rattle.flat_role.specs.Updates.{IsChosen, IsInner, fresh_by};
 ghost use Rattle.process_steps.specs.Steps.{is_offered, offers};
 
-use crate::leaves::{Next, next_at, value_for, write_for};
-use crate::making_room::room_for;
+use crate::leaves::{Next, next_at};
 use crate::marks::Mark;
-use crate::prepared::{entry_for, head_for, payload_for};
 use crate::progress::Progress;
+use crate::showing::show;
 use crate::steps::{Chosen, Own};
-use dioc_terms::{Act, Memory, Role, Store, Value, give_up};
-use dpoc_process::growth::is_true;
-use dpoc_process::{PrepareFault, Prepared};
+use dioc_terms::{Act, Memory, Role, Store};
+use dpoc_process::Shown;
 use flat_code::Plan;
 use std::alloc::Global;
 use std::snapshot::Snapshot;
@@ -101,55 +96,33 @@ pub(crate) fn next_of<'a>(me: &Role, plan: &'a Plan, progress: &'a Progress, act
     }
 }
 
-/// Keeps all that the act of what is next needs, and gives what is shown of it. There is room for
-/// one more variable then.
-pub(crate) fn show(
+/// Makes the place that stands there ready for the act that it offers, keeps all that the act
+/// needs, and gives what is shown of it. There is room for one more variable then.
+pub(crate) fn prepare_found(
     alloc: Global,
     me: &Role,
-    act: &Act,
-    next: Next<'_>,
+    plan: &Plan,
+    progress: &mut Progress,
     store: &mut Store,
     ready: &mut Option<Own>,
-) -> Result<Prepared, PrepareFault>
+    found: (&Act, usize),
+) -> Result<Shown, Memory>
+    requires progress { IsProgress me.now plan.now progress.old }
+    requires found { IsFound me.now plan.now progress.old found.0.now found.1
+        (get_or progress.old.active.items found.1 0) }
+    ensures progress { IsProgress me.now plan.now progress.new }
+    ensures same { runs_by me.now plan.now progress.new ≡ runs_by me.now plan.now progress.old }
     ensures same_store { store_of store.new ≡ store_of store.old }
     ensures has_room { OnOk result (0 < room store.new) }
-    ensures own { (P : Process) (fresh : Bool) → IsNextOf me.now act.now P fresh next.entry →
-        OnOk result (IsKeptOwn me.now (store_of store.old) act.now P fresh ready.new) }
-    ensures shown { (P : Process) (fresh : Bool) → IsNextOf me.now act.now P fresh next.entry →
-        IfOk result (IsShownBy me.now (store_of store.old) act.now P) }
-    ensures fault { IfErr result (λ fault. fault ≡ PrepareFault.Memory) }
+    ensures chosen { OnOk result (IsChosenFor me.now plan.now progress.new found.entry.0.now
+        progress.new.chosen) }
+    ensures ready { OnOk result (IsKeptReady me.now plan.now progress.new (store_of store.new)
+        found.entry.0.now ready.new) }
+    ensures shown { IfOk result (IsShown (local me.now (runs_by me.now plan.now progress.old)
+        (store_of store.old)) found.entry.0.now) }
     ensures kept { OnErr result (ready.new ≡ ready.old) }
 {
-    store.reserve(1)?;
-    let value = value_for(alloc, store, next)?;
-    let own = own_for(alloc, me, &value, next)?;
-    let entry = entry_for(alloc, me, &value, next)?;
-    let payload = payload_for(alloc, value, next)?;
-    let head = head_for(alloc, next)?;
-    let act = act.copy(alloc)?;
-    *ready = Some(own);
-    Ok(Prepared {
-        act,
-        entry,
-        head,
-        payload,
-    })
-}
-
-/// What is made ready of what is next, with the value that it needs.
-fn own_for(alloc: Global, me: &Role, value: &Value, next: Next<'_>) -> Result<Own, Memory>
-    ensures own { (R : Process) (s : Spec) → value.now ≡ value_at s R
-        → IsNext me.now next.entry R → IfOk result (IsOwn me.now s R) }
-    ensures room { (R : Process) → IsNext me.now next.entry R →
-        IfOk result (λ own. IsRoomWhen (is_first next.entry) me.now R own.room) }
-{
-    let write = write_for(alloc, value, next)?;
-    match room_for(alloc, me, next) {
-        Ok(room) => Ok(Own {
-            write,
-            pick: is_true(value),
-            room,
-        }),
-        Err(fault) => give_up(write, fault),
-    }
+    make_ready(alloc, me, plan, progress, found)?;
+    let next = next_of(me, plan, progress, found.0);
+    show(alloc, me, next, store, ready)
 }

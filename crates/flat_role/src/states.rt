@@ -10,13 +10,14 @@ ghost use Rattle.role_statuses.specs.ListLaws.{active};
 
 use crate::advancing::advance;
 use crate::filling::fill_acts;
+use crate::numbered::find_at;
 use crate::progress::Progress;
-use crate::readying::{make_ready, next_of, show};
+use crate::readying::prepare_found;
 use crate::relisting::refresh_acts;
 use crate::steps::{Own, clear};
 use crate::updates::count_ops;
 use dioc_terms::{Act, Memory, Role, Store, give_up};
-use dpoc_process::{Got, PrepareFault, Prepared, Runs};
+use dpoc_process::{Got, PrepareFault, Prepared, Runs, Shown};
 use flat_code::{Code, Plan};
 use std::alloc::Global;
 use std::mem;
@@ -111,15 +112,35 @@ impl Runs for FlatRole {
         let Some(at) = self.progress.find(&self.role, &self.plan, act) else {
             return Err(PrepareFault::NoAct);
         };
-        make_ready(alloc, &self.role, &self.plan, &mut self.progress, (act, at))?;
-        let next = next_of(&self.role, &self.plan, &self.progress, act);
-        show(
+        let own = act.copy(alloc)?;
+        match prepare_found(
             alloc,
             &self.role,
-            act,
-            next,
+            &self.plan,
+            &mut self.progress,
             &mut self.store,
             &mut self.ready,
+            (act, at),
+        ) {
+            Ok(shown) => Ok(shown.with_act(own)),
+            Err(_) => {
+                drop(own);
+                Err(PrepareFault::Memory)
+            }
+        }
+    }
+
+    fn prepare_at(&mut self, alloc: Global, number: usize, act: &Act) -> Result<Shown, Memory> {
+        clear(&mut self.ready);
+        let at = find_at(&self.progress, &self.role, &self.plan, number, act);
+        prepare_found(
+            alloc,
+            &self.role,
+            &self.plan,
+            &mut self.progress,
+            &mut self.store,
+            &mut self.ready,
+            (act, at),
         )
     }
 

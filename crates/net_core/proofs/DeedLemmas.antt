@@ -13,8 +13,8 @@ use Rattle.dioc_terms.specs.Messages.{act_of}
 use Rattle.std.specs.Prelude.{option_map}
 use Rattle.dioc_terms.specs.declared.processes.Payload.{Payload}
 use Rattle.dioc_terms.specs.Processes.{Process, Load, load}
-use Rattle.dpoc_process.specs.declared.runs.Prepared.{Prepared}
-use Rattle.dpoc_process.specs.RoleSteps.{entry_before, sent, IsPrepared, IsStep}
+use Rattle.dpoc_process.specs.declared.runs.Shown.{Shown}
+use Rattle.dpoc_process.specs.RoleSteps.{entry_before, sent, IsShown, IsStep}
 use Rattle.dpoc_process.specs.LocalStates.{LocalState, step_at}
 use Rattle.global_steps.specs.Follow.{updates_after}
 use Rattle.process_steps.specs.Laws.{is_done, StepsShowTheirActs}
@@ -22,7 +22,7 @@ use Rattle.process_steps.specs.Steps.{Deed, Puts, Takes, Sets, Inputs, Picks, Ch
 use Rattle.role_mailbox.specs.declared.mail.Mail.{Mail}
 use Rattle.role_mailbox.specs.Pending.{payload_at}
 use Rattle.marked_laws.proofs.Shapes.{none_some, some_same}
-use Rattle.net_core.specs.Acts.{given_from_mail, put_with, taken_with, TakenBy, PutBy}
+use Rattle.net_core.specs.Acts.{given_from_mail, put_key, put_with, taken_with, TakenBy, PutBy}
 use Rattle.net_core.specs.Deeds.{given_to, asks_scope, is_there, pending_with, MailAfter, IsDone}
 
 -- what is done where something is done
@@ -88,7 +88,21 @@ sends_of_put None (Inputs i r x v) k same is = cc
 sends_of_put None (Picks i r b) k same is = cc
 sends_of_put None (Chooses i r c) k same is = cc
 
-module _ (shows : StepsShowTheirActs) (s : LocalState) (a : Act) (p : Prepared) (prepared : IsPrepared s a p) where
+-- an act that puts under a key is the put of it
+pub put_of : (a : Act) (k : Key) → put_key a ≡ Some k → a ≡ act.Put k
+put_of (act.Put j) k is = ap act.Put (some_same is)
+put_of (act.Take j) k is = absurd (none_some is)
+put_of (act.Set i) k is = absurd (none_some is)
+put_of (act.Input i) k is = absurd (none_some is)
+put_of (act.Pick i) k is = absurd (none_some is)
+put_of (act.Scope i) k is = absurd (none_some is)
+
+-- and takes nothing
+pub none_taken : (a : Act) (k : Key) (before : Option Load) → put_key a ≡ Some k → taken_with a k before ≡ before
+none_taken (act.Take j) k before is = absurd (none_some is)
+none_taken _ k before is = refl
+
+module _ (shows : StepsShowTheirActs) (s : LocalState) (a : Act) (p : Shown) (prepared : IsShown s a p) where
   act_shown : (given : Given) (d : Deed) (P : Process) → step_at s a given ≡ Does d P → act_of (entry_of d) ≡ Some a
   act_shown given d P does = shows s.role s.store s.process a given d P does
 
@@ -99,14 +113,14 @@ module _ (shows : StepsShowTheirActs) (s : LocalState) (a : Act) (p : Prepared) 
       ap is_some (prepared.entry given did.0 did.1 did.2 ∙ entry_known did.0 a (act_shown given did.0 did.1 did.2) plain)
 
   -- what is put has a message
-  pub put_sends : (given : Given) → is_done (step_at s a given) ≡ true → (k : Key) → p.act ≡ act.Put k → IsSome p.payload
+  pub put_sends : (given : Given) → is_done (step_at s a given) ≡ true → (k : Key) → a ≡ act.Put k → IsSome p.payload
   put_sends given can k same =
       let did = deed_there (step_at s a given) can in
-      sends_of_put p.payload did.0 k (prepared.payload given did.0 did.1 did.2) (act_shown given did.0 did.1 did.2 ∙ ap Some (sym prepared.act ∙ same))
+      sends_of_put p.payload did.0 k (prepared.payload given did.0 did.1 did.2) (act_shown given did.0 did.1 did.2 ∙ ap Some same)
 
   -- a role that made its step, with what was shown of it before, did the act
   pub committed : (given : Given) → asks_scope a ≡ false → (s' : LocalState) → IsStep s a given s' → (e : Entry) → p.entry ≡ Some e
-      → (old mid new : Mail) → TakenBy a old mid → PutBy p.act (option_map load p.payload) mid new
+      → (old mid new : Mail) → TakenBy a old mid → PutBy a (option_map load p.payload) mid new
       → (H H' : List Entry) → H' ≡ H ++ e ∷ [] → (count : ℕ) → IsDone a given s old count H s' new count H'
   committed given plain s' stepped e entry old mid new taken put H H' pushed count =
       let shown = act_shown given stepped.deed stepped.left stepped.does in
@@ -117,8 +131,7 @@ module _ (shows : StepsShowTheirActs) (s : LocalState) (a : Act) (p : Prepared) 
         left = stepped.left;
         does = stepped.does;
         becomes = stepped.becomes;
-        mail = mail_changed stepped.deed a (option_map load p.payload) old mid new shown (prepared.payload given stepped.deed stepped.left stepped.does) taken
-            (subst (λ c. PutBy c (option_map load p.payload) mid new) prepared.act put);
+        mail = mail_changed stepped.deed a (option_map load p.payload) old mid new shown (prepared.payload given stepped.deed stepped.left stepped.does) taken put;
         updates = no_update stepped.deed a count shown plain;
         entries = pushed ∙ ap (λ x. H ++ x ∷ []) entry_is;
       }

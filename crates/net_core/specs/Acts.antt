@@ -1,11 +1,11 @@
 -- What an act does to the mail, and what comes to an act that isn't a scope's.
-use Rattle.std.specs.Prelude.{◌≡◌, true, false, Option, None, if◌then◌else◌}
+use Rattle.std.specs.Prelude.{◌≡◌, ℕ, List, true, false, Option, None, Some, if◌then◌else◌}
 use Rattle.dioc_terms.specs.declared.entries.Act.{Act}
 use Rattle.dioc_terms.specs.declared.entries.Act.TheVariants as act
 use Rattle.dioc_terms.specs.declared.processes.Key.{Key}
 use Rattle.dioc_terms.specs.Equality.{key_eq}
 use Rattle.dioc_terms.specs.Processes.{Load}
-use Rattle.dpoc_process.specs.LocalStates.{LocalState, offered, step_at}
+use Rattle.dpoc_process.specs.LocalStates.{IsNumbered, LocalState, offered, step_at}
 use Rattle.process_steps.specs.Laws.{is_done}
 use Rattle.process_steps.specs.Steps.{Given, Alone, is_offered}
 use Rattle.role_mailbox.specs.declared.mail.Mail.{Mail}
@@ -38,3 +38,13 @@ pub record CanStep (local : LocalState) (a : Act) (mail : Mail) : Type 0 where
       → is_done (step_at local a (given_from_mail a mail)) ≡ true
   pub free : (k : Key) → a ≡ act.Put k → is_offered a (offered local) ≡ true → payload_at k mail
       ≡ None
+
+-- the act has the number that is given, if any, among these
+abbrev pub IsNumberedIf : Option ℕ → Act → List Act → Type 0
+IsNumberedIf None a acts = Unit {0}
+IsNumberedIf (Some number) a acts = IsNumbered number a acts
+
+-- what is put of an act: the key of its message
+abbrev pub put_key : Act → Option Key
+put_key (act.Put k) = Some k
+put_key _ = None

@@ -6,10 +6,11 @@ ghost use Rattle.dioc_terms.specs.declared.entries.Act.{Act as OneAct};
 ghost use Rattle.dioc_terms.specs.declared.names.Role.{Role as OneRole};
 ghost use Rattle.dioc_terms.specs.Equality.{member, role_eq};
 ghost use Rattle.dioc_terms.specs.Plain.{setting};
-ghost use Rattle.dpoc_process.specs.LocalStates.{LacksAt};
+ghost use Rattle.dpoc_process.specs.LocalStates.{IsNumbered, LacksAt};
 ghost use Rattle.network_steps.specs.Network.{network_ended};
 ghost use Rattle.network_steps.specs.Schedule.{change_due, is_ready, moves};
 ghost use Rattle.process_steps.specs.Steps.{ended};
+ghost use Rattle.net_core.specs.Acts.{IsNumberedIf};
 ghost use Rattle.net_core.specs.Changes.{IsChangeOf, change_fault};
 ghost use Rattle.net_core.specs.MovesIn.{are_places, chosen, ready_of};
 ghost use Rattle.net_core.specs.Nets.{IsSoundRun, network_of};
@@ -21,7 +22,7 @@ use crate::changing::make_change;
 use crate::faults::ChangeFault;
 use crate::laws::steps_run;
 use crate::listing::{is_first_due, list_moves, ready_at, refresh_at};
-use crate::parts::{all_done, is_done_at, is_there, place_of, step_role};
+use crate::parts::{Asked, all_done, is_done_at, is_there, place_of, step_role};
 use crate::scopes::Fixed;
 use crate::starting::{keep_bodies, keep_script, role_states};
 use dioc_terms::{Act, Bundle, Items, Memory, Role, Roles};
@@ -283,21 +284,27 @@ impl<R: Runs> Net<R> {
         let Some(place) = self.place_of(role) else {
             return Err(StepFault::NoAct);
         };
-        self.act(place, act)
+        self.act(place, Asked { act, number: None })
     }
 
-    /// The step of the role that stands at that place of the cast, counted from 0, by an act. The
+    /// The step of the role that stands at that place of the cast, by the act of that number among
+    /// those that its process offers, both counted from 0; no act before it is the same. The
     /// refusals are those of `step`, in their order; after any of them the net is unchanged.
-    pub fn step_at(&mut self, place: usize, act: &Act) -> Result<(), StepFault>
+    pub fn step_at(&mut self, place: usize, number: usize, act: &Act) -> Result<(), StepFault>
         requires there { place < length self.old.bundle.cast }
+        requires numbered { IsNumbered number act.now (offers_at self.old place) }
         requires updates { (network_of self.old).updates < 4294967295 }
         ensures stepped { OnOk result (IsStepAt self.old place act.now self.new) }
         ensures refused { IfErr result (λ fault. fault ≢ StepFault.Memory
             → fault_at self.old place act.now ≡ Some fault) }
         ensures err { OnErr result (self.new ≡ self.old) }
     {
+        let asked = Asked {
+            act,
+            number: Some(number),
+        };
         match self.may_go() {
-            Ok(()) => self.act(place, act),
+            Ok(()) => self.act(place, asked),
             Err(fault) => Err(fault),
         }
     }
@@ -350,14 +357,15 @@ impl<R: Runs> Net<R> {
 
     /// The step of the role at a place of the cast, where the network has not ended and the history
     /// has room.
-    fn act(&mut self, place: usize, act: &Act) -> Result<(), StepFault>
+    fn act(&mut self, place: usize, asked: Asked<'_>) -> Result<(), StepFault>
         requires there { place < length self.old.bundle.cast }
+        requires numbered { IsNumberedIf asked.number asked.act.now (offers_at self.old place) }
         requires updates { (network_of self.old).updates < 4294967295 }
         requires goes { network_ended self.old.bundle.cast (network_of self.old) ≡ false }
         requires room { length self.old.history < self.old.limit }
-        ensures stepped { OnOk result (IsStepAt self.old place act.now self.new) }
+        ensures stepped { OnOk result (IsStepAt self.old place asked.entry.act.now self.new) }
         ensures refused { IfErr result (λ fault. fault ≢ StepFault.Memory
-            → fault_at self.old place act.now ≡ Some fault) }
+            → fault_at self.old place asked.entry.act.now ≡ Some fault) }
         ensures err { OnErr result (self.new ≡ self.old) }
     {
         steps_run();
@@ -379,7 +387,7 @@ impl<R: Runs> Net<R> {
             &mut self.updates,
             &mut self.history,
             place,
-            act,
+            asked,
         ) {
             Ok(()) => Ok(()),
             Err(fault) => Err(fault),

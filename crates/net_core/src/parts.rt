@@ -1,10 +1,10 @@
 //! The parts of a step: where a role is, the room that a step needs, and what it does to a role,
 //! the mail and the history.
 
-ghost use Rattle.std.specs.Prelude.{◌≡◌, ◌<◌, ◌≤◌, ℕ, List, true, false, Option, None, Some, IsSome, IfErr, IfNone, IfSome, OnErr, OnOk, is_some, length, map, slice_get};
+ghost use Rattle.std.specs.Prelude.{◌≡◌, ◌<◌, ◌≤◌, ℕ, List, true, false, Option, None, Some, IsSome, IfErr, IfNone, IfOk, IfSome, OnErr, OnOk, is_some, length, map, slice_get};
 ghost use Rattle.std.specs.Option.{option_map};
 ghost use Rattle.std.specs.List.{list_all, position};
-ghost use Rattle.dioc_terms.specs.declared.entries.Act.TheVariants as acts;
+ghost use Rattle.dioc_terms.specs.declared.entries.Act.{Act as OneAct};
 ghost use Rattle.dioc_terms.specs.declared.processes.Key.{Key as OneKey};
 ghost use Rattle.dioc_terms.specs.declared.names.Role.{Role as OneRole};
 ghost use Rattle.dioc_terms.specs.Equality.{member, role_eq};
@@ -12,12 +12,12 @@ ghost use Rattle.dioc_terms.specs.Plain.{PlainRule};
 ghost use Rattle.dioc_terms.specs.Processes.{load};
 ghost use Rattle.dpoc_process.specs.Acting.{Lead};
 ghost use Rattle.dpoc_process.specs.Handed.{handed, given_like, StandsFor};
-ghost use Rattle.dpoc_process.specs.RoleSteps.{IsPrepared};
+ghost use Rattle.dpoc_process.specs.RoleSteps.{IsShown};
 ghost use Rattle.dpoc_process.specs.LocalStates.{LocalState, offered, step_at};
 ghost use Rattle.process_steps.specs.Laws.{is_done};
 ghost use Rattle.process_steps.specs.Steps.{ended, is_offered};
 ghost use Rattle.role_mailbox.specs.Pending.{messages, payload_at, room};
-ghost use Rattle.net_core.specs.Acts.{given_from_mail, CanStep, TakenBy, PutBy};
+ghost use Rattle.net_core.specs.Acts.{given_from_mail, put_key, CanStep, IsNumberedIf, TakenBy, PutBy};
 ghost use Rattle.net_core.specs.Deeds.{given_to, asks_scope, is_there, ActDone, DoneAt, IsDone, RefusedFor, RoleDid};
 ghost use Rattle.net_core.specs.Faults.{ReadyFault};
 ghost use Rattle.net_core.specs.KeptParts.{body_seen};
@@ -26,10 +26,11 @@ ghost use Rattle.net_core.specs.Standing.{body_of};
 ghost use Rattle.rule_book.specs.KeptBooks.{book_of, IsBookOf};
 
 use crate::scopes::{Fixed, begin_scope};
-use dioc_terms::{Act, Memory, Payload, Role};
-use dpoc_process::{Got, PrepareFault, Prepared, Runs};
+use dioc_terms::{Act, Key, Memory, Payload, Role};
+use dpoc_process::{Got, PrepareFault, Runs, Shown};
 use network_steps::StepFault;
 use role_mailbox::Mail;
+use std::alloc::Global;
 use trace_book::History;
 
 /// The place of a role in the cast, `None` where it isn't of the cast.
@@ -99,16 +100,27 @@ fn take_in(mail: &mut Mail, act: &Act) -> Option<Got>
     }
 }
 
-/// Puts the message of a put into the mail.
-fn put_out(mail: &mut Mail, act: Act, payload: Option<Payload>)
-    requires has_room { 0 < room mail.old }
-    requires free { (k : OneKey) → act ≡ acts.Put k → payload_at k mail.old ≡ None }
-    requires sent { (k : OneKey) → act ≡ acts.Put k → IsSome payload }
-    ensures { PutBy act (option_map load payload) mail.old mail.new }
+/// The key of the message that an act puts.
+fn put_key(alloc: Global, act: &Act) -> Result<Option<Key>, Memory>
+    ensures { IfOk result (λ key. key ≡ put_key act.now) }
 {
     match act {
-        Act::Put(key) => mail.put(key, payload.unwrap()),
-        _ => drop(payload),
+        Act::Put(key) => Ok(Some(key.copy(alloc)?)),
+        _ => Ok(None),
+    }
+}
+
+/// Puts a message under a key into the mail, where there is one.
+fn put_out(mail: &mut Mail, key: Option<Key>, payload: Option<Payload>)
+    requires has_room { 0 < room mail.old }
+    requires free { (k : OneKey) → key ≡ Some k → payload_at k mail.old ≡ None }
+    requires sent { (k : OneKey) → key ≡ Some k → IsSome payload }
+    ensures { (act : OneAct) → key ≡ put_key act → PutBy act (option_map load payload) mail.old
+        mail.new }
+{
+    match key {
+        Some(key) => mail.put(key, payload.unwrap()),
+        None => drop(payload),
     }
 }
 
@@ -120,14 +132,16 @@ pub(crate) fn commit<R: Runs>(
     mail: &mut Mail,
     history: &mut History,
     act: &Act,
-    prepared: Prepared,
+    shown: Shown,
+    key: Option<Key>,
 ) -> bool
     requires ready { R.is_ready state.old act.now }
-    requires shown { IsPrepared (R.local state.old) act.now prepared }
+    requires shown { IsShown (R.local state.old) act.now shown }
+    requires key { key ≡ put_key act.now }
     requires plain { asks_scope act.now ≡ false }
     requires can { is_there act.now mail.old ≡ true
         → is_done (step_at (R.local state.old) act.now (given_from_mail act.now mail.old)) ≡ true }
-    requires free { (k : OneKey) → act.now ≡ acts.Put k → payload_at k mail.old ≡ None }
+    requires free { (k : OneKey) → put_key act.now ≡ Some k → payload_at k mail.old ≡ None }
     requires mail_room { 0 < room mail.old }
     requires history_room { 0 < history.old.room }
     ensures there { result ≡ is_there act.now mail.old }
@@ -140,19 +154,18 @@ pub(crate) fn commit<R: Runs>(
 {
     process_steps::steps_show_their_acts();
     let Some(got) = take_in(mail, act) else {
-        drop(prepared);
+        drop((shown, key));
         return false;
     };
-    let Prepared {
-        act: own,
+    let Shown {
         entry,
         head,
         payload,
-    } = prepared;
+    } = shown;
     drop(head);
     history.push(entry.unwrap());
     state.advance(act, got);
-    put_out(mail, own, payload);
+    put_out(mail, key, payload);
     true
 }
 
@@ -163,6 +176,14 @@ fn is_scope(act: &Act) -> bool
     matches!(act, Act::Scope(_))
 }
 
+/// An act that a role is asked to do, and its number among those that the role offers, where the
+/// caller knows it.
+#[derive(Clone, Copy)]
+pub(crate) struct Asked<'a> {
+    pub act: &'a Act,
+    pub number: Option<usize>,
+}
+
 /// The step of one role by an act, with all its memory taken first. After a refusal nothing is
 /// changed.
 fn do_act<R: Runs>(
@@ -171,8 +192,58 @@ fn do_act<R: Runs>(
     mail: &mut Mail,
     updates: &mut u32,
     history: &mut History,
-    act: &Act,
+    asked: Asked<'_>,
 ) -> Result<(), StepFault>
+    requires numbered { IsNumberedIf asked.number asked.act.now (offered (R.local state.old)) }
+    requires can { CanStep (R.local state.old) asked.act.now mail.old }
+    requires updates { updates.old < 4294967295 }
+    requires known { KnownRules fixed.now.cast.now fixed.now.book.now
+        (map body_seen fixed.now.bodies.now) }
+    requires tells { Tells fixed.now.cast.now (R.local state.old) asked.act.now }
+    requires mail_room { 0 < room mail.old }
+    requires history_room { 0 < history.old.room }
+    ensures did { (rules : List PlainRule) → IsBookOf rules fixed.now.book.now
+        → map body_seen fixed.now.bodies.now ≡ map body_of rules
+        → OnOk result (ActDone asked.entry.act.now
+        (λ s. given_to fixed.now.cast.now rules mail.old (book_of fixed.now.book.now) updates.old s
+        asked.entry.act.now)
+        (R.local state.old) mail.old updates.old history.old.entries
+        (R.local state.new) mail.new updates.new history.new.entries) }
+    ensures refused { IfErr result (ReadyFault (R.local state.old) mail.old asked.entry.act.now) }
+    ensures same_local { OnErr result (R.local state.new ≡ R.local state.old) }
+    ensures same_mail { OnErr result (messages mail.new ≡ messages mail.old) }
+    ensures same_updates { OnErr result (updates.new ≡ updates.old) }
+    ensures same_history { OnErr result (history.new ≡ history.old) }
+{
+    let Asked { act, number } = asked;
+    match number {
+        Some(number) => match state.prepare_at(fixed.alloc, number, act) {
+            Ok(shown) => finish(fixed, state, mail, updates, history, act, shown),
+            Err(_) => Err(StepFault::Memory),
+        },
+        None => match state.prepare(fixed.alloc, act) {
+            Ok(prepared) => {
+                let shown = prepared.into_shown();
+                finish(fixed, state, mail, updates, history, act, shown)
+            }
+            Err(PrepareFault::NoAct) => Err(StepFault::NoAct),
+            Err(PrepareFault::Memory) => Err(StepFault::Memory),
+        },
+    }
+}
+
+/// The step of one role that is ready for an act. After a refusal nothing is changed.
+fn finish<R: Runs>(
+    fixed: &Fixed<'_>,
+    state: &mut R,
+    mail: &mut Mail,
+    updates: &mut u32,
+    history: &mut History,
+    act: &Act,
+    shown: Shown,
+) -> Result<(), StepFault>
+    requires ready { R.is_ready state.old act.now }
+    requires shown { IsShown (R.local state.old) act.now shown }
     requires can { CanStep (R.local state.old) act.now mail.old }
     requires updates { updates.old < 4294967295 }
     requires known { KnownRules fixed.now.cast.now fixed.now.book.now
@@ -193,22 +264,20 @@ fn do_act<R: Runs>(
     ensures same_updates { OnErr result (updates.new ≡ updates.old) }
     ensures same_history { OnErr result (history.new ≡ history.old) }
 {
-    match state.prepare(fixed.alloc, act) {
-        Ok(prepared) => {
-            if is_scope(act) {
-                return match begin_scope(fixed, state, updates, history, act, prepared) {
-                    Ok(()) => Ok(()),
-                    Err(_) => Err(StepFault::Memory),
-                };
-            }
-            if commit(state, mail, history, act, prepared) {
-                Ok(())
-            } else {
-                Err(StepFault::NotYet)
-            }
-        }
-        Err(PrepareFault::NoAct) => Err(StepFault::NoAct),
-        Err(PrepareFault::Memory) => Err(StepFault::Memory),
+    if is_scope(act) {
+        return match begin_scope(fixed, state, updates, history, act, shown) {
+            Ok(()) => Ok(()),
+            Err(_) => Err(StepFault::Memory),
+        };
+    }
+    let Ok(key) = put_key(fixed.alloc, act) else {
+        drop(shown);
+        return Err(StepFault::Memory);
+    };
+    if commit(state, mail, history, act, shown, key) {
+        Ok(())
+    } else {
+        Err(StepFault::NotYet)
     }
 }
 
@@ -221,28 +290,31 @@ pub(crate) fn step_role<R: Runs>(
     updates: &mut u32,
     history: &mut History,
     place: usize,
-    act: &Act,
+    asked: Asked<'_>,
 ) -> Result<(), StepFault>
+    requires numbered { (local : LocalState)
+        → slice_get (map R.local roles.old.items) place ≡ Some local
+        → IsNumberedIf asked.number asked.act.now (offered local) }
     requires there { place < length roles.old.items }
     requires can { (local : LocalState) → slice_get (map R.local roles.old.items) place ≡ Some local
-        → CanStep local act.now mail.old }
+        → CanStep local asked.act.now mail.old }
     requires updates { updates.old < 4294967295 }
     requires known { KnownRules fixed.now.cast.now fixed.now.book.now
         (map body_seen fixed.now.bodies.now) }
     requires tells { (local : LocalState)
         → slice_get (map R.local roles.old.items) place ≡ Some local
-        → Tells fixed.now.cast.now local act.now }
+        → Tells fixed.now.cast.now local asked.act.now }
     ensures did { (role : OneRole) (rules : List PlainRule)
         → slice_get fixed.now.cast.now place ≡ Some role → IsBookOf rules fixed.now.book.now
         → map body_seen fixed.now.bodies.now ≡ map body_of rules
-        → OnOk result (RoleDid fixed.now.cast.now role act.now
+        → OnOk result (RoleDid fixed.now.cast.now role asked.entry.act.now
         (λ s. given_to fixed.now.cast.now rules mail.old (book_of fixed.now.book.now) updates.old s
-        act.now)
+        asked.entry.act.now)
         (map R.local roles.old.items) mail.old updates.old history.old.entries
         (map R.local roles.new.items) mail.new updates.new history.new.entries) }
     ensures refused { (role : OneRole) → slice_get fixed.now.cast.now place ≡ Some role
         → IfErr result
-        (RefusedFor fixed.now.cast.now (map R.local roles.old.items) mail.old role act.now) }
+        (RefusedFor fixed.now.cast.now (map R.local roles.old.items) mail.old role asked.entry.act.now) }
     ensures same_roles { OnErr result (map R.local roles.new.items ≡ map R.local roles.old.items) }
     ensures same_mail { OnErr result (messages mail.new ≡ messages mail.old) }
     ensures same_updates { OnErr result (updates.new ≡ updates.old) }
@@ -250,7 +322,7 @@ pub(crate) fn step_role<R: Runs>(
 {
     make_room(mail, history)?;
     let state = &mut roles[place];
-    match do_act(fixed, state, mail, updates, history, act) {
+    match do_act(fixed, state, mail, updates, history, asked) {
         Ok(()) => Ok(()),
         Err(fault) => Err(fault),
     }

@@ -13,7 +13,7 @@ ghost use Rattle.dioc_terms.specs.Processes.{letters, process};
 ghost use Rattle.dioc_terms.specs.Terms.{is_in, term};
 ghost use Rattle.dpoc_process.specs.Acting.{Lead, acting_lead};
 ghost use Rattle.dpoc_process.specs.Handed.{IsEnabled, Kept};
-ghost use Rattle.dpoc_process.specs.RoleSteps.{IsPrepared, IsStep};
+ghost use Rattle.dpoc_process.specs.RoleSteps.{IsShown, IsStep};
 ghost use Rattle.global_steps.specs.Follow.{book_choice};
 ghost use Rattle.limits.specs.Limits.{top_level};
 ghost use Rattle.process_steps.specs.Steps.{Decision, FromBook, Keeps, Replaces};
@@ -29,7 +29,7 @@ use crate::bodies::RuleBody;
 use dioc_terms::{
     Act, Chosen, Entry, Items, Memory, Name, Parts, Role, Roles, ScopeHead, Store, give_up,
 };
-use dpoc_process::{Got, Prepared, Runs};
+use dpoc_process::{Got, Runs, Shown};
 use rule_book::Book;
 use scope_leader::plan_update;
 use std::alloc::Global;
@@ -51,10 +51,10 @@ pub(crate) fn begin_scope<R: Runs>(
     updates: &mut u32,
     history: &mut History,
     act: &Act,
-    prepared: Prepared,
+    shown: Shown,
 ) -> Result<(), Memory>
     requires ready { R.is_ready state.old act.now }
-    requires shown { IsPrepared (R.local state.old) act.now prepared }
+    requires shown { IsShown (R.local state.old) act.now shown }
     requires scope { asks_scope act.now ≡ true }
     requires history_room { 0 < history.old.room }
     requires updates { updates.old < 4294967295 }
@@ -75,7 +75,7 @@ pub(crate) fn begin_scope<R: Runs>(
     process_steps::offers_are_steps();
     dioc_terms::choices_go_on();
     dioc_terms::mentions_are_roles();
-    let head = prepared.into_head();
+    let head = shown.into_head();
     match choice(fixed, &head, state.store()) {
         None => {
             keep_scope(state, history, act, head);

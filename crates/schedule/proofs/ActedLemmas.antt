@@ -97,11 +97,16 @@ listed_inside agenda doer place m h =
     omega (arith, got_inside (map ready_seen agenda) doer found.0 found.1, length-map agenda ready_seen)
 
 -- the role at a place of a net's agenda is that of the cast
+-- and what is listed of it is what is to be
+pub role_listed : (net : NetState) (agenda : List ReadyRole) (doer : ℕ) (ready : ReadyRole) → map ready_seen agenda ≡ agenda_of net → ready ≡ get_or agenda doer ready
+    → doer < length agenda → (slice_get net.bundle.cast doer ≡ Some ready.role) × (ready_seen ready ≡ ready_in (network_of net) ready.role)
+role_listed net agenda doer ready listed is inside =
+    listed_at (ready_in (network_of net)) (λ r. refl) net.bundle.cast doer (ready_seen ready)
+    (ap (λ (l : List Shown). slice_get l doer) (sym listed) ∙ seen_at agenda doer ready is inside)
+
 pub role_here : (net : NetState) (agenda : List ReadyRole) (doer : ℕ) (ready : ReadyRole) → map ready_seen agenda ≡ agenda_of net → ready ≡ get_or agenda doer ready
     → doer < length agenda → slice_get net.bundle.cast doer ≡ Some ready.role
-role_here net agenda doer ready listed is inside =
-    (listed_at (ready_in (network_of net)) (λ r. refl) net.bundle.cast doer (ready_seen ready)
-    (ap (λ (l : List Shown). slice_get l doer) (sym listed) ∙ seen_at agenda doer ready is inside)).0
+role_here net agenda doer ready listed is inside = (role_listed net agenda doer ready listed is inside).0
 
 -- a move of a role is the act at one of its places
 pub place_listed : (ready : ReadyRole) (place : ℕ) (m : Move) → slice_get (moves_of (ready_seen ready)) place ≡ Some m → place < length ready.ready.items

@@ -1,5 +1,13 @@
 -- A turn of a schedule: the move at the schedule's place, made without a fault.
-use Rattle.std.proofs.Common.{ℕ, Option, ap, ◌∙◌}
+use Rattle.std.proofs.Common.{◌≡◌, ℕ, zero, suc, List, [], ◌∷◌, ◌||◌, true, false, Option, Some, not, refl, ap, ap₂, ◌∙◌, sym, slice_get, subst, take, ⊎_elim}
+use Rattle.std.proofs.lemmas.Bool.{and_parts, both_ways, cases_Bool, not-true}
+use Rattle.dioc_terms.specs.Equality.{act_eq}
+use Rattle.dpoc_process.proofs.StateLemmas.{stands-offered}
+use Rattle.dpoc_process.specs.LocalStates.{IsNumbered}
+use Rattle.marked_laws.proofs.Equality.{act_same}
+use Rattle.marked_laws.proofs.Shapes.{none_some}
+use Rattle.marked_laws.specs.Offers.{distinct_acts}
+use Rattle.process_steps.specs.Steps.{is_offered}
 use Rattle.std.specs.Prelude.{option_and_then}
 use Rattle.dioc_terms.specs.declared.entries.Act.{Act}
 use Rattle.dioc_terms.specs.declared.names.Role.{Role}
@@ -25,3 +33,22 @@ advances old new seed m next made = record {
   takes = ap (option_and_then (move_step (setting old.bundle) (network_of old))) next ∙ made.steps;
   goes = made.goes;
 }
+
+-- of acts that differ each has the number of its place
+pub is_numbered : (acts : List Act) (number : ℕ) (a : Act) → slice_get acts number ≡ Some a → distinct_acts acts ≡ true → IsNumbered number a acts
+is_numbered acts number a there once = record { stands = there; first = not_before acts number a there once }
+  where
+    differs : (b : Act) (acts : List Act) (a : Act) → is_offered b acts ≡ false → is_offered a acts ≡ true → act_eq a b ≡ false
+    differs b acts a none some = ⊎_elim
+        (λ same. absurd (both_ways (is_offered b acts) none (subst (λ x. is_offered x acts ≡ true) (act_same a b same) some)))
+        (λ other. other)
+        (cases_Bool (act_eq a b))
+
+    not_before : (acts : List Act) (number : ℕ) (a : Act) → slice_get acts number ≡ Some a → distinct_acts acts ≡ true → is_offered a (take number acts) ≡ false
+    not_before [] number a there once = absurd (none_some there)
+    not_before (b ∷ acts) zero a there once = refl
+    not_before (b ∷ acts) (suc number) a there once =
+        let parts = and_parts (not (is_offered b acts)) (distinct_acts acts) once in
+        ap₂ (λ s t. s || t)
+        (differs b acts a (not-true (is_offered b acts) parts.0) (stands-offered acts number a there))
+        (not_before acts number a there parts.1)

@@ -1,10 +1,14 @@
 //! One turn of a schedule: which move it takes, and how a net makes a move.
 
-ghost use Rattle.std.specs.Prelude.{◌≡◌, ◌<◌, ◌≤◌, ◌+◌, ◌∷◌, false, None, Some, IfOk, OnErr, OnOk, flat_map, length, map};
+ghost use Rattle.std.specs.Prelude.{◌≡◌, ◌<◌, ◌≤◌, ◌+◌, ◌∷◌, false, true, None, Some, IfOk, OnErr, OnOk, flat_map, length, map};
+ghost use Rattle.dioc_terms.specs.declared.names.Role.{Role as OneRole};
 ghost use Rattle.dioc_terms.specs.Plain.{setting};
+ghost use Rattle.dpoc_process.specs.LocalStates.{IsNumbered};
+ghost use Rattle.marked_laws.specs.Offers.{distinct_acts};
 ghost use Rattle.network_steps.specs.Schedule.{move_place, moves};
 ghost use Rattle.net_core.specs.Changes.{change_fault};
 ghost use Rattle.net_core.specs.Nets.{IsSoundRun, network_of};
+ghost use Rattle.net_core.specs.Places.{offers_at, offers_of};
 ghost use Rattle.net_core.specs.Steps.{IsStepAt, fault_at};
 ghost use Rattle.network_steps.specs.declared.moves.Move.{Move as OneMove};
 ghost use Rattle.network_steps.specs.declared.moves.Move.TheVariants as move;
@@ -90,6 +94,7 @@ fn change_or_act(agenda: &[ReadyRole], place: u128) -> Listed
 /// Makes a move of the agenda that has no fault. After a refusal the net is unchanged.
 fn make<R: Runs>(net: &mut Net<R>, agenda: &[ReadyRole], next: Listed) -> Result<(), Memory>
     requires agenda { map ready_seen agenda.now ≡ agenda_of net.old }
+    requires once { (q : OneRole) → distinct_acts (offers_of (network_of net.old) q) ≡ true }
     requires can { CanMakeListed net.old (map ready_seen agenda.now) next }
     requires few { (network_of net.old).updates < 4294967295 }
     ensures made { OnOk result ((m : OneMove) → move_at (map ready_seen agenda.now) next ≡ Some m
@@ -100,8 +105,9 @@ fn make<R: Runs>(net: &mut Net<R>, agenda: &[ReadyRole], next: Listed) -> Result
         Listed::Change => make_change(net),
         Listed::Act(doer, place) => {
             let ready = &agenda[doer];
-            let act = &ready.acts[ready.ready[place]];
-            make_step(net, doer, act)
+            let number = ready.ready[place];
+            let act = &ready.acts[number];
+            make_step(net, doer, number, act)
         }
     }
 }
@@ -119,15 +125,16 @@ fn make_change<R: Runs>(net: &mut Net<R>) -> Result<(), Memory>
     }
 }
 
-/// Makes the step of the role at a place of the cast, which has no fault.
-fn make_step<R: Runs>(net: &mut Net<R>, doer: usize, act: &Act) -> Result<(), Memory>
+/// Makes the step of the role at a place of the cast by the act of that number, which has no fault.
+fn make_step<R: Runs>(net: &mut Net<R>, doer: usize, number: usize, act: &Act) -> Result<(), Memory>
     requires there { doer < length net.old.bundle.cast }
+    requires numbered { IsNumbered number act.now (offers_at net.old doer) }
     requires can { fault_at net.old doer act.now ≡ None }
     requires few { (network_of net.old).updates < 4294967295 }
     ensures made { OnOk result (IsStepAt net.old doer act.now net.new) }
     ensures err { OnErr result (net.new ≡ net.old) }
 {
-    match net.step_at(doer, act) {
+    match net.step_at(doer, number, act) {
         Ok(()) => Ok(()),
         Err(StepFault::Memory) => Err(Memory),
         Err(_) => unreachable!(),

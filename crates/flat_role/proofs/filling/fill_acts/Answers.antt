@@ -4,14 +4,14 @@ use Rattle.std.specs.List.{between}
 use Rattle.std.proofs.lemmas.List.{append_assoc, length-append, length-take-le, take-append-drop}
 use Rattle.dioc_terms.specs.declared.entries.Act.{Act}
 use Rattle.flat_role.specs.Progress.{acts_at}
-use Rattle.flat_role.proofs.FillLemmas.{fills, lacks-few, news-many}
+use Rattle.flat_role.proofs.FillLemmas.{NoUpdate, fills, lacks-few, news-many}
 use Rattle.flat_role.proofs.filling.fill_acts.Goals as goal
 
 pub overflow_sub-missing : goal.overflow_sub-missing
 overflow_sub-missing c =
     let few =
     lacks-few c.args.me.now c.args.plan.now c.args.progress.now c.requires.progress
-    (c.runs_updates.ensures c.if-runs_updates.false)
+    (λ i h. c.runs_updates.ensures c.if-runs_updates.false i (omega (arith, h)))
     c.args.acts.now.items c.args.at c.requires.inside c.requires.lacks in
     omega (arith, few)
 
@@ -19,7 +19,7 @@ pub add_acts-requires-clause-inside : goal.add_acts-requires-clause-inside
 add_acts-requires-clause-inside c =
     let few =
     lacks-few c.args.me.now c.args.plan.now c.args.progress.now c.requires.progress
-    (c.runs_updates.ensures c.if-runs_updates.false)
+    (λ i h. c.runs_updates.ensures c.if-runs_updates.false i (omega (arith, h)))
     c.args.acts.now.items c.args.at c.requires.inside c.requires.lacks in
     omega (arith, few, c.requires.inside)
 
@@ -29,10 +29,11 @@ bring_forward-requires c =
     let plan = c.args.plan.now in
     let progress = c.args.progress.now in
     let old : List Act = c.args.acts.now.items in
-    let missing : ℕ = c.len.result - c.len-2.result in
+    let missing : ℕ = c.len-places.result - c.len.result in
     let news : List Act =
     acts_at me plan progress (between c.args.at (c.args.at + missing) progress.active.items) in
-    let own = c.runs_updates.ensures c.if-runs_updates.false in
+    let own : NoUpdate me plan progress c.requires.progress =
+    λ i h. c.runs_updates.ensures c.if-runs_updates.false i (omega (arith, h)) in
     let few : length old ≤ length progress.active.items =
     lacks-few me plan progress c.requires.progress own old c.args.at c.requires.inside
     c.requires.lacks in
@@ -55,10 +56,11 @@ returns c =
     let progress = c.args.progress.now in
     let at = c.args.at in
     let old : List Act = c.args.acts.now.items in
-    let missing : ℕ = c.len.result - c.len-2.result in
+    let missing : ℕ = c.len-places.result - c.len.result in
     let news : List Act =
     acts_at me plan progress (between at (at + missing) progress.active.items) in
-    let own = c.runs_updates.ensures c.if-runs_updates.false in
+    let own : NoUpdate me plan progress c.requires.progress =
+    λ i h. c.runs_updates.ensures c.if-runs_updates.false i (omega (arith, h)) in
     let few : length old ≤ length progress.active.items =
     lacks-few me plan progress c.requires.progress own old at c.requires.inside c.requires.lacks in
     let count : length old + missing ≡ length progress.active.items = omega (arith, few) in

@@ -7,7 +7,7 @@ use Rattle.flat_role.specs.KeptMarks.{meant}
 use Rattle.flat_role.specs.Leaves.{is_became}
 use Rattle.flat_role.specs.PlanMarks.{static_at}
 use Rattle.flat_role.proofs.FillLemmas.{not_became}
-use Rattle.flat_role.proofs.filling.is_update.Goals as goal
+use Rattle.flat_role.proofs.numbered.is_update.Goals as goal
 
 pub returns-in-Became : goal.returns-in-Became
 returns-in-Became c = λ me plan.

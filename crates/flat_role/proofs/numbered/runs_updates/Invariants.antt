@@ -2,7 +2,7 @@
 use Rattle.std.proofs.Common.{◌≡◌, ◌<◌, ℕ, false, get_or}
 use Rattle.flat_role.specs.Leaves.{is_became}
 use Rattle.flat_role.specs.Progress.{marks_by}
-use Rattle.flat_role.proofs.filling.runs_updates.Given as goal
+use Rattle.flat_role.proofs.numbered.runs_updates.Given as goal
 
 abbrev pub invariant-loop-at : goal.invariant-loop-at
 invariant-loop-at l = (i : ℕ) → i < l.at

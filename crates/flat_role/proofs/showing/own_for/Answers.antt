@@ -2,7 +2,7 @@
 use Rattle.std.proofs.Common.{ap, ◌∙◌}
 use Rattle.dioc_terms.specs.Values.{is_true}
 use Rattle.dpoc_process.specs.Growth.{write_at}
-use Rattle.flat_role.proofs.readying.own_for.Goals as goal
+use Rattle.flat_role.proofs.showing.own_for.Goals as goal
 
 pub returns-in-Ok-clause-own : goal.returns-in-Ok-clause-own
 returns-in-Ok-clause-own c = λ R s value next. record {

@@ -7,19 +7,19 @@ use Rattle.flat_role.specs.PlanMarks.{plan_marks}
 use Rattle.flat_role.specs.Progress.{marks_by}
 use Rattle.flat_role.proofs.FillLemmas.{with_this}
 use Rattle.flat_role.proofs.ProgressLemmas.{place-inside}
-use Rattle.flat_role.proofs.filling.runs_updates.Goals as goal
+use Rattle.flat_role.proofs.numbered.runs_updates.Goals as goal
 
 pub is_update-requires : goal.is_update-requires
 is_update-requires c =
     let ps : List ℕ = c.args.progress.now.active.items in
-    let here : c.loop-at.at < length ps = omega arith in
+    let here : c.loop-at.at < length ps = omega (arith, c.requires.inside) in
     let at : c.index-place.result.now ≡ get_or ps c.loop-at.at 0 =
     c.index-place.ensures ∙ get_or_default ps c.loop-at.at c.index-place.result.now 0 here in
     omega (
       arith,
       at,
-      place-inside c.args.me.now c.args.plan.now c.args.progress.now c.requires c.loop-at.at here,
-      c.requires.as_long,
+      place-inside c.args.me.now c.args.plan.now c.args.progress.now c.requires.progress c.loop-at.at here,
+      c.requires.progress.as_long,
       ap length c.as_slice-marks.ensures.value,
     )
 
@@ -29,7 +29,7 @@ loop-at-preserved c =
     let plan = c.args.plan.now in
     let progress = c.args.progress.now in
     let ps : List ℕ = progress.active.items in
-    let here : c.loop-at.at < length ps = omega arith in
+    let here : c.loop-at.at < length ps = omega (arith, c.requires.inside) in
     let at : c.index-place.result.now ≡ get_or ps c.loop-at.at 0 =
     c.index-place.ensures ∙ get_or_default ps c.loop-at.at c.index-place.result.now 0 here in
     let slice : List Mark = c.as_slice-marks.result.now in
