@@ -22,7 +22,7 @@ use Rattle.process_steps.specs.Steps.{Deed, Puts, Takes, Sets, Inputs, Picks, Ch
 use Rattle.role_mailbox.specs.declared.mail.Mail.{Mail}
 use Rattle.role_mailbox.specs.Pending.{payload_at}
 use Rattle.marked_laws.proofs.Shapes.{none_some, some_same}
-use Rattle.net_core.specs.Acts.{given_from_mail, put_key, put_with, taken_with, TakenBy, PutBy}
+use Rattle.net_core.specs.Acts.{given_from_mail, is_take, put_key, put_with, taken_with, TakenBy, PutBy}
 use Rattle.net_core.specs.Deeds.{given_to, asks_scope, is_there, pending_with, MailAfter, IsDone}
 
 -- what is done where something is done
@@ -97,10 +97,13 @@ put_of (act.Input i) k is = absurd (none_some is)
 put_of (act.Pick i) k is = absurd (none_some is)
 put_of (act.Scope i) k is = absurd (none_some is)
 
--- and takes nothing
-pub none_taken : (a : Act) (k : Key) (before : Option Load) → put_key a ≡ Some k → taken_with a k before ≡ before
-none_taken (act.Take j) k before is = absurd (none_some is)
-none_taken _ k before is = refl
+-- an act that isn't a take leaves the mail as it is
+pub leaves_mail : (a : Act) (mail : Mail) → is_take a ≡ false → TakenBy a mail mail
+leaves_mail a mail other = record { at = λ k. kept a k (payload_at k mail) other }
+  where
+    kept : (a : Act) (k : Key) (before : Option Load) → is_take a ≡ false → before ≡ taken_with a k before
+    kept (act.Take j) k before other = cc
+    kept _ k before other = refl
 
 module _ (shows : StepsShowTheirActs) (s : LocalState) (a : Act) (p : Shown) (prepared : IsShown s a p) where
   act_shown : (given : Given) (d : Deed) (P : Process) → step_at s a given ≡ Does d P → act_of (entry_of d) ≡ Some a

@@ -1,5 +1,5 @@
 -- What an act does to the mail, and what comes to an act that isn't a scope's.
-use Rattle.std.specs.Prelude.{◌≡◌, ℕ, List, true, false, Option, None, Some, if◌then◌else◌}
+use Rattle.std.specs.Prelude.{◌≡◌, ℕ, List, Bool, true, false, Option, None, Some, if◌then◌else◌}
 use Rattle.dioc_terms.specs.declared.entries.Act.{Act}
 use Rattle.dioc_terms.specs.declared.entries.Act.TheVariants as act
 use Rattle.dioc_terms.specs.declared.processes.Key.{Key}
@@ -48,3 +48,8 @@ IsNumberedIf (Some number) a acts = IsNumbered number a acts
 abbrev pub put_key : Act → Option Key
 put_key (act.Put k) = Some k
 put_key _ = None
+
+-- whether the act takes a message
+abbrev pub is_take : Act → Bool
+is_take (act.Take k) = true
+is_take _ = false

@@ -5,6 +5,7 @@ ghost use Rattle.std.specs.Prelude.{◌≡◌, ◌<◌, ◌≤◌, ℕ, List, tr
 ghost use Rattle.std.specs.Option.{option_map};
 ghost use Rattle.std.specs.List.{list_all, position};
 ghost use Rattle.dioc_terms.specs.declared.entries.Act.{Act as OneAct};
+ghost use Rattle.dioc_terms.specs.declared.entries.Act.TheVariants as acts;
 ghost use Rattle.dioc_terms.specs.declared.processes.Key.{Key as OneKey};
 ghost use Rattle.dioc_terms.specs.declared.names.Role.{Role as OneRole};
 ghost use Rattle.dioc_terms.specs.Equality.{member, role_eq};
@@ -15,9 +16,9 @@ ghost use Rattle.dpoc_process.specs.Handed.{handed, given_like, StandsFor};
 ghost use Rattle.dpoc_process.specs.RoleSteps.{IsShown};
 ghost use Rattle.dpoc_process.specs.LocalStates.{LocalState, offered, step_at};
 ghost use Rattle.process_steps.specs.Laws.{is_done};
-ghost use Rattle.process_steps.specs.Steps.{ended, is_offered};
+ghost use Rattle.process_steps.specs.Steps.{Alone, ended, is_offered};
 ghost use Rattle.role_mailbox.specs.Pending.{messages, payload_at, room};
-ghost use Rattle.net_core.specs.Acts.{given_from_mail, put_key, CanStep, IsNumberedIf, TakenBy, PutBy};
+ghost use Rattle.net_core.specs.Acts.{given_from_mail, is_take, put_key, CanStep, IsNumberedIf, TakenBy, PutBy};
 ghost use Rattle.net_core.specs.Deeds.{given_to, asks_scope, is_there, ActDone, DoneAt, IsDone, RefusedFor, RoleDid};
 ghost use Rattle.net_core.specs.Faults.{ReadyFault};
 ghost use Rattle.net_core.specs.KeptParts.{body_seen};
@@ -81,25 +82,6 @@ pub(crate) fn is_there(mail: &Mail, act: &Act) -> bool
     }
 }
 
-/// Takes the message of a take out of the mail. What comes of it is `None` exactly where the
-/// message isn't there, and then the mail has the messages that it had.
-fn take_in(mail: &mut Mail, act: &Act) -> Option<Got>
-    requires plain { asks_scope act.now ≡ false }
-    ensures there { is_some result ≡ is_there act.now mail.old }
-    ensures like { IfSome result
-        (λ got. given_like (handed got) ≡ given_from_mail act.now mail.old) }
-    ensures stands { (me : OneRole) (lead : Option Lead) → IfSome result
-        (λ got. StandsFor me lead (handed got) (given_from_mail act.now mail.old)) }
-    ensures taken { IfSome result (λ got. TakenBy act.now mail.old mail.new) }
-    ensures same { IfNone result (messages mail.new ≡ messages mail.old) }
-    ensures keeps_room { room mail.old ≤ room mail.new }
-{
-    match act {
-        Act::Take(key) => Some(Got::Payload(mail.take(key)?)),
-        _ => Some(Got::Nothing),
-    }
-}
-
 /// The key of the message that an act puts.
 fn put_key(alloc: Global, act: &Act) -> Result<Option<Key>, Memory>
     ensures { IfOk result (λ key. key ≡ put_key act.now) }
@@ -124,25 +106,21 @@ fn put_out(mail: &mut Mail, key: Option<Key>, payload: Option<Payload>)
     }
 }
 
-/// The step of a role that is ready for an act that isn't a scope's, and whether it was made: it
-/// isn't exactly where the act's message isn't there, and then all is as it was. It takes no
-/// memory.
-pub(crate) fn commit<R: Runs>(
+/// The step of a role that is ready for a take, and whether it was made: it isn't exactly where the
+/// message isn't there, and then all is as it was. It takes no memory.
+pub(crate) fn commit_take<R: Runs>(
     state: &mut R,
     mail: &mut Mail,
     history: &mut History,
     act: &Act,
+    key: &Key,
     shown: Shown,
-    key: Option<Key>,
 ) -> bool
     requires ready { R.is_ready state.old act.now }
     requires shown { IsShown (R.local state.old) act.now shown }
-    requires key { key ≡ put_key act.now }
-    requires plain { asks_scope act.now ≡ false }
+    requires take { act.now ≡ acts.Take key.now }
     requires can { is_there act.now mail.old ≡ true
         → is_done (step_at (R.local state.old) act.now (given_from_mail act.now mail.old)) ≡ true }
-    requires free { (k : OneKey) → put_key act.now ≡ Some k → payload_at k mail.old ≡ None }
-    requires mail_room { 0 < room mail.old }
     requires history_room { 0 < history.old.room }
     ensures there { result ≡ is_there act.now mail.old }
     ensures done { result ≡ true → (count : ℕ)
@@ -153,8 +131,8 @@ pub(crate) fn commit<R: Runs>(
     ensures same_history { result ≡ false → history.new ≡ history.old }
 {
     process_steps::steps_show_their_acts();
-    let Some(got) = take_in(mail, act) else {
-        drop((shown, key));
+    let Some(came) = mail.take(key) else {
+        drop(shown);
         return false;
     };
     let Shown {
@@ -162,18 +140,44 @@ pub(crate) fn commit<R: Runs>(
         head,
         payload,
     } = shown;
-    drop(head);
+    drop((head, payload));
     history.push(entry.unwrap());
-    state.advance(act, got);
-    put_out(mail, key, payload);
+    state.advance(act, Got::Payload(came));
     true
 }
 
-/// Whether the act begins a scope.
-fn is_scope(act: &Act) -> bool
-    ensures { result ≡ asks_scope act.now }
+/// The step of a role that is ready for an act that is neither a take nor a scope's. It takes no
+/// memory.
+pub(crate) fn commit<R: Runs>(
+    state: &mut R,
+    mail: &mut Mail,
+    history: &mut History,
+    act: &Act,
+    shown: Shown,
+    key: Option<Key>,
+)
+    requires ready { R.is_ready state.old act.now }
+    requires shown { IsShown (R.local state.old) act.now shown }
+    requires key { key ≡ put_key act.now }
+    requires plain { asks_scope act.now ≡ false }
+    requires other { is_take act.now ≡ false }
+    requires can { is_done (step_at (R.local state.old) act.now Alone) ≡ true }
+    requires free { (k : OneKey) → put_key act.now ≡ Some k → payload_at k mail.old ≡ None }
+    requires mail_room { 0 < room mail.old }
+    requires history_room { 0 < history.old.room }
+    ensures done { (count : ℕ) → IsDone act.now Alone (R.local state.old) mail.old
+        count history.old.entries (R.local state.new) mail.new count history.new.entries }
 {
-    matches!(act, Act::Scope(_))
+    process_steps::steps_show_their_acts();
+    let Shown {
+        entry,
+        head,
+        payload,
+    } = shown;
+    drop(head);
+    history.push(entry.unwrap());
+    state.advance(act, Got::Nothing);
+    put_out(mail, key, payload);
 }
 
 /// An act that a role is asked to do, and its number among those that the role offers, where the
@@ -264,20 +268,26 @@ fn finish<R: Runs>(
     ensures same_updates { OnErr result (updates.new ≡ updates.old) }
     ensures same_history { OnErr result (history.new ≡ history.old) }
 {
-    if is_scope(act) {
-        return match begin_scope(fixed, state, updates, history, act, shown) {
+    match act {
+        Act::Scope(_) => match begin_scope(fixed, state, updates, history, act, shown) {
             Ok(()) => Ok(()),
             Err(_) => Err(StepFault::Memory),
-        };
-    }
-    let Ok(key) = put_key(fixed.alloc, act) else {
-        drop(shown);
-        return Err(StepFault::Memory);
-    };
-    if commit(state, mail, history, act, shown, key) {
-        Ok(())
-    } else {
-        Err(StepFault::NotYet)
+        },
+        Act::Take(key) => {
+            if commit_take(state, mail, history, act, key, shown) {
+                Ok(())
+            } else {
+                Err(StepFault::NotYet)
+            }
+        }
+        _ => {
+            let Ok(key) = put_key(fixed.alloc, act) else {
+                drop(shown);
+                return Err(StepFault::Memory);
+            };
+            commit(state, mail, history, act, shown, key);
+            Ok(())
+        }
     }
 }
 
