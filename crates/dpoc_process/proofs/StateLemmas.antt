@@ -6,7 +6,7 @@ use Rattle.dioc_terms.specs.declared.names.Role.{Role}
 use Rattle.dioc_terms.specs.declared.entries.Act.{Act}
 use Rattle.dioc_terms.specs.EqualityLemmas.{act_eq-decides}
 use Rattle.dioc_terms.specs.Equality.{act_eq}
-use Rattle.dioc_terms.specs.Processes.{Process}
+use Rattle.dioc_terms.specs.Processes.{Process, Load, Val, Flag, Keep, Part, Done, load, noted}
 use Rattle.dioc_terms.specs.Stores.{Store}
 use Rattle.dpoc_process.proofs.ActingLemmas.{acting-offered}
 use Rattle.dpoc_process.proofs.LeafLemmas.{advances-are_steps, prepared-is_done}
@@ -19,8 +19,9 @@ use Rattle.dpoc_process.specs.Handed.{Handed, Brings, StandsFor, IsEnabled}
 use Rattle.dpoc_process.specs.KeptReady.{IsPreparedFor, IsShownFor}
 use Rattle.dpoc_process.specs.RoleLaws.{local}
 use Rattle.dpoc_process.specs.LocalStates.{LocalState}
-use Rattle.dpoc_process.specs.RoleSteps.{IsPrepared, IsShown, IsStep, shown_of}
-use Rattle.process_steps.specs.Steps.{Given, offers, is_offered}
+use Rattle.dpoc_process.specs.RoleSteps.{IsPrepared, IsShown, IsStep, entry_before, sent}
+use Rattle.dpoc_process.specs.Shows.{boxed_process, head_shown, noted_message, process_in, put_message}
+use Rattle.process_steps.specs.Steps.{Deed, Puts, Takes, Sets, Inputs, Picks, Chooses, Given, offers, is_offered}
 
 either_way : (t u : Bool) → u ≡ true → (t || u) ≡ true
 either_way true u h = refl
@@ -38,25 +39,34 @@ stands-offered (b ∷ acts) zero a there =
 stands-offered (b ∷ acts) (suc number) a there =
     either_way (act_eq a b) (is_offered a acts) (stands-offered acts number a there)
 
--- what is shown with the act is shown without it
-pub prepared-shows : (s : LocalState) (a : Act) (p : Prepared) → IsPrepared s a p
-    → IsShown s a (shown_of p)
-prepared-shows s a p is = record {
-  can_act = is.can_act;
-  head = is.head;
-  entry = is.entry;
-  payload = is.payload;
-}
+-- a note and the process that comes with it are the message
+pub noted-whole : (l : Load) → noted_message (noted l) (process_in (Some l)) ≡ l
+noted-whole (Val v) = refl
+noted-whole (Flag b) = refl
+noted-whole Keep = refl
+noted-whole (Part n P) = refl
+noted-whole Done = refl
 
--- and with it where it is this act
-pub shown-prepares : (s : LocalState) (a : Act) (p : Prepared) → p.act ≡ a
-    → IsShown s a (shown_of p) → IsPrepared s a p
-shown-prepares s a p is shown = record {
-  act = is;
-  can_act = shown.can_act;
-  head = shown.head;
-  entry = shown.entry;
-  payload = shown.payload;
+-- what a deed sends is in its entry, but for the process
+pub sent-shown : (d : Deed) → put_message (entry_before d) (process_in (sent d)) ≡ sent d
+sent-shown (Puts k l) = ap Some (noted-whole l)
+sent-shown (Takes k x l) = refl
+sent-shown (Sets i r x v) = refl
+sent-shown (Inputs i r x v) = refl
+sent-shown (Picks i r b) = refl
+sent-shown (Chooses i r c) = refl
+
+-- what is shown with the act is shown without it
+pub prepared-shows : (s : LocalState) (a : Act) (p : Prepared) (q : Shown) → q.entry ≡ p.entry
+    → head_shown q ≡ p.head → boxed_process q.part ≡ process_in (option_map load p.payload)
+    → IsPrepared s a p → IsShown s a q
+prepared-shows s a p q entry head part is = record {
+  can_act = is.can_act;
+  head = head ∙ is.head;
+  entry = λ given d P does. entry ∙ is.entry given d P does;
+  message = λ given d P does.
+      ap₂ put_message (entry ∙ is.entry given d P does)
+      (part ∙ ap process_in (is.payload given d P does)) ∙ sent-shown d;
 }
 
 module _ (me : Role) (a : Act) (P : Process) where
@@ -92,7 +102,7 @@ module _ (me : Role) (s : Store) (a : Act) (P : Process) {R : Process}
     can_act = offered_where_acting me a P acts;
     head = shows.head ∙ ap (λ part. option_map lead_head (option_and_then lead_of part)) (sym acts);
     entry = λ given d Q does. shows.entry ∙ (prepared-is_done me s a P R given d Q acts does).entry;
-    payload = λ given d Q does. shows.payload ∙ (prepared-is_done me s a P R given d Q acts
+    message = λ given d Q does. shows.message ∙ (prepared-is_done me s a P R given d Q acts
         does).payload;
   }
 

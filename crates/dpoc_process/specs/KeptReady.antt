@@ -11,6 +11,7 @@ use Rattle.dpoc_process.specs.declared.runs.Shown.{Shown}
 use Rattle.dpoc_process.specs.Acting.{lead_of, lead_head}
 use Rattle.dpoc_process.specs.Growth.{value_at, growth, write_at, entry_at, load_at}
 use Rattle.dpoc_process.specs.KeptGrowth.{growth_of, write_of}
+use Rattle.dpoc_process.specs.Shows.{head_shown, message_shown}
 
 -- what was made ready of the part is its growth and its write, with the value that it needs
 pub record IsReadyFor (me : Role) (a : Act) (v : Value) (R : Process) (ready : Ready) : Type 0 where
@@ -28,9 +29,9 @@ pub record IsPreparedFor (me : Role) (a : Act) (v : Value) (R : Process)
 
 -- the same but for the act itself
 pub record IsShownFor (me : Role) (v : Value) (R : Process) (p : Shown) : Type 0 where
-  pub head : p.head ≡ option_map lead_head (lead_of R)
+  pub head : head_shown p ≡ option_map lead_head (lead_of R)
   pub entry : p.entry ≡ entry_at me v R
-  pub payload : option_map load p.payload ≡ load_at v R
+  pub message : message_shown p ≡ load_at v R
 
 -- what was made ready of the part that does the act, and what is shown of it
 pub record IsMade (me : Role) (s : Store) (a : Act) (found : Option Process) (ready : Ready)

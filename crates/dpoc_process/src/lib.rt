@@ -18,5 +18,5 @@ mod states;
 
 pub use laws::{advances_are_steps, prepared_is_done};
 pub use roles::{Begins, Runs};
-pub use runs::{Got, PrepareFault, Prepared, Shown};
+pub use runs::{Got, PrepareFault, Prepared, Shown, noted_message};
 pub use states::RoleState;

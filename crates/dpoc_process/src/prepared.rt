@@ -333,7 +333,7 @@ fn payload_at(alloc: Global, value: &Value, part: &Proc) -> Result<Option<Payloa
     }
 }
 
-pub fn payload_of_tell(
+fn payload_of_tell(
     alloc: Global,
     value: &Value,
     messages: &Messages,

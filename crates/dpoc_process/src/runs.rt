@@ -1,8 +1,12 @@
 //! A role that runs, act by act.
 
-ghost use Rattle.std.specs.Prelude.{◌≡◌, IsSome, Some};
+ghost use Rattle.std.specs.Prelude.{◌≡◌, IsSome, Some, IfOk, option_map};
+ghost use Rattle.dioc_terms.specs.Processes.{load, process};
+ghost use Rattle.dpoc_process.specs.Shows.{boxed_head, boxed_process, noted_message, process_in, process_or_skip, put_message};
 
-use dioc_terms::{Act, Entry, Memory, Parts, Payload, ScopeHead, Store};
+use dioc_terms::{
+    Act, Entry, Memory, Note, Parts, Payload, Proc, ScopeHead, Store, give_up, new_box,
+};
 use std::alloc::Global;
 use thiserror::Error;
 
@@ -32,23 +36,28 @@ pub struct Prepared {
     pub payload: Option<Payload>,
 }
 
-/// What is known of an act before it is done, but for the act itself.
+/// What is known of an act before it is done, but for the act itself. What is rare is in boxes, so
+/// that little is moved at each step.
 #[derive(Drop)]
 pub struct Shown {
-    /// Its entry. It is missing exactly for a scope, whose choice isn't known yet.
+    /// Its entry. It is missing exactly for a scope, whose choice isn't known yet. That of a put
+    /// shows all of the message but a process.
     pub entry: Option<Entry>,
     /// What the book sees of the scope, there exactly for a scope.
-    pub head: Option<ScopeHead>,
-    /// A copy of the message, there exactly for a put.
-    pub payload: Option<Payload>,
+    pub head: Option<Box<ScopeHead>>,
+    /// A copy of the process that the message brings, there exactly for a part of an update.
+    pub part: Option<Box<Proc>>,
 }
 
 impl Prepared {
-    ghost use Rattle.dpoc_process.specs.RoleSteps.{shown_of};
+    ghost use Rattle.dpoc_process.specs.LocalStates.{LocalState};
+    ghost use Rattle.dpoc_process.specs.RoleSteps.{IsPrepared, IsShown};
+    ghost use Rattle.dioc_terms.specs.declared.entries.Act.{Act as OneAct};
 
     /// All but the act, which is dropped.
-    pub fn into_shown(self) -> Shown
-        ensures { result ≡ shown_of self }
+    pub fn into_shown(self, alloc: Global) -> Result<Shown, Memory>
+        ensures { (s : LocalState) (a : OneAct) → IsPrepared s a self
+            → IfOk result (IsShown s a) }
     {
         let Prepared {
             act,
@@ -57,10 +66,9 @@ impl Prepared {
             payload,
         } = self;
         drop(act);
-        Shown {
-            entry,
-            head,
-            payload,
+        match boxed(alloc, head, payload) {
+            Ok((head, part)) => Ok(Shown { entry, head, part }),
+            Err(fault) => give_up(entry, fault),
         }
     }
 
@@ -69,43 +77,148 @@ impl Prepared {
         requires { IsSome self.head }
         ensures { self.head ≡ Some result }
     {
-        self.into_shown().into_head()
-    }
-}
-
-impl Shown {
-    ghost use Rattle.dpoc_process.specs.RoleSteps.{shown_of};
-
-    /// The same with the act of which it is shown.
-    pub fn with_act(self, act: Act) -> Prepared
-        ensures act { result.act ≡ act }
-        ensures shown { shown_of result ≡ self }
-    {
-        let Shown {
-            entry,
-            head,
-            payload,
-        } = self;
-        Prepared {
+        let Prepared {
             act,
             entry,
             head,
             payload,
+        } = self;
+        drop((act, (entry, payload)));
+        known_head(head)
+    }
+}
+
+impl Shown {
+    ghost use Rattle.dpoc_process.specs.LocalStates.{LocalState};
+    ghost use Rattle.dpoc_process.specs.RoleSteps.{IsPrepared, IsShown};
+    ghost use Rattle.dpoc_process.specs.Shows.{head_shown};
+
+    /// The same with the act of which it is shown.
+    pub fn with_act(self, alloc: Global, act: Act) -> Result<Prepared, Memory>
+        ensures { (s : LocalState) → IsShown s act self → IfOk result (IsPrepared s act) }
+    {
+        let Shown { entry, head, part } = self;
+        match put_message(alloc, &entry, part) {
+            Ok(payload) => Ok(Prepared {
+                act,
+                entry,
+                head: unboxed(head),
+                payload,
+            }),
+            Err(fault) => give_up((act, (entry, head)), fault),
         }
     }
 
     /// What the book sees of the scope for which the role was made ready; the rest is dropped.
     pub fn into_head(self) -> ScopeHead
-        requires { IsSome self.head }
-        ensures { self.head ≡ Some result }
+        requires { IsSome (head_shown self) }
+        ensures { head_shown self ≡ Some result }
     {
-        let Shown {
-            entry,
-            head,
-            payload,
-        } = self;
-        drop((entry, payload));
-        known_head(head)
+        let Shown { entry, head, part } = self;
+        drop((entry, part));
+        known_head(unboxed(head))
+    }
+}
+
+/// The head of a scope and the process of a message, each in a box; the rest of the message is
+/// dropped.
+fn boxed(
+    alloc: Global,
+    head: Option<ScopeHead>,
+    payload: Option<Payload>,
+) -> Result<(Option<Box<ScopeHead>>, Option<Box<Proc>>), Memory>
+    ensures head { IfOk result (λ boxes. boxed_head boxes.0 ≡ head) }
+    ensures part { IfOk result
+        (λ boxes. boxed_process boxes.1 ≡ process_in (option_map load payload)) }
+{
+    match boxed_part(alloc, payload) {
+        Ok(part) => match boxed_scope(alloc, head) {
+            Ok(head) => Ok((head, part)),
+            Err(fault) => give_up(part, fault),
+        },
+        Err(fault) => give_up(head, fault),
+    }
+}
+
+/// The head of a scope in a box, where there is one.
+fn boxed_scope(alloc: Global, head: Option<ScopeHead>) -> Result<Option<Box<ScopeHead>>, Memory>
+    ensures { IfOk result (λ boxed. boxed_head boxed ≡ head) }
+{
+    match head {
+        Some(head) => Ok(Some(new_box(alloc, head)?)),
+        None => Ok(None),
+    }
+}
+
+/// The process that a message brings, in a box; the rest of the message is dropped.
+fn boxed_part(alloc: Global, payload: Option<Payload>) -> Result<Option<Box<Proc>>, Memory>
+    ensures { IfOk result
+        (λ boxed. boxed_process boxed ≡ process_in (option_map load payload)) }
+{
+    match payload {
+        Some(payload) => match &payload {
+            Payload::Part { .. } => Ok(Some(new_box(alloc, payload.into_part())?)),
+            _ => {
+                drop(payload);
+                Ok(None)
+            }
+        },
+        None => Ok(None),
+    }
+}
+
+/// The head of a scope out of its box.
+fn unboxed(head: Option<Box<ScopeHead>>) -> Option<ScopeHead>
+    ensures { result ≡ boxed_head head }
+{
+    match head {
+        Some(head) => Some(Box::into_inner(head)),
+        None => None,
+    }
+}
+
+/// The message that an entry puts, with the process that it brings.
+fn put_message(
+    alloc: Global,
+    entry: &Option<Entry>,
+    part: Option<Box<Proc>>,
+) -> Result<Option<Payload>, Memory>
+    ensures { IfOk result (λ payload.
+        option_map load payload ≡ put_message entry.now (boxed_process part)) }
+{
+    match entry {
+        Some(Entry::Put { note, .. }) => Ok(Some(noted_message(alloc, note, part)?)),
+        _ => {
+            drop(part);
+            Ok(None)
+        }
+    }
+}
+
+/// The message that an entry notes so, with the process that it brings.
+pub fn noted_message(alloc: Global, note: &Note, part: Option<Box<Proc>>) -> Result<Payload, Memory>
+    ensures { IfOk result
+        (λ payload. load payload ≡ noted_message note.now (boxed_process part)) }
+{
+    match note {
+        Note::Val(value) => Ok(Payload::Val(value.copy(alloc)?)),
+        Note::Flag(flag) => Ok(Payload::Flag(*flag)),
+        Note::Keep => Ok(Payload::Keep),
+        Note::Part(epoch) => Ok(Payload::Part {
+            epoch: *epoch,
+            proc: known_process(part),
+        }),
+        Note::Done => Ok(Payload::Done),
+    }
+}
+
+/// The process out of its box; nothing to do where there is none.
+fn known_process(part: Option<Box<Proc>>) -> Proc
+    ensures { process result ≡ process_or_skip (boxed_process part) }
+{
+    match part {
+        Some(proc) => Box::into_inner(proc),
+        None => Proc::Skip,
     }
 }
 

@@ -84,7 +84,13 @@ impl Runs for RoleState {
 
     fn prepare_at(&mut self, alloc: Global, _number: usize, act: &Act) -> Result<Shown, Memory> {
         match self.prepare(alloc, act) {
-            Ok(prepared) => Ok(prepared.into_shown()),
+            Ok(prepared) => match prepared.into_shown(alloc) {
+                Ok(shown) => Ok(shown),
+                Err(fault) => {
+                    clear(&mut self.ready);
+                    Err(fault)
+                }
+            },
             Err(PrepareFault::NoAct) => unreachable!(),
             Err(PrepareFault::Memory) => Err(Memory),
         }

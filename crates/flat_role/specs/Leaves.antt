@@ -1,11 +1,12 @@
 -- What does an act at a place that can act.
-use Rattle.std.specs.Prelude.{◌≡◌, List, ◌∷◌, Bool, true, false}
+use Rattle.std.specs.Prelude.{◌≡◌, List, ◌∷◌, Bool, true, false, Option, Some, None}
 use Rattle.dioc_terms.specs.declared.names.Role.{Role}
 use Rattle.dioc_terms.specs.declared.processes.Key.{Key}
 use Rattle.dioc_terms.specs.declared.processes.Tag.{Tag}
 use Rattle.dioc_terms.specs.declared.processes.Tag.TheVariants as tag
 use Rattle.dioc_terms.specs.Processes.{Process, Skip, IfLead, WhileLead, WhileFollow, ScopeLead, ScopeFollow, Tell, Gather, Letters, More, Load, Flag, Keep, Done, letters}
 use Rattle.dpoc_process.specs.Acting.{is_single}
+use Rattle.dpoc_process.specs.Shows.{process_in}
 use Rattle.flat_code.specs.declared.ops.Op.{Op}
 use Rattle.flat_code.specs.declared.ops.Op.TheVariants as op
 use Rattle.flat_code.specs.Places.{op_process}
@@ -64,6 +65,11 @@ load_of (sign.Choice b) = Flag b
 load_of (sign.Go b) = Flag b
 load_of sign.Begin = Keep
 load_of s = Done
+
+-- the process that the message of a part brings
+abbrev pub process_brought : Process → Option Process
+process_brought (Tell (More k l ms)) = process_in (Some l)
+process_brought P = None
 
 -- neither a sequence nor a parallel
 abbrev pub is_single_op : Op → Bool

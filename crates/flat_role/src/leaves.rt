@@ -5,7 +5,7 @@ ghost use Rattle.dioc_terms.specs.declared.entries.Act.TheVariants as acts_of;
 ghost use Rattle.dioc_terms.specs.declared.names.Role.{Role};
 ghost use Rattle.dioc_terms.specs.declared.processes.Key.{Key};
 ghost use Rattle.dioc_terms.specs.KeptStores.{store_of};
-ghost use Rattle.dioc_terms.specs.Processes.{Process, load, noted};
+ghost use Rattle.dioc_terms.specs.Processes.{Process, noted};
 ghost use Rattle.dpoc_process.specs.Growth.{value_at, write_at};
 ghost use Rattle.dpoc_process.specs.KeptGrowth.{write_of};
 ghost use Rattle.flat_code.specs.Places.{op_process};
@@ -21,9 +21,7 @@ ghost use Rattle.role_statuses.specs.Statuses.{keys_of, leaves};
 
 use crate::marks::Mark;
 use crate::parts::{add_gathered, add_offer, add_take, add_told, does, value_of, write_of};
-use dioc_terms::{
-    Act, Index, Key, Memory, Messages, Note, Payload, Role, Roles, Store, Tag, Value,
-};
+use dioc_terms::{Act, Index, Key, Memory, Messages, Note, Role, Roles, Store, Tag, Value};
 use dpoc_process::growth::Write;
 use dpoc_process::offered::{gathers, key_of, takes, tells};
 use flat_code::{Op, Plan};
@@ -83,16 +81,6 @@ impl Sign {
             Sign::Begin => Tag::Begin,
             Sign::End => Tag::End,
             Sign::Out => Tag::Out,
-        }
-    }
-
-    pub(crate) fn payload(self) -> Payload
-        ensures { load result ≡ load_of self }
-    {
-        match self {
-            Sign::Choice(flag) | Sign::Go(flag) => Payload::Flag(flag),
-            Sign::Begin => Payload::Keep,
-            Sign::Turn | Sign::End | Sign::Out => Payload::Done,
         }
     }
 

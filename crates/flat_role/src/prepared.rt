@@ -6,20 +6,21 @@ ghost use Rattle.std.specs.Prelude.{◌≡◌, List, None, Some, IfOk, option_ma
 ghost use Rattle.dioc_terms.specs.declared.entries.Entry.TheVariants as entries;
 ghost use Rattle.dioc_terms.specs.declared.names.Role.{Role as RoleName};
 ghost use Rattle.dioc_terms.specs.declared.processes.Tag.TheVariants as tags;
-ghost use Rattle.dioc_terms.specs.Processes.{Process, Val, load, noted};
+ghost use Rattle.dioc_terms.specs.Processes.{Process, Tell, Val, letters, load, noted};
 ghost use Rattle.dpoc_process.specs.Acting.{lead_head, lead_of};
-ghost use Rattle.dpoc_process.specs.Growth.{entry_at, load_at};
+ghost use Rattle.dpoc_process.specs.Growth.{entry_at};
+ghost use Rattle.dpoc_process.specs.Shows.{boxed_head, boxed_process, process_in};
 ghost use Rattle.flat_code.specs.Places.{op_process};
-ghost use Rattle.flat_role.specs.Leaves.{IsNext, load_of, tag_of};
+ghost use Rattle.flat_role.specs.Leaves.{IsNext, load_of, process_brought, tag_of};
 ghost use Rattle.process_steps.specs.Steps.{key};
 
 use crate::leaves::{Next, Sign};
-use dioc_terms::{Entry, Index, Memory, Name, Note, Payload, Role, ScopeHead, Tag, Value};
+use dioc_terms::{
+    Entry, Index, Memory, Messages, Name, Note, Payload, Proc, Role, ScopeHead, Tag, Value, new_box,
+};
 use dpoc_process::growth::is_true;
 use dpoc_process::offered::{key_of, operation};
-use dpoc_process::prepared::{
-    gather_entry, input_entry, payload_of_tell, pick_entry, set_entry, tell_entry,
-};
+use dpoc_process::prepared::{gather_entry, input_entry, pick_entry, set_entry, tell_entry};
 use flat_code::Op;
 use std::alloc::Global;
 
@@ -144,39 +145,45 @@ pub(crate) fn entry_of_put(
     }))
 }
 
-/// What the act of what is next sends, with the value that it needs.
-pub(crate) fn payload_for(
-    alloc: Global,
-    value: Value,
-    next: Next<'_>,
-) -> Result<Option<Payload>, Memory>
+/// The process that the message of what is next brings, in a box.
+pub(crate) fn part_for(alloc: Global, next: Next<'_>) -> Result<Option<Box<Proc>>, Memory>
     ensures { (me : RoleName) (R : Process) → IsNext me next.entry R →
-        IfOk result (λ payload. option_map load payload ≡ load_at value R) }
+        IfOk result (λ part. boxed_process part ≡ process_brought R) }
 {
     match next {
-        Next::Op(op) => payload_of(alloc, value, op),
-        Next::Put { sign, .. } => Ok(Some(sign.payload())),
-        Next::Tell(messages) => payload_of_tell(alloc, &value, messages),
+        Next::Op(Op::Tell { messages }) => part_of_tell(alloc, messages),
+        Next::Tell(messages) => part_of_tell(alloc, messages),
         _ => Ok(None),
     }
 }
 
-/// What the act of an op sends, with the value that it needs.
-fn payload_of(alloc: Global, value: Value, op: &Op) -> Result<Option<Payload>, Memory>
-    ensures { IfOk result (λ payload. (done : List Process) →
-        option_map load payload ≡ load_at value (op_process done op.now)) }
+/// The process that the first of some messages brings, in a box.
+#[inline(never)]
+fn part_of_tell(alloc: Global, messages: &Messages) -> Result<Option<Box<Proc>>, Memory>
+    ensures { IfOk result
+        (λ part. boxed_process part ≡ process_brought (Tell (letters messages.now))) }
 {
-    match op {
-        Op::Send { .. } => Ok(Some(Payload::Val(value))),
-        Op::Tell { messages } => payload_of_tell(alloc, &value, messages),
+    match messages {
+        Messages::More(_, payload, _) => part_of(alloc, payload),
+        Messages::Nothing => Ok(None),
+    }
+}
+
+/// The process that a message brings, in a box.
+fn part_of(alloc: Global, payload: &Payload) -> Result<Option<Box<Proc>>, Memory>
+    ensures { IfOk result
+        (λ part. boxed_process part ≡ process_in (Some (load payload.now))) }
+{
+    match payload {
+        Payload::Part { proc, .. } => Ok(Some(new_box(alloc, proc.copy(alloc)?)?)),
         _ => Ok(None),
     }
 }
 
 /// What the book sees of the scope that what is next begins.
-pub(crate) fn head_for(alloc: Global, next: Next<'_>) -> Result<Option<ScopeHead>, Memory>
+pub(crate) fn head_for(alloc: Global, next: Next<'_>) -> Result<Option<Box<ScopeHead>>, Memory>
     ensures { (me : RoleName) (R : Process) → IsNext me next.entry R →
-        IfOk result (λ head. head ≡ option_map lead_head (lead_of R)) }
+        IfOk result (λ head. boxed_head head ≡ option_map lead_head (lead_of R)) }
 {
     match next {
         Next::Op(op) => head_of(alloc, op),
@@ -185,9 +192,9 @@ pub(crate) fn head_for(alloc: Global, next: Next<'_>) -> Result<Option<ScopeHead
 }
 
 /// What the book sees of the scope that an op begins.
-fn head_of(alloc: Global, op: &Op) -> Result<Option<ScopeHead>, Memory>
+fn head_of(alloc: Global, op: &Op) -> Result<Option<Box<ScopeHead>>, Memory>
     ensures { IfOk result (λ head. (done : List Process) →
-        head ≡ option_map lead_head (lead_of (op_process done op.now))) }
+        boxed_head head ≡ option_map lead_head (lead_of (op_process done op.now))) }
 {
     match op {
         Op::ScopeLead { head, .. } => copy_of_head(alloc, head),
@@ -197,8 +204,8 @@ fn head_of(alloc: Global, op: &Op) -> Result<Option<ScopeHead>, Memory>
 
 /// (Apart, since no other op is to make room for it.)
 #[inline(never)]
-fn copy_of_head(alloc: Global, head: &ScopeHead) -> Result<Option<ScopeHead>, Memory>
-    ensures { IfOk result (λ copy. copy ≡ Some head.now) }
+fn copy_of_head(alloc: Global, head: &ScopeHead) -> Result<Option<Box<ScopeHead>>, Memory>
+    ensures { IfOk result (λ copy. boxed_head copy ≡ Some head.now) }
 {
-    Ok(Some(head.copy(alloc)?))
+    Ok(Some(new_box(alloc, head.copy(alloc)?)?))
 }

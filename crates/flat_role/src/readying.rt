@@ -1,9 +1,9 @@
 //! What is made ready of an act before it is done.
 
-ghost use Rattle.std.specs.Prelude.{◌≡◌, ◌<◌, true, IfOk, OnErr, OnOk, get_or, length};
+ghost use Rattle.std.specs.Prelude.{◌≡◌, ◌<◌, true, None, IfOk, OnErr, OnOk, get_or, length};
 ghost use Rattle.dioc_terms.specs.KeptStores.{store_of, room};
 ghost use Rattle.dpoc_process.specs.RoleLaws.{local};
-ghost use Rattle.dpoc_process.specs.RoleSteps.{IsShown};
+ghost use Rattle.dpoc_process.specs.RoleSteps.{IsPrepared, IsShown};
 ghost use Rattle.flat_role.specs.Leaves.{is_leaf};
 ghost use Rattle.flat_role.specs.PlanMarks.{mark_in, plan_len, plan_marks, static_at};
 ghost use Rattle.flat_role.specs.Progress.{AreOf, IsFound, IsProgress, runs_by};
@@ -15,9 +15,9 @@ use crate::leaves::{Next, next_at};
 use crate::marks::Mark;
 use crate::progress::Progress;
 use crate::showing::show;
-use crate::steps::{Chosen, Own};
-use dioc_terms::{Act, Memory, Role, Store};
-use dpoc_process::Shown;
+use crate::steps::{Chosen, Own, clear};
+use dioc_terms::{Act, Memory, Role, Store, give_up};
+use dpoc_process::{Prepared, Shown};
 use flat_code::Plan;
 use std::alloc::Global;
 use std::snapshot::Snapshot;
@@ -125,4 +125,44 @@ pub(crate) fn prepare_found(
     make_ready(alloc, me, plan, progress, found)?;
     let next = next_of(me, plan, progress, found.0);
     show(alloc, me, next, store, ready)
+}
+
+/// Makes it ready as `prepare_found` does, and gives what is shown with a copy of the act. After an
+/// error nothing is kept.
+pub(crate) fn prepare_whole(
+    alloc: Global,
+    me: &Role,
+    plan: &Plan,
+    progress: &mut Progress,
+    store: &mut Store,
+    ready: &mut Option<Own>,
+    found: (&Act, usize),
+) -> Result<Prepared, Memory>
+    requires progress { IsProgress me.now plan.now progress.old }
+    requires found { IsFound me.now plan.now progress.old found.0.now found.1
+        (get_or progress.old.active.items found.1 0) }
+    requires unready { ready.old ≡ None }
+    ensures progress { IsProgress me.now plan.now progress.new }
+    ensures same { runs_by me.now plan.now progress.new ≡ runs_by me.now plan.now progress.old }
+    ensures same_store { store_of store.new ≡ store_of store.old }
+    ensures has_room { OnOk result (0 < room store.new) }
+    ensures chosen { OnOk result (IsChosenFor me.now plan.now progress.new found.entry.0.now
+        progress.new.chosen) }
+    ensures ready { OnOk result (IsKeptReady me.now plan.now progress.new (store_of store.new)
+        found.entry.0.now ready.new) }
+    ensures shown { IfOk result (IsPrepared (local me.now (runs_by me.now plan.now progress.old)
+        (store_of store.old)) found.entry.0.now) }
+    ensures unready { OnErr result (ready.new ≡ None) }
+{
+    let own = found.0.copy(alloc)?;
+    match prepare_found(alloc, me, plan, progress, store, ready, found) {
+        Ok(shown) => match shown.with_act(alloc, own) {
+            Ok(prepared) => Ok(prepared),
+            Err(fault) => {
+                clear(ready);
+                Err(fault)
+            }
+        },
+        Err(fault) => give_up(own, fault),
+    }
 }

@@ -3,13 +3,14 @@
 //! Most acts put or take an auxiliary message: they need nothing of the store and write nothing. So
 //! they have functions of their own, which make no room for what the others need.
 
-ghost use Rattle.std.specs.Prelude.{◌≡◌, ◌<◌, Bool, None, Some, IfOk, OnErr, OnOk, option_map};
+ghost use Rattle.std.specs.Prelude.{◌≡◌, ◌<◌, Bool, None, Some, IfOk, OnErr, OnOk};
 ghost use Rattle.dioc_terms.specs.declared.entries.Act.{Act as OneAct};
 ghost use Rattle.dioc_terms.specs.declared.entries.Entry.TheVariants as entries;
 ghost use Rattle.dioc_terms.specs.KeptStores.{store_of, room};
-ghost use Rattle.dioc_terms.specs.Processes.{Process, load, noted};
+ghost use Rattle.dioc_terms.specs.Processes.{Process, noted};
 ghost use Rattle.dioc_terms.specs.Stores.{Store as Spec};
 ghost use Rattle.dpoc_process.specs.Growth.{value_at};
+ghost use Rattle.dpoc_process.specs.Shows.{message_shown};
 ghost use Rattle.flat_role.specs.Leaves.{IsNext, is_first, load_of, tag_of};
 ghost use Rattle.flat_role.specs.ReadySteps.{IsIdle, IsKeptOwn, IsNextOf, IsOwn, IsShownBy};
 ghost use Rattle.flat_role.specs.Replacing.{IsRoomWhen};
@@ -17,7 +18,7 @@ ghost use Rattle.process_steps.specs.Steps.{key};
 
 use crate::leaves::{Next, Sign, value_for, write_for};
 use crate::making_room::room_for;
-use crate::prepared::{entry_for, entry_of_put, entry_of_take, head_for, payload_for};
+use crate::prepared::{entry_for, entry_of_put, entry_of_take, head_for, part_for};
 use crate::steps::Own;
 use dioc_terms::{Index, Memory, Role, Store, Tag, Value, give_up};
 use dpoc_process::Shown;
@@ -68,8 +69,7 @@ fn show_put(
     ensures entry { IfOk result (λ shown. shown.entry ≡ Some (entries.Put
         (key me.now to.now index (tag_of sign)) (noted (load_of sign)))) }
     ensures head { IfOk result (λ shown. shown.head ≡ None) }
-    ensures payload { IfOk result
-        (λ shown. option_map load shown.payload ≡ Some (load_of sign)) }
+    ensures message { IfOk result (λ shown. message_shown shown ≡ Some (load_of sign)) }
     ensures own { OnOk result (IsIdle ready.new) }
     ensures kept { OnErr result (ready.new ≡ ready.old) }
 {
@@ -78,7 +78,7 @@ fn show_put(
     Ok(Shown {
         entry,
         head: None,
-        payload: Some(sign.payload()),
+        part: None,
     })
 }
 
@@ -94,7 +94,6 @@ fn show_take(
     ensures entry { IfOk result (λ shown. shown.entry
         ≡ Some (entries.Take (key from.now me.now index tag) None)) }
     ensures head { IfOk result (λ shown. shown.head ≡ None) }
-    ensures payload { IfOk result (λ shown. shown.payload ≡ None) }
     ensures own { OnOk result (IsIdle ready.new) }
     ensures kept { OnErr result (ready.new ≡ ready.old) }
 {
@@ -103,7 +102,7 @@ fn show_take(
     Ok(Shown {
         entry,
         head: None,
-        payload: None,
+        part: None,
     })
 }
 
@@ -137,14 +136,10 @@ fn show_other(
     let value = value_for(alloc, store, next)?;
     let own = own_for(alloc, me, &value, next)?;
     let entry = entry_for(alloc, me, &value, next)?;
-    let payload = payload_for(alloc, value, next)?;
+    let part = part_for(alloc, next)?;
     let head = head_for(alloc, next)?;
     *ready = Some(own);
-    Ok(Shown {
-        entry,
-        head,
-        payload,
-    })
+    Ok(Shown { entry, head, part })
 }
 
 /// What is made ready of what is next, with the value that it needs.

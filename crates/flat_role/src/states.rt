@@ -12,7 +12,7 @@ use crate::advancing::advance;
 use crate::filling::fill_acts;
 use crate::numbered::find_at;
 use crate::progress::Progress;
-use crate::readying::prepare_found;
+use crate::readying::{prepare_found, prepare_whole};
 use crate::relisting::refresh_acts;
 use crate::steps::{Own, clear};
 use crate::updates::count_ops;
@@ -112,8 +112,7 @@ impl Runs for FlatRole {
         let Some(at) = self.progress.find(&self.role, &self.plan, act) else {
             return Err(PrepareFault::NoAct);
         };
-        let own = act.copy(alloc)?;
-        match prepare_found(
+        match prepare_whole(
             alloc,
             &self.role,
             &self.plan,
@@ -122,11 +121,8 @@ impl Runs for FlatRole {
             &mut self.ready,
             (act, at),
         ) {
-            Ok(shown) => Ok(shown.with_act(own)),
-            Err(_) => {
-                drop(own);
-                Err(PrepareFault::Memory)
-            }
+            Ok(prepared) => Ok(prepared),
+            Err(_) => Err(PrepareFault::Memory),
         }
     }
 

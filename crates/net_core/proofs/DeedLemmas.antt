@@ -10,11 +10,10 @@ use Rattle.dioc_terms.specs.Rules.{Book}
 use Rattle.dioc_terms.specs.Stores.{Store}
 use Rattle.dioc_terms.specs.Attempts.{Attempt, Stuck, Does}
 use Rattle.dioc_terms.specs.Messages.{act_of}
-use Rattle.std.specs.Prelude.{option_map}
-use Rattle.dioc_terms.specs.declared.processes.Payload.{Payload}
-use Rattle.dioc_terms.specs.Processes.{Process, Load, load}
+use Rattle.dioc_terms.specs.Processes.{Process, Load}
 use Rattle.dpoc_process.specs.declared.runs.Shown.{Shown}
 use Rattle.dpoc_process.specs.RoleSteps.{entry_before, sent, IsShown, IsStep}
+use Rattle.dpoc_process.specs.Shows.{message_shown}
 use Rattle.dpoc_process.specs.LocalStates.{LocalState, step_at}
 use Rattle.global_steps.specs.Follow.{updates_after}
 use Rattle.process_steps.specs.Laws.{is_done, StepsShowTheirActs}
@@ -79,8 +78,8 @@ pub scope_there : (a : Act) (mail : Mail) → asks_scope a ≡ true → is_there
 scope_there (act.Scope i) mail h = refl
 scope_there _ mail h = cc
 
-sends_of_put : (payload : Option Payload) (d : Deed) (k : Key) → option_map load payload ≡ sent d → act_of (entry_of d) ≡ Some (act.Put k) → IsSome payload
-sends_of_put (Some p) d k same is = refl
+sends_of_put : (message : Option Load) (d : Deed) (k : Key) → message ≡ sent d → act_of (entry_of d) ≡ Some (act.Put k) → IsSome message
+sends_of_put (Some l) d k same is = refl
 sends_of_put None (Puts j l) k same is = absurd (none_some same)
 sends_of_put None (Takes j x l) k same is = cc
 sends_of_put None (Sets i r x v) k same is = cc
@@ -88,21 +87,20 @@ sends_of_put None (Inputs i r x v) k same is = cc
 sends_of_put None (Picks i r b) k same is = cc
 sends_of_put None (Chooses i r c) k same is = cc
 
--- an act that puts under a key is the put of it
-pub put_of : (a : Act) (k : Key) → put_key a ≡ Some k → a ≡ act.Put k
-put_of (act.Put j) k is = ap act.Put (some_same is)
-put_of (act.Take j) k is = absurd (none_some is)
-put_of (act.Set i) k is = absurd (none_some is)
-put_of (act.Input i) k is = absurd (none_some is)
-put_of (act.Pick i) k is = absurd (none_some is)
-put_of (act.Scope i) k is = absurd (none_some is)
-
 -- an act that isn't a take leaves the mail as it is
 pub leaves_mail : (a : Act) (mail : Mail) → is_take a ≡ false → TakenBy a mail mail
 leaves_mail a mail other = record { at = λ k. kept a k (payload_at k mail) other }
   where
     kept : (a : Act) (k : Key) (before : Option Load) → is_take a ≡ false → before ≡ taken_with a k before
     kept (act.Take j) k before other = cc
+    kept _ k before other = refl
+
+-- and so does one that isn't a put
+pub puts_none : (a : Act) (sends : Option Load) (mail : Mail) → put_key a ≡ None → PutBy a sends mail mail
+puts_none a sends mail other = record { at = λ k. kept a k (payload_at k mail) other }
+  where
+    kept : (a : Act) (k : Key) (before : Option Load) → put_key a ≡ None → before ≡ put_with a sends k before
+    kept (act.Put j) k before other = cc
     kept _ k before other = refl
 
 module _ (shows : StepsShowTheirActs) (s : LocalState) (a : Act) (p : Shown) (prepared : IsShown s a p) where
@@ -116,14 +114,14 @@ module _ (shows : StepsShowTheirActs) (s : LocalState) (a : Act) (p : Shown) (pr
       ap is_some (prepared.entry given did.0 did.1 did.2 ∙ entry_known did.0 a (act_shown given did.0 did.1 did.2) plain)
 
   -- what is put has a message
-  pub put_sends : (given : Given) → is_done (step_at s a given) ≡ true → (k : Key) → a ≡ act.Put k → IsSome p.payload
+  pub put_sends : (given : Given) → is_done (step_at s a given) ≡ true → (k : Key) → a ≡ act.Put k → IsSome (message_shown p)
   put_sends given can k same =
       let did = deed_there (step_at s a given) can in
-      sends_of_put p.payload did.0 k (prepared.payload given did.0 did.1 did.2) (act_shown given did.0 did.1 did.2 ∙ ap Some same)
+      sends_of_put (message_shown p) did.0 k (prepared.message given did.0 did.1 did.2) (act_shown given did.0 did.1 did.2 ∙ ap Some same)
 
   -- a role that made its step, with what was shown of it before, did the act
   pub committed : (given : Given) → asks_scope a ≡ false → (s' : LocalState) → IsStep s a given s' → (e : Entry) → p.entry ≡ Some e
-      → (old mid new : Mail) → TakenBy a old mid → PutBy a (option_map load p.payload) mid new
+      → (old mid new : Mail) → TakenBy a old mid → PutBy a (message_shown p) mid new
       → (H H' : List Entry) → H' ≡ H ++ e ∷ [] → (count : ℕ) → IsDone a given s old count H s' new count H'
   committed given plain s' stepped e entry old mid new taken put H H' pushed count =
       let shown = act_shown given stepped.deed stepped.left stepped.does in
@@ -134,7 +132,7 @@ module _ (shows : StepsShowTheirActs) (s : LocalState) (a : Act) (p : Shown) (pr
         left = stepped.left;
         does = stepped.does;
         becomes = stepped.becomes;
-        mail = mail_changed stepped.deed a (option_map load p.payload) old mid new shown (prepared.payload given stepped.deed stepped.left stepped.does) taken put;
+        mail = mail_changed stepped.deed a (message_shown p) old mid new shown (prepared.message given stepped.deed stepped.left stepped.does) taken put;
         updates = no_update stepped.deed a count shown plain;
         entries = pushed ∙ ap (λ x. H ++ x ∷ []) entry_is;
       }

@@ -14,11 +14,13 @@ ghost use Rattle.dioc_terms.specs.Processes.{load};
 ghost use Rattle.dpoc_process.specs.Acting.{Lead};
 ghost use Rattle.dpoc_process.specs.Handed.{handed, given_like, StandsFor};
 ghost use Rattle.dpoc_process.specs.RoleSteps.{IsShown};
+ghost use Rattle.dpoc_process.specs.Shows.{boxed_process, put_message};
 ghost use Rattle.dpoc_process.specs.LocalStates.{LocalState, offered, step_at};
 ghost use Rattle.process_steps.specs.Laws.{is_done};
 ghost use Rattle.process_steps.specs.Steps.{Alone, ended, is_offered};
+ghost use Rattle.role_mailbox.specs.declared.mail.Mail.{Mail as OneMail};
 ghost use Rattle.role_mailbox.specs.Pending.{messages, payload_at, room};
-ghost use Rattle.net_core.specs.Acts.{given_from_mail, is_take, put_key, CanStep, IsNumberedIf, TakenBy, PutBy};
+ghost use Rattle.net_core.specs.Acts.{given_from_mail, is_take, put_key, CanStep, IsNumberedIf};
 ghost use Rattle.net_core.specs.Deeds.{given_to, asks_scope, is_there, ActDone, DoneAt, IsDone, RefusedFor, RoleDid};
 ghost use Rattle.net_core.specs.Faults.{ReadyFault};
 ghost use Rattle.net_core.specs.KeptParts.{body_seen};
@@ -27,8 +29,8 @@ ghost use Rattle.net_core.specs.Standing.{body_of};
 ghost use Rattle.rule_book.specs.KeptBooks.{book_of, IsBookOf};
 
 use crate::scopes::{Fixed, begin_scope};
-use dioc_terms::{Act, Key, Memory, Payload, Role};
-use dpoc_process::{Got, PrepareFault, Runs, Shown};
+use dioc_terms::{Act, Entry, Key, Memory, Payload, Proc, Role, give_up};
+use dpoc_process::{Got, PrepareFault, Runs, Shown, noted_message};
 use network_steps::StepFault;
 use role_mailbox::Mail;
 use std::alloc::Global;
@@ -82,30 +84,6 @@ pub(crate) fn is_there(mail: &Mail, act: &Act) -> bool
     }
 }
 
-/// The key of the message that an act puts.
-fn put_key(alloc: Global, act: &Act) -> Result<Option<Key>, Memory>
-    ensures { IfOk result (λ key. key ≡ put_key act.now) }
-{
-    match act {
-        Act::Put(key) => Ok(Some(key.copy(alloc)?)),
-        _ => Ok(None),
-    }
-}
-
-/// Puts a message under a key into the mail, where there is one.
-fn put_out(mail: &mut Mail, key: Option<Key>, payload: Option<Payload>)
-    requires has_room { 0 < room mail.old }
-    requires free { (k : OneKey) → key ≡ Some k → payload_at k mail.old ≡ None }
-    requires sent { (k : OneKey) → key ≡ Some k → IsSome payload }
-    ensures { (act : OneAct) → key ≡ put_key act → PutBy act (option_map load payload) mail.old
-        mail.new }
-{
-    match key {
-        Some(key) => mail.put(key, payload.unwrap()),
-        None => drop(payload),
-    }
-}
-
 /// The step of a role that is ready for a take, and whether it was made: it isn't exactly where the
 /// message isn't there, and then all is as it was. It takes no memory.
 pub(crate) fn commit_take<R: Runs>(
@@ -135,49 +113,81 @@ pub(crate) fn commit_take<R: Runs>(
         drop(shown);
         return false;
     };
-    let Shown {
-        entry,
-        head,
-        payload,
-    } = shown;
-    drop((head, payload));
+    let Shown { entry, head, part } = shown;
+    drop((head, part));
     history.push(entry.unwrap());
     state.advance(act, Got::Payload(came));
     true
 }
 
-/// The step of a role that is ready for an act that is neither a take nor a scope's. It takes no
-/// memory.
-pub(crate) fn commit<R: Runs>(
+/// The step of a role that is ready for a put, with the memory for the message taken first. After a
+/// refusal nothing is changed.
+fn commit_put<R: Runs>(
+    alloc: Global,
     state: &mut R,
     mail: &mut Mail,
     history: &mut History,
     act: &Act,
+    key: Key,
     shown: Shown,
-    key: Option<Key>,
-)
+) -> Result<(), Memory>
     requires ready { R.is_ready state.old act.now }
     requires shown { IsShown (R.local state.old) act.now shown }
-    requires key { key ≡ put_key act.now }
-    requires plain { asks_scope act.now ≡ false }
-    requires other { is_take act.now ≡ false }
+    requires put { act.now ≡ acts.Put key }
     requires can { is_done (step_at (R.local state.old) act.now Alone) ≡ true }
-    requires free { (k : OneKey) → put_key act.now ≡ Some k → payload_at k mail.old ≡ None }
+    requires free { payload_at key mail.old ≡ None }
     requires mail_room { 0 < room mail.old }
     requires history_room { 0 < history.old.room }
-    ensures done { (count : ℕ) → IsDone act.now Alone (R.local state.old) mail.old
-        count history.old.entries (R.local state.new) mail.new count history.new.entries }
+    ensures done { OnOk result ((count : ℕ) → IsDone act.now Alone (R.local state.old) mail.old
+        count history.old.entries (R.local state.new) mail.new count history.new.entries) }
+    ensures same_local { OnErr result (R.local state.new ≡ R.local state.old) }
+    ensures same_mail { OnErr result (messages mail.new ≡ messages mail.old) }
+    ensures same_history { OnErr result (history.new ≡ history.old) }
 {
     process_steps::steps_show_their_acts();
-    let Shown {
-        entry,
-        head,
-        payload,
-    } = shown;
+    let Shown { entry, head, part } = shown;
     drop(head);
+    let entry = entry.unwrap();
+    match message_of(alloc, &entry, part) {
+        Ok(payload) => {
+            history.push(entry);
+            state.advance(act, Got::Nothing);
+            mail.put(key, payload);
+            Ok(())
+        }
+        Err(fault) => give_up((entry, key), fault),
+    }
+}
+
+/// The message that an entry puts, with the process that it brings.
+fn message_of(alloc: Global, entry: &Entry, part: Option<Box<Proc>>) -> Result<Payload, Memory>
+    requires { IsSome (put_message (Some entry.now) (boxed_process part)) }
+    ensures { IfOk result (λ payload. put_message (Some entry.now) (boxed_process part)
+        ≡ Some (load payload)) }
+{
+    match entry {
+        Entry::Put { note, .. } => noted_message(alloc, note, part),
+        _ => unreachable!(),
+    }
+}
+
+/// The step of a role that is ready for what it does alone. It takes no memory.
+fn commit_alone<R: Runs>(state: &mut R, history: &mut History, act: &Act, shown: Shown)
+    requires ready { R.is_ready state.old act.now }
+    requires shown { IsShown (R.local state.old) act.now shown }
+    requires plain { asks_scope act.now ≡ false }
+    requires no_put { put_key act.now ≡ None }
+    requires no_take { is_take act.now ≡ false }
+    requires can { is_done (step_at (R.local state.old) act.now Alone) ≡ true }
+    requires history_room { 0 < history.old.room }
+    ensures done { (mail : OneMail) (count : ℕ) → IsDone act.now Alone (R.local state.old) mail
+        count history.old.entries (R.local state.new) mail count history.new.entries }
+{
+    process_steps::steps_show_their_acts();
+    let Shown { entry, head, part } = shown;
+    drop((head, part));
     history.push(entry.unwrap());
     state.advance(act, Got::Nothing);
-    put_out(mail, key, payload);
 }
 
 /// An act that a role is asked to do, and its number among those that the role offers, where the
@@ -226,10 +236,10 @@ fn do_act<R: Runs>(
             Err(_) => Err(StepFault::Memory),
         },
         None => match state.prepare(fixed.alloc, act) {
-            Ok(prepared) => {
-                let shown = prepared.into_shown();
-                finish(fixed, state, mail, updates, history, act, shown)
-            }
+            Ok(prepared) => match prepared.into_shown(fixed.alloc) {
+                Ok(shown) => finish(fixed, state, mail, updates, history, act, shown),
+                Err(_) => Err(StepFault::Memory),
+            },
             Err(PrepareFault::NoAct) => Err(StepFault::NoAct),
             Err(PrepareFault::Memory) => Err(StepFault::Memory),
         },
@@ -280,12 +290,18 @@ fn finish<R: Runs>(
                 Err(StepFault::NotYet)
             }
         }
-        _ => {
-            let Ok(key) = put_key(fixed.alloc, act) else {
+        Act::Put(key) => {
+            let Ok(key) = key.copy(fixed.alloc) else {
                 drop(shown);
                 return Err(StepFault::Memory);
             };
-            commit(state, mail, history, act, shown, key);
+            match commit_put(fixed.alloc, state, mail, history, act, key, shown) {
+                Ok(()) => Ok(()),
+                Err(_) => Err(StepFault::Memory),
+            }
+        }
+        _ => {
+            commit_alone(state, history, act, shown);
             Ok(())
         }
     }

@@ -1,12 +1,14 @@
 -- What is next stands for the part that acts, so what is made ready and shown of it is that of the
 -- part.
-use Rattle.std.proofs.Common.{◌≡◌, Bool, refl, subst}
+use Rattle.std.proofs.Common.{◌≡◌, Bool, refl, ap₂, ◌∙◌, subst}
 use Rattle.dioc_terms.specs.declared.values.Value.{Value}
 use Rattle.dioc_terms.specs.KeptStores.{store_of}
 use Rattle.dpoc_process.specs.Growth.{value_at}
 use Rattle.dpoc_process.specs.declared.runs.Shown.{Shown}
 use Rattle.dpoc_process.specs.KeptReady.{IsShownFor}
+use Rattle.dpoc_process.specs.Shows.{put_message}
 use Rattle.flat_role.specs.Replacing.{IsRoomWhen}
+use Rattle.flat_role.proofs.ShowLemmas.{entry-shows}
 use Rattle.flat_role.proofs.showing.show_other.Goals as goal
 
 pub returns-clause-own : goal.returns-clause-own
@@ -35,7 +37,7 @@ returns-clause-shown c = λ a P fresh is.
     let shown : Shown = record {
       entry = c.in_ok-entry.entry;
       head = c.in_ok-head.head;
-      payload = c.in_ok-payload.payload;
+      part = c.in_ok-part.part;
     } in
     record {
       part = is.part;
@@ -43,6 +45,8 @@ returns-clause-shown c = λ a P fresh is.
       shown = subst (λ (v : Value). IsShownFor me v is.part shown) value record {
         head = c.in_ok-head.ensures me is.part is.stands;
         entry = c.in_ok-entry.ensures is.part is.stands;
-        payload = c.in_ok-payload.ensures me is.part is.stands;
+        message = ap₂ put_message (c.in_ok-entry.ensures is.part is.stands)
+            (c.in_ok-part.ensures me is.part is.stands)
+            ∙ entry-shows me c.in_ok-value.value is.part;
       };
     }

@@ -1,8 +1,8 @@
 -- What the role did with the message that came is the step that was prepared.
 use Rattle.std.proofs.Common.{◌≡◌, sym, ap, ◌∙◌}
-use Rattle.std.specs.Prelude.{option_map}
 use Rattle.dioc_terms.specs.declared.entries.Act.{Act}
 use Rattle.dioc_terms.specs.Processes.{load}
+use Rattle.dpoc_process.specs.Shows.{message_shown}
 use Rattle.process_steps.specs.Steps.{Got}
 use Rattle.role_mailbox.specs.Pending.{payload_at}
 use Rattle.net_core.proofs.DeedLemmas.{committed}
@@ -18,7 +18,7 @@ returns-clause-done g c = λ done count.
     let old = c.args.mail.now in
     let new = c.take.new.self in
     let given = given_from_mail a old in
-    let sends = option_map load c.args.shown.payload in
+    let sends = message_shown c.args.shown in
     let came : given ≡ Got (load c.in-Some.came) =
     ap (λ (x : Act). given_from_mail x old) c.requires.take ∙ ap message_given (sym c.in-Some.ensures.payload) in
     let taken : TakenBy a old new = record {

@@ -1,13 +1,7 @@
 -- A place that offers the act is found exactly where the process offers it. What is made ready
 -- there leaves the process as it is.
-use Rattle.std.proofs.Common.{◌≡◌, Result, Ok, Err, true, false, get_or, refl, sym, ◌∙◌, subst}
-use Rattle.std.specs.Prelude.{IsErrAnd, IsErrOf}
-use Rattle.dpoc_process.proofs.StateLemmas.{shown-prepares}
-use Rattle.dpoc_process.specs.RoleSteps.{IsShown}
-use Rattle.dpoc_process.specs.declared.runs.PrepareFault.{PrepareFault}
-use Rattle.dpoc_process.specs.declared.runs.PrepareFault.TheVariants as faults
+use Rattle.std.proofs.Common.{◌≡◌, true, false, get_or, refl, sym, ◌∙◌}
 use Rattle.flat_code.specs.Codes.{process_of}
-use Rattle.flat_role.specs.FlatStates.{local_of}
 use Rattle.flat_role.specs.Progress.{marks_by, runs_by}
 use Rattle.flat_role.proofs.FlatLemmas.{is-progress}
 use Rattle.flat_role.proofs.FoundLemmas.{found-offered}
@@ -18,16 +12,16 @@ use Rattle.flat_role.proofs.states.FlatRoleRuns.prepare.Goals as goal
 pub find-requires : goal.find-requires
 find-requires c = is-progress c.args.self.now
 
-pub prepare_found-requires-clause-progress : goal.prepare_found-requires-clause-progress
-prepare_found-requires-clause-progress c = is-progress c.args.self.now
+pub prepare_whole-requires-clause-progress : goal.prepare_whole-requires-clause-progress
+prepare_whole-requires-clause-progress c = is-progress c.args.self.now
 
 pub invariant_of-self-2 : goal.invariant_of-self-2
 invariant_of-self-2 c =
     let flat = c.args.self.now in
-    let is = c.prepare_found.ensures.progress in
+    let is = c.prepare_whole.ensures.progress in
     record {
       as_long = is.as_long;
-      kept = kept-is_tested.said flat.role (marks_by flat.role flat.plan c.prepare_found.new.progress)
+      kept = kept-is_tested.said flat.role (marks_by flat.role flat.plan c.prepare_whole.new.progress)
           (process_of flat.plan.code) is.kept;
       listed = is.listed;
       room = is.room;
@@ -38,24 +32,6 @@ invariant_of-self-2 c =
 not_both : true ≡ false → ⊥
 not_both e = cc
 
--- where memory is what it fails for, the act isn't missing
-never_memory : {T : Type 0} (r : Result T PrepareFault)
-    → IsErrAnd r (λ fault. fault ≡ faults.Memory) → IsErrOf r faults.NoAct → ⊥
-never_memory (Ok x) memory missing = absurd memory
-never_memory (Err e) memory missing = cc
-
-pub returns-in_err-own-clause-no_act : goal.returns-in_err-own-clause-no_act
-returns-in_err-own-clause-no_act c =
-    let flat = c.args.self.now in
-    let a = c.args.act.now in
-    let offered : is_offered a (offers flat.role (runs_by flat.role flat.plan flat.progress)) ≡ true =
-    found-offered flat.role flat.plan flat.progress (is-progress flat) a c.in-Some.at
-    (get_or flat.progress.active.items c.in-Some.at 0)
-    (c.in-Some.ensures.found c.in-Some.at refl) in (
-      λ fault. absurd (never_memory c.from_residual.result c.from_residual.ensures.1 fault),
-      λ none. absurd (not_both (sym offered ∙ none)),
-    )
-
 pub returns-in-Err-clause-no_act : goal.returns-in-Err-clause-no_act
 returns-in-Err-clause-no_act c =
     let flat = c.args.self.now in
@@ -64,10 +40,3 @@ returns-in-Err-clause-no_act c =
     found-offered flat.role flat.plan flat.progress (is-progress flat) a c.in-Some.at
     (get_or flat.progress.active.items c.in-Some.at 0)
     (c.in-Some.ensures.found c.in-Some.at refl) in (λ fault. cc, λ none. absurd (not_both (sym offered ∙ none)))
-
-pub returns-in-Ok-clause-shown : goal.returns-in-Ok-clause-shown
-returns-in-Ok-clause-shown c =
-    let s = local_of c.args.self.now in
-    let a = c.args.act.now in
-    shown-prepares s a c.with_act.result (c.with_act.ensures.act ∙ c.in_ok-own.ensures)
-    (subst (IsShown s a) (sym c.with_act.ensures.shown) c.in-Ok.ensures.shown)
