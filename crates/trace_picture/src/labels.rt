@@ -1,11 +1,14 @@
 //! What a picture says of an entry.
 
-ghost use Rattle.std.specs.Prelude.{◌≡◌, ◌++◌, codes, OnOk, OnErr};
+ghost use Rattle.std.specs.Prelude.{◌≡◌, ◌++◌, codes, IfOk, OnOk, OnErr};
 ghost use Rattle.text_pieces.specs.Pieces.{KeepsFront};
 ghost use Rattle.trace_text.specs.Lines.{value_text, tag_text, note_text};
 ghost use Rattle.trace_picture.specs.Labels.{ended_text, kept_text, label};
+ghost use Rattle.trace_picture.specs.Runs.{shortened};
 
+use crate::runs::write_shortened;
 use dioc_terms::{Entry, Last, Memory, Name, Note, Tag, Value};
+use std::alloc::Global;
 use text_pieces::{Minus, write_bytes, write_truth, write_value};
 use trace_text::{write_choice, write_index, write_last, write_note, write_tag};
 
@@ -42,6 +45,17 @@ pub fn write_label(entry: &Entry, out: &mut Vec<u8>) -> Result<(), Memory>
         Entry::Drop { name } => write_named(b"drop ", name, out),
         Entry::Env { key, value } => write_binding(b"env ", key, value, out),
     }
+}
+
+/// The label of an entry, cut to so many bytes, or to 3 where they are fewer.
+pub fn short_label(alloc: Global, entry: &Entry, most: usize) -> Result<Vec<u8>, Memory>
+    ensures { IfOk result (λ shown. shown.items ≡ shortened most (label entry.now)) }
+{
+    let mut whole = Vec::new(alloc);
+    write_label(entry, &mut whole)?;
+    let mut shown = Vec::new(alloc);
+    write_shortened(&whole, most, &mut shown)?;
+    Ok(shown)
 }
 
 fn write_named(word: &[u8], name: &Name, out: &mut Vec<u8>) -> Result<(), Memory>

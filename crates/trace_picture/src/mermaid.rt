@@ -6,8 +6,7 @@ ghost use Rattle.text_pieces.specs.Pieces.{KeepsFront};
 ghost use Rattle.trace_picture.specs.Runs.{pieces_from};
 ghost use Rattle.trace_picture.specs.Mermaid.{is_quiet, mermaid_byte, mermaid_words, participant, participants, across, arrow_front, over_front, mermaid_front, mermaid_entry, mermaid_last, title_text, mermaid_head, mermaid_picture};
 
-use crate::labels::{write_label, write_last_line};
-use crate::runs::write_shortened;
+use crate::labels::{short_label, write_last_line};
 use crate::scene::Scene;
 use crate::shapes::{Shape, shape_of};
 use dioc_terms::{Entry, Last, Memory, Role};
@@ -152,10 +151,7 @@ fn write_entry(
     ensures ok { OnOk result (out.new.items ≡ out.old.items ++ mermaid_entry lanes.now entry.now) }
     ensures memory { OnErr result (KeepsFront out.old.items out.new.items) }
 {
-    let mut label = Vec::new(alloc);
-    write_label(entry, &mut label)?;
-    let mut shown = Vec::new(alloc);
-    write_shortened(&label, MOST_MERMAID, &mut shown)?;
+    let shown = short_label(alloc, entry, MOST_MERMAID)?;
     write_front(lanes.len(), shape_of(lanes, entry), out)?;
     write_mermaid_words(&shown, out)?;
     write_bytes(b"\n", out)

@@ -5,24 +5,33 @@ ghost use Rattle.limits.specs.Limits.{most_roles};
 ghost use Rattle.text_pieces.specs.Pieces.{KeepsFront};
 ghost use Rattle.trace_picture.specs.Runs.{pieces_from};
 ghost use Rattle.trace_picture.specs.Shapes.{IsWithin};
-ghost use Rattle.trace_picture.specs.Svg.{most_columns, longest_label, columns_of, half_gap, lane_x, before_x, width, row_y, sign_class, shape_class, entry_class, stands_back, message_line, drawing, group_front, svg_entry, svg_entries, name_box, svg_lane, svg_head, svg_last, svg_tail, svg_picture};
+ghost use Rattle.trace_picture.specs.Svg.{most_columns, longest_label, columns_of, half_gap, lane_x, before_x, width, row_y, sign_class, shape_class, entry_class, stands_back, message_line, drawing, group_front, svg_entry, svg_entries, name_box, svg_head, svg_last, svg_tail, svg_picture};
 
 use crate::arrivals::arrivals_of;
 use crate::fragments::Fragment::{Marked, Plain};
 use crate::fragments::write_fragments;
-use crate::labels::write_label;
+use crate::labels::{short_label, write_label};
 use crate::lanes::longest_name;
 use crate::runs::write_shortened;
 use crate::scene::Scene;
 use crate::shapes::{Shape, Sign, shape_of};
 use crate::svg_parts::{
-    write_arrow, write_lane_line, write_open, write_open_line, write_paper, write_rectangle,
+    Point, write_arrow, write_lane_line, write_open, write_open_line, write_paper, write_rectangle,
     write_sign, write_words, write_words_beside,
 };
 use dioc_terms::{Entry, Last, Memory, Role};
 use std::alloc::Global;
 use text_pieces::write_bytes;
 use trace_text::{write_last, write_line};
+
+/// The lanes of a picture, and how many bytes of a label may stand between two.
+#[derive(Clone, Copy)]
+struct Frame<'a> {
+    columns: usize,
+    lanes: &'a [Role],
+    ghost columns_within: { columns ≤ 34 },
+    ghost lanes_within: { length lanes.now ≤ most_roles },
+}
 
 /// How long the longest label is, and `least` at least.
 fn longest_label(alloc: Global, least: usize, entries: &[Entry]) -> Result<usize, Memory>
@@ -90,12 +99,10 @@ fn before_x(columns: usize, from: usize, to: usize) -> u64
 }
 
 /// How wide the picture is.
-fn width(columns: usize, lanes: &[Role]) -> u64
-    requires columns { columns ≤ 34 }
-    requires lanes { length lanes.now ≤ most_roles }
-    ensures { result ≡ width columns lanes.now }
+fn width(frame: &Frame<'_>) -> u64
+    ensures { result ≡ width frame.now.columns frame.now.lanes.now }
 {
-    half_gap(columns) * (2 * lanes.len().max(1) as u64 + 2)
+    half_gap(frame.columns) * (2 * frame.lanes.len().max(1) as u64 + 2)
 }
 
 /// Where the row of an entry stands.
@@ -106,6 +113,19 @@ fn row_y(row: usize) -> u64
     ensures below { 70 ≤ result }
 {
     30 * row as u64 + 70
+}
+
+/// Where a row crosses a lane.
+fn crossing(frame: &Frame<'_>, lane: usize, row: usize) -> Point
+    requires lane { lane ≤ most_roles }
+    requires row { row < 2 ^ 32 }
+    ensures x { result.x ≡ lane_x frame.now.columns lane }
+    ensures y { result.y ≡ row_y row }
+{
+    Point {
+        x: lane_x(frame.columns, lane),
+        y: row_y(row),
+    }
 }
 
 fn sign_class(sign: Sign) -> &'static [u8]
@@ -155,62 +175,60 @@ fn stands_back(sign: Sign) -> bool
 /// Appends the arrow of a message that is put in one row and arrives in another, or never.
 #[tactic(auto, unfolding(crate::specs::Svg::message_line))]
 fn write_message(
-    columns: usize,
+    frame: &Frame<'_>,
     from: usize,
     to: usize,
     row: usize,
     arrives: Option<usize>,
     out: &mut Vec<u8>,
 ) -> Result<(), Memory>
-    requires columns { columns ≤ 34 }
     requires lanes { (from ≤ most_roles) × (to ≤ most_roles) }
     requires row { row < 2 ^ 32 }
     requires arrives { IfSome arrives (λ taken. taken < 2 ^ 32) }
     ensures ok { OnOk result (out.new.items ≡ out.old.items
-        ++ message_line columns from to row arrives) }
+        ++ message_line frame.now.columns from to row arrives) }
     ensures memory { OnErr result (KeepsFront out.old.items out.new.items) }
 {
-    let start = lane_x(columns, from);
-    let top = row_y(row);
+    let start = crossing(frame, from, row);
     match arrives {
-        Some(taken) => write_arrow(start, top, lane_x(columns, to), row_y(taken), out),
-        None => write_open_line(start, top, before_x(columns, from, to), top + 9, out),
+        Some(taken) => write_arrow(start, crossing(frame, to, taken), out),
+        None => {
+            let x = before_x(frame.columns, from, to);
+            write_open_line(start, Point { x, y: start.y + 9 }, out)
+        }
     }
 }
 
 /// Appends the shape of an entry in a row with its label.
 #[tactic(auto, unfolding(crate::specs::Svg::drawing))]
 fn write_drawing(
-    columns: usize,
-    lanes: &[Role],
+    frame: &Frame<'_>,
     row: usize,
     arrives: Option<usize>,
     shape: Shape,
     said: &[u8],
     out: &mut Vec<u8>,
 ) -> Result<(), Memory>
-    requires columns { columns ≤ 34 }
-    requires lanes { length lanes.now ≤ most_roles }
     requires row { row < 2 ^ 32 }
     requires arrives { IfSome arrives (λ taken. taken < 2 ^ 32) }
     requires shape { IsWithin most_roles shape }
     ensures ok { OnOk result (out.new.items ≡ out.old.items
-        ++ drawing columns lanes.now row arrives shape said.now) }
+        ++ drawing frame.now.columns frame.now.lanes.now row arrives shape said.now) }
     ensures memory { OnErr result (KeepsFront out.old.items out.new.items) }
 {
     let y = row_y(row);
     match shape {
         Shape::Arrow { from, to } => {
-            write_words_beside(to < from, lane_x(columns, from), y - 5, said, out)?;
-            write_message(columns, from, to, row, arrives, out)
+            write_words_beside(to < from, lane_x(frame.columns, from), y - 5, said, out)?;
+            write_message(frame, from, to, row, arrives, out)
         }
         Shape::Mark { sign, at } => {
-            let x = lane_x(columns, at);
-            write_sign(sign, x, y, 8 * columns as u64 + 14, out)?;
+            let x = lane_x(frame.columns, at);
+            write_sign(sign, x, y, 8 * frame.columns as u64 + 14, out)?;
             write_words_beside(stands_back(sign), x, y + 4, said, out)
         }
         Shape::Band => {
-            write_paper(0, y, width(columns, lanes), out)?;
+            write_paper(0, y, width(frame), out)?;
             write_words(12, y + 4, said, out)
         }
     }
@@ -237,30 +255,24 @@ fn write_title<'a>(class: &'a [u8], title: &'a [u8], out: &mut Vec<u8>) -> Resul
 #[tactic(auto, unfolding(crate::specs::Svg::svg_entry))]
 fn write_entry(
     alloc: Global,
-    columns: usize,
-    lanes: &[Role],
+    frame: &Frame<'_>,
     row: usize,
     arrives: Option<usize>,
     entry: &Entry,
     out: &mut Vec<u8>,
 ) -> Result<(), Memory>
-    requires columns { (3 ≤ columns) × (columns ≤ 34) }
-    requires lanes { length lanes.now ≤ most_roles }
     requires row { row < 2 ^ 32 }
     requires arrives { IfSome arrives (λ taken. taken < 2 ^ 32) }
     ensures ok { OnOk result (out.new.items ≡ out.old.items
-        ++ svg_entry columns lanes.now row arrives entry.now) }
+        ++ svg_entry frame.now.columns frame.now.lanes.now row arrives entry.now) }
     ensures memory { OnErr result (KeepsFront out.old.items out.new.items) }
 {
     let mut line = Vec::new(alloc);
     write_line(entry, &mut line)?;
-    let mut label = Vec::new(alloc);
-    write_label(entry, &mut label)?;
-    let mut shown = Vec::new(alloc);
-    write_shortened(&label, columns, &mut shown)?;
-    let shape = shape_of(lanes, entry);
+    let shown = short_label(alloc, entry, frame.columns)?;
+    let shape = shape_of(frame.lanes, entry);
     write_title(entry_class(shape, entry), &line, out)?;
-    write_drawing(columns, lanes, row, arrives, shape, &shown, out)?;
+    write_drawing(frame, row, arrives, shape, &shown, out)?;
     write_bytes(b"</g>\n", out)
 }
 
@@ -268,65 +280,45 @@ fn write_entry(
 #[tactic(auto, unfolding(crate::specs::Svg::name_box))]
 fn write_box(
     alloc: Global,
-    columns: usize,
+    frame: &Frame<'_>,
     y: u64,
     lane: usize,
     role: &Role,
     out: &mut Vec<u8>,
 ) -> Result<(), Memory>
-    requires columns { (3 ≤ columns) × (columns ≤ 34) }
     requires lane { lane ≤ most_roles }
     requires low { y < 2 ^ 40 }
     ensures ok { OnOk result (out.new.items ≡ out.old.items
-        ++ name_box columns y lane role.now) }
+        ++ name_box frame.now.columns y lane role.now) }
     ensures memory { OnErr result (KeepsFront out.old.items out.new.items) }
 {
     let mut shown = Vec::new(alloc);
-    write_shortened(role.0.bytes(), columns, &mut shown)?;
+    write_shortened(role.0.bytes(), frame.columns, &mut shown)?;
     write_title(b"role", role.0.bytes(), out)?;
-    let x = half_gap(columns) * (lane as u64 + lane as u64 + 1) + 8;
-    write_rectangle(x, y, 8 * columns as u64 + 8, 26, out)?;
-    write_words(lane_x(columns, lane), y + 17, &shown, out)?;
+    let x = half_gap(frame.columns) * (lane as u64 + lane as u64 + 1) + 8;
+    write_rectangle(x, y, 8 * frame.columns as u64 + 8, 26, out)?;
+    write_words(lane_x(frame.columns, lane), y + 17, &shown, out)?;
     write_bytes(b"</g>\n", out)
 }
 
-/// Appends the line of a lane, down to `floor`, and its box at the top.
+/// Appends the opening, and for each lane its line, down to its box below, and its box at the top.
 #[tactic(auto, unfolding(crate::specs::Svg::svg_lane))]
-fn write_lane(
-    alloc: Global,
-    columns: usize,
-    floor: u64,
-    lane: usize,
-    role: &Role,
-    out: &mut Vec<u8>,
-) -> Result<(), Memory>
-    requires columns { (3 ≤ columns) × (columns ≤ 34) }
-    requires lane { lane ≤ most_roles }
-    ensures ok { OnOk result (out.new.items ≡ out.old.items
-        ++ svg_lane columns floor lane role.now) }
-    ensures memory { OnErr result (KeepsFront out.old.items out.new.items) }
-{
-    write_lane_line(lane_x(columns, lane), floor, out)?;
-    write_box(alloc, columns, 12, lane, role, out)
-}
-
 fn write_head(
     alloc: Global,
-    columns: usize,
-    lanes: &[Role],
+    frame: &Frame<'_>,
     rows: usize,
     out: &mut Vec<u8>,
 ) -> Result<(), Memory>
-    requires columns { (3 ≤ columns) × (columns ≤ 34) }
-    requires lanes { length lanes.now ≤ most_roles }
     requires rows { rows < 2 ^ 32 }
-    ensures ok { OnOk result (out.new.items ≡ out.old.items ++ svg_head columns lanes.now rows) }
+    ensures ok { OnOk result (out.new.items ≡ out.old.items
+        ++ svg_head frame.now.columns frame.now.lanes.now rows) }
     ensures memory { OnErr result (KeepsFront out.old.items out.new.items) }
 {
     let floor = row_y(rows);
-    write_open(width(columns, lanes), floor + 62, out)?;
-    for (lane, role) in lanes.iter().enumerate() {
-        write_lane(alloc, columns, floor, lane, role, out)?;
+    write_open(width(frame), floor + 62, out)?;
+    for (lane, role) in frame.lanes.iter().enumerate() {
+        write_lane_line(lane_x(frame.columns, lane), floor, out)?;
+        write_box(alloc, frame, 12, lane, role, out)?;
     }
     Ok(())
 }
@@ -355,22 +347,19 @@ fn write_end(
 
 fn write_tail(
     alloc: Global,
-    columns: usize,
-    lanes: &[Role],
+    frame: &Frame<'_>,
     rows: usize,
     last: &Option<Last>,
     out: &mut Vec<u8>,
 ) -> Result<(), Memory>
-    requires columns { (3 ≤ columns) × (columns ≤ 34) }
-    requires lanes { length lanes.now ≤ most_roles }
     requires rows { rows < 2 ^ 32 }
     ensures ok { OnOk result (out.new.items ≡ out.old.items
-        ++ svg_tail columns lanes.now rows last.now) }
+        ++ svg_tail frame.now.columns frame.now.lanes.now rows last.now) }
     ensures memory { OnErr result (KeepsFront out.old.items out.new.items) }
 {
     let floor = row_y(rows);
-    for (lane, role) in lanes.iter().enumerate() {
-        write_box(alloc, columns, floor, lane, role, out)?;
+    for (lane, role) in frame.lanes.iter().enumerate() {
+        write_box(alloc, frame, floor, lane, role, out)?;
     }
     write_end(alloc, floor, last, out)?;
     write_bytes(b"</svg>\n", out)
@@ -378,21 +367,18 @@ fn write_tail(
 
 fn write_entries(
     alloc: Global,
-    columns: usize,
-    lanes: &[Role],
+    frame: &Frame<'_>,
     entries: &[Entry],
     out: &mut Vec<u8>,
 ) -> Result<(), Memory>
-    requires columns { (3 ≤ columns) × (columns ≤ 34) }
-    requires lanes { length lanes.now ≤ most_roles }
     requires entries { length entries.now < 2 ^ 32 }
     ensures ok { OnOk result (out.new.items ≡ out.old.items
-        ++ svg_entries columns lanes.now entries.now) }
+        ++ svg_entries frame.now.columns frame.now.lanes.now entries.now) }
     ensures memory { OnErr result (KeepsFront out.old.items out.new.items) }
 {
     let arrivals = arrivals_of(alloc, entries)?;
     for (row, entry) in entries.iter().enumerate() {
-        write_entry(alloc, columns, lanes, row, arrivals[row], entry, out)?;
+        write_entry(alloc, frame, row, arrivals[row], entry, out)?;
     }
     Ok(())
 }
@@ -405,7 +391,8 @@ pub fn write_svg(alloc: Global, scene: &Scene<'_>, out: &mut Vec<u8>) -> Result<
 {
     let (lanes, entries) = (scene.lanes, scene.entries);
     let columns = columns_of(alloc, lanes, entries)?;
-    write_head(alloc, columns, lanes, entries.len(), out)?;
-    write_entries(alloc, columns, lanes, entries, out)?;
-    write_tail(alloc, columns, lanes, entries.len(), scene.last, out)
+    let frame = Frame { columns, lanes };
+    write_head(alloc, &frame, entries.len(), out)?;
+    write_entries(alloc, &frame, entries, out)?;
+    write_tail(alloc, &frame, entries.len(), scene.last, out)
 }

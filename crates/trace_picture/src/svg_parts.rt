@@ -10,6 +10,13 @@ use crate::shapes::Sign;
 use dioc_terms::Memory;
 use text_pieces::write_bytes;
 
+/// An end of a line.
+#[derive(Clone, Copy)]
+pub struct Point {
+    pub x: u64,
+    pub y: u64,
+}
+
 /// Appends a circle around a place, in a tag that begins so.
 #[tactic(auto, unfolding(crate::specs::Svg::circle))]
 fn write_circle<'a>(tag: &'a [u8], x: u64, y: u64, out: &mut Vec<u8>) -> Result<(), Memory>
@@ -75,61 +82,44 @@ pub fn write_sign(sign: Sign, x: u64, y: u64, wide: u64, out: &mut Vec<u8>) -> R
     }
 }
 
-/// Appends a line from one place to another, in a tag that begins so and goes on.
+/// Appends a line from one point to another, in a tag that begins so and goes on.
 #[tactic(auto, unfolding(crate::specs::Svg::line_between))]
-fn write_line_between<'a>(
-    tag: &'a [u8],
-    start: u64,
-    top: u64,
-    end: u64,
-    low: u64,
-    out: &mut Vec<u8>,
-) -> Result<(), Memory>
+fn write_line_between(tag: &[u8], start: Point, end: Point, out: &mut Vec<u8>) -> Result<(), Memory>
     ensures ok { OnOk result (out.new.items ≡ out.old.items
-        ++ line_between tag.now start top end low) }
+        ++ line_between tag.now start.x start.y end.x end.y) }
     ensures memory { OnErr result (KeepsFront out.old.items out.new.items) }
 {
     let fragments = [
         Plain(tag),
-        Attribute(b"x1", start),
-        Attribute(b"y1", top),
-        Attribute(b"x2", end),
-        Attribute(b"y2", low),
+        Attribute(b"x1", start.x),
+        Attribute(b"y1", start.y),
+        Attribute(b"x2", end.x),
+        Attribute(b"y2", end.y),
     ];
     write_fragments(&fragments, out)
 }
 
 /// Appends a line with a tip at its end.
 #[tactic(auto, unfolding(crate::specs::Svg::arrow_line))]
-pub fn write_arrow(
-    start: u64,
-    top: u64,
-    end: u64,
-    low: u64,
-    out: &mut Vec<u8>,
-) -> Result<(), Memory>
-    ensures ok { OnOk result (out.new.items ≡ out.old.items ++ arrow_line start top end low) }
+pub fn write_arrow(start: Point, end: Point, out: &mut Vec<u8>) -> Result<(), Memory>
+    ensures ok { OnOk result (out.new.items ≡ out.old.items
+        ++ arrow_line start.x start.y end.x end.y) }
     ensures memory { OnErr result (KeepsFront out.old.items out.new.items) }
 {
-    write_line_between(b"<line", start, top, end, low, out)?;
+    write_line_between(b"<line", start, end, out)?;
     write_bytes(b" marker-end=\"url(#tip)\"/>", out)
 }
 
 /// Appends a line with an open circle at its end.
 #[tactic(auto, unfolding(crate::specs::Svg::open_line))]
-pub fn write_open_line(
-    start: u64,
-    top: u64,
-    end: u64,
-    low: u64,
-    out: &mut Vec<u8>,
-) -> Result<(), Memory>
-    ensures ok { OnOk result (out.new.items ≡ out.old.items ++ open_line start top end low) }
+pub fn write_open_line(start: Point, end: Point, out: &mut Vec<u8>) -> Result<(), Memory>
+    ensures ok { OnOk result (out.new.items ≡ out.old.items
+        ++ open_line start.x start.y end.x end.y) }
     ensures memory { OnErr result (KeepsFront out.old.items out.new.items) }
 {
-    write_line_between(b"<line", start, top, end, low, out)?;
+    write_line_between(b"<line", start, end, out)?;
     write_bytes(b"/>", out)?;
-    write_circle(b"<circle class=\"open\"", end, low, out)
+    write_circle(b"<circle class=\"open\"", end.x, end.y, out)
 }
 
 /// Appends the line of a lane at `x`, down to `floor`.
@@ -138,7 +128,9 @@ pub fn write_lane_line(x: u64, floor: u64, out: &mut Vec<u8>) -> Result<(), Memo
     ensures ok { OnOk result (out.new.items ≡ out.old.items ++ lane_line x floor) }
     ensures memory { OnErr result (KeepsFront out.old.items out.new.items) }
 {
-    write_line_between(b"<line class=\"lane\"", x, 38, x, floor, out)?;
+    let start = Point { x, y: 38 };
+    let end = Point { x, y: floor };
+    write_line_between(b"<line class=\"lane\"", start, end, out)?;
     write_bytes(b"/>\n", out)
 }
 

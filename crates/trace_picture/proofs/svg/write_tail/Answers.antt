@@ -7,9 +7,9 @@ use Rattle.trace_picture.proofs.svg.write_tail.Goals as goal
 
 pub loop-lane-preserved : goal.loop-lane-preserved
 loop-lane-preserved c =
-    pieces_from_step (name_box c.args.columns (row_y c.args.rows)) c.args.lanes.now c.loop-lane.lane c.index-lanes-lane.result c.args.out.now.items c.loop-lane.out.items c.write_box.new.out.items
-    (omega arith) c.index-lanes-lane.is c.loop-lane.invariant
-    (c.in_ok-write_box.ensures.ok ∙ ap (λ y. c.loop-lane.out.items ++ name_box c.args.columns y c.loop-lane.lane c.index-lanes-lane.result) c.row_y-floor.ensures.value)
+    pieces_from_step (name_box c.args.frame.now.columns (row_y c.args.rows)) c.args.frame.now.lanes.now c.loop-lane.lane c.role-item.result c.args.out.now.items c.loop-lane.out.items c.write_box.new.out.items
+    (omega arith) c.role-item.is c.loop-lane.invariant
+    (c.in_ok-write_box.ensures.ok ∙ ap (λ y. c.loop-lane.out.items ++ name_box c.args.frame.now.columns y c.loop-lane.lane c.role-item.result) c.row_y-floor.ensures.value)
 
 pub returns-in_err-write_box-clause-memory : goal.returns-in_err-write_box-clause-memory
 returns-in_err-write_box-clause-memory c = still_front _ _ _ _ _ c.loop-lane.invariant c.in_err-write_box.ensures.memory
