@@ -13,15 +13,10 @@ pub(crate) struct Gap {
 /// The most spaces of a gap.
 pub(crate) const MOST_BLANKS: u8 = 64;
 
-const NO_GAP: Gap = Gap {
-    lines: 0,
-    blanks: 0,
-};
-
-const ONE_SPACE: Gap = Gap {
-    lines: 0,
-    blanks: 1,
-};
+/// A gap of so many spaces, which ends no line.
+fn spaces(blanks: u8) -> Gap {
+    Gap { lines: 0, blanks }
+}
 
 /// How many columns a block may take that stands on one line, with what follows it there.
 const MOST_COLUMNS: u8 = 100;
@@ -83,8 +78,7 @@ impl Level {
         Level {
             behind,
             broken,
-            inner_broken: false,
-            next_broken: false,
+            ..OUTSIDE
         }
     }
 
@@ -220,19 +214,16 @@ impl<'a> Pen<'a> {
     fn gap(&mut self, unit: &Unit, shape: Shape) -> Gap {
         let is_comment = unit.shape == Shape::Comment;
         if self.previous.is_none() && !self.is_behind_comment {
-            return NO_GAP;
+            return spaces(0);
         }
         if is_comment && unit.breaks == 0 {
-            return ONE_SPACE;
+            return spaces(1);
         }
         let is_seam = self.ends_line(shape);
         if is_comment || is_seam || self.is_behind_comment {
             return self.new_line(unit, is_seam);
         }
-        Gap {
-            lines: 0,
-            blanks: u8::from(unit.apart),
-        }
+        spaces(u8::from(unit.apart))
     }
 
     /// Whether the block that is opened now is broken.
@@ -290,7 +281,7 @@ impl<'a> Pen<'a> {
     fn go_on(&mut self, unit: &Unit) -> Gap {
         self.column = self.column.saturating_add(unit.columns() as usize);
         self.previous = Some(Shape::Plain);
-        if unit.apart { ONE_SPACE } else { NO_GAP }
+        spaces(u8::from(unit.apart))
     }
 
     /// The shape of the next part that is no comment, from the comment at this place on.
@@ -310,7 +301,7 @@ impl<'a> Pen<'a> {
     pub(crate) fn gap_at(&mut self, place: usize) -> Result<Gap, AllocError> {
         let unit = match self.units.get(place) {
             Some(unit) => *unit,
-            None => return Ok(ONE_SPACE),
+            None => return Ok(spaces(1)),
         };
         if self.is_amid && unit.shape == Shape::Plain {
             return Ok(self.go_on(&unit));

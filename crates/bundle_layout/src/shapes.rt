@@ -59,31 +59,36 @@ struct View<'a> {
 }
 
 impl<'a> View<'a> {
-    /// The sort of the part so many places behind this one, `End` where there is no token.
-    fn behind(&self, place: usize, count: usize) -> Sort {
-        match self.parts.get(place.saturating_add(count)) {
+    /// The sort of the part at a place, `End` of a comment and where there is no part.
+    fn sort(&self, place: usize) -> Sort {
+        match self.parts.get(place) {
             Some(part) => part.sort,
             None => Sort::End,
         }
     }
 
-    /// The sort of the part so many places before this one, `End` of a comment and where there is
-    /// no part.
+    /// The sort of the part so many places behind this one.
+    fn behind(&self, place: usize, count: usize) -> Sort {
+        self.sort(place.saturating_add(count))
+    }
+
+    /// The sort of the part so many places before this one.
     fn before(&self, place: usize, count: usize) -> Sort {
-        let part = match place.checked_sub(count) {
-            Some(place) => self.parts.get(place),
-            None => None,
-        };
-        match part {
-            Some(part) => part.sort,
+        match place.checked_sub(count) {
+            Some(place) => self.sort(place),
             None => Sort::End,
         }
+    }
+
+    /// The bytes from one place up to another, none where the text has no such places.
+    fn slice(&self, from: u32, to: u32) -> &'a [u8] {
+        self.bytes.get(from as usize..to as usize).unwrap_or(b"")
     }
 
     /// How many line feeds stand between these places, where 2 are two or more.
     fn breaks(&self, from: u32, to: u32) -> u8 {
         let mut breaks = 0;
-        for byte in self.bytes.get(from as usize..to as usize).unwrap_or(b"") {
+        for byte in self.slice(from, to) {
             if *byte == b'\n' && breaks < 2 {
                 breaks += 1;
             }
@@ -102,10 +107,7 @@ impl<'a> View<'a> {
     /// The name at a place, or no bytes where there is none.
     fn name(&self, place: usize) -> &'a [u8] {
         match self.parts.get(place) {
-            Some(part) if part.sort == Sort::Name => self
-                .bytes
-                .get(part.start as usize..part.end as usize)
-                .unwrap_or(b""),
+            Some(part) if part.sort == Sort::Name => self.slice(part.start, part.end),
             _ => b"",
         }
     }
