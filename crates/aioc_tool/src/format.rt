@@ -1,11 +1,9 @@
 //! The command `format`: files, or standard input, in the layout of bundles.
 
-use aioc_io::{
-    Failed, ReadAllFault, Sink, Source, StdSink, StdSource, SureSource, read_all, write_all,
-};
+use aioc_io::{Failed, Sink, Source, StdSource, SureSource, write_all};
 use bundle_layout::{LayoutFault, lay_out_tokens};
 use bundle_text::read_bundle_with_tokens;
-use diagnostics::{Options, Piece, Status, explain, tell};
+use diagnostics::{Options, Status, explain, read_bytes, refuse};
 use dioc_terms::SyntaxFault;
 use limits::MOST_BYTES;
 use std::alloc::{AllocError, Global};
@@ -38,31 +36,6 @@ fn worse(one: Status, other: Status) -> Status {
         other
     } else {
         one
-    }
-}
-
-fn complain<'a, E: Sink>(rt: &HostRuntime, file: &'a [u8], why: &'a [u8], err: &mut E) -> Status {
-    let pieces = [
-        Piece::Bytes(b"aioc-tool: "),
-        Piece::Bytes(file),
-        Piece::Bytes(why),
-    ];
-    tell(rt.alloc(), &pieces, err);
-    Status::Unusable
-}
-
-/// The text of a file, or the status of why there is none.
-fn read_text<S: Source, E: Sink>(
-    rt: &HostRuntime,
-    file: &[u8],
-    source: &mut S,
-    err: &mut E,
-) -> Result<Vec<u8>, Status> {
-    match read_all(rt.alloc(), source, MOST_BYTES) {
-        Ok(bytes) => Ok(bytes),
-        Err(ReadAllFault::Fault) => Err(complain(rt, file, b": can't be read\n", err)),
-        Err(ReadAllFault::TooLong) => Err(complain(rt, file, b": is too long\n", err)),
-        Err(ReadAllFault::Memory) => Err(Status::Memory),
     }
 }
 
@@ -126,7 +99,7 @@ fn finish<O: Sink, E: Sink>(
         }
         Aim::Write => match replace(rt, file, text) {
             Ok(()) => Status::Sound,
-            Err(_) => complain(rt, file.as_bytes(), b": can't be replaced\n", err),
+            Err(_) => refuse(rt.alloc(), file.as_bytes(), b"can't be replaced", err),
         },
     }
 }
@@ -156,11 +129,33 @@ fn format_text<O: Sink, E: Sink>(
     let text = match lay_out_tokens(rt.alloc(), &bytes, tokens) {
         Ok(text) => text,
         Err(LayoutFault::Memory) => return Status::Memory,
-        Err(_) => return complain(rt, name, b": would be too long in its layout\n", err),
+        Err(_) => return refuse(rt.alloc(), name, b"would be too long in its layout", err),
     };
     match aim {
         Aim::Check | Aim::Write if text == bytes => Status::Sound,
         _ => finish(rt, aim, file, &text, out, err),
+    }
+}
+
+/// Lays out the text that a source gives for a file.
+fn format_source<S: Source, O: Sink, E: Sink>(
+    rt: &HostRuntime,
+    aim: Aim,
+    file: &str,
+    source: &mut S,
+    out: &mut O,
+    err: &mut E,
+) -> Status {
+    match read_bytes(
+        rt.alloc(),
+        file.as_bytes(),
+        MOST_BYTES,
+        b"is too long",
+        source,
+        err,
+    ) {
+        Ok(bytes) => format_text(rt, aim, file, bytes, out, err),
+        Err(status) => status,
     }
 }
 
@@ -171,14 +166,9 @@ fn format_file<O: Sink, E: Sink>(
     out: &mut O,
     err: &mut E,
 ) -> Status {
-    let name = file.as_bytes();
-    let read = match fs::open(rt, file) {
-        Ok(opened) => read_text(rt, name, &mut StdSource::new(opened), err),
-        Err(_) => Err(complain(rt, name, b": can't be read\n", err)),
-    };
-    match read {
-        Ok(bytes) => format_text(rt, aim, file, bytes, out, err),
-        Err(status) => status,
+    match fs::open(rt, file) {
+        Ok(opened) => format_source(rt, aim, file, &mut StdSource::new(opened), out, err),
+        Err(_) => refuse(rt.alloc(), file.as_bytes(), b"can't be read", err),
     }
 }
 
@@ -212,10 +202,8 @@ pub fn format_files<O: Sink, E: Sink>(
     err: &mut E,
 ) -> Status {
     if wanted.files.is_empty() {
-        return match read_text(rt, b"<stdin>", &mut StdSource::new(rt.stdin()), err) {
-            Ok(bytes) => format_text(rt, wanted.aim, "<stdin>", bytes, out, err),
-            Err(status) => status,
-        };
+        let mut source = StdSource::new(rt.stdin());
+        return format_source(rt, wanted.aim, "<stdin>", &mut source, out, err);
     }
     let mut status = Status::Sound;
     for file in &wanted.files {

@@ -5,7 +5,7 @@
 mod format;
 
 use aioc_io::{Sink, StdSink, StdSource};
-use diagnostics::{Command, Options, Piece, Request, Status, explain, read_request, tell};
+use diagnostics::{Command, Options, Piece, Request, Status, explain, read_request, refuse, tell};
 use format::{format_files, read_wanted};
 use std::process::ExitCode;
 use std::{env, fs, io};
@@ -42,23 +42,10 @@ fn tell_usage<E: Sink>(rt: &HostRuntime, err: &mut E) -> Status {
 
 // Tells what is wrong with a file.
 fn explain_file<E: Sink>(rt: &HostRuntime, options: Options, file: &str, err: &mut E) -> Status {
+    let name = file.as_bytes();
     match fs::open(rt, file) {
-        Ok(opened) => {
-            let mut source = StdSource::new(opened);
-            explain(rt.alloc(), options, file.as_bytes(), &mut source, err)
-        }
-        Err(_) => {
-            tell(
-                rt.alloc(),
-                &[
-                    Piece::Bytes(b"aioc-tool: "),
-                    Piece::Bytes(file.as_bytes()),
-                    Piece::Bytes(b": can't be read\n"),
-                ],
-                err,
-            );
-            Status::Unusable
-        }
+        Ok(opened) => explain(rt.alloc(), options, name, &mut StdSource::new(opened), err),
+        Err(_) => refuse(rt.alloc(), name, b"can't be read", err),
     }
 }
 

@@ -118,7 +118,7 @@ fn is_text(bytes: &[u8]) -> bool {
 }
 
 /// Tells one line about a file that can't be taken.
-fn refuse<'a, E: Sink>(alloc: Global, file: &'a [u8], why: &'a [u8], err: &mut E) -> Status {
+pub fn refuse<'a, E: Sink>(alloc: Global, file: &'a [u8], why: &'a [u8], err: &mut E) -> Status {
     tell(
         alloc,
         &[
@@ -131,6 +131,24 @@ fn refuse<'a, E: Sink>(alloc: Global, file: &'a [u8], why: &'a [u8], err: &mut E
         err,
     );
     Status::Unusable
+}
+
+/// The bytes that a source gives for a file, or the status where it gives none that can be taken. A
+/// source that fails, or gives more than so many bytes, is told of by one line.
+pub fn read_bytes<'a, S: Source, E: Sink>(
+    alloc: Global,
+    file: &'a [u8],
+    most: usize,
+    too_long: &'a [u8],
+    source: &mut S,
+    err: &mut E,
+) -> Result<Vec<u8>, Status> {
+    match read_all(alloc, source, most) {
+        Ok(bytes) => Ok(bytes),
+        Err(ReadAllFault::Fault) => Err(refuse(alloc, file, b"can't be read", err)),
+        Err(ReadAllFault::TooLong) => Err(refuse(alloc, file, too_long, err)),
+        Err(ReadAllFault::Memory) => Err(Status::Memory),
+    }
 }
 
 /// What is told of a diagnostic.
@@ -160,13 +178,10 @@ pub fn explain<S: Source, E: Sink>(
     source: &mut S,
     err: &mut E,
 ) -> Status {
-    let bytes = match read_all(alloc, source, MOST_READ) {
+    let too_long = b"has more than 67108864 bytes";
+    let bytes = match read_bytes(alloc, file, MOST_READ, too_long, source, err) {
         Ok(bytes) => bytes,
-        Err(ReadAllFault::Fault) => return refuse(alloc, file, b"can't be read", err),
-        Err(ReadAllFault::TooLong) => {
-            return refuse(alloc, file, b"has more than 67108864 bytes", err);
-        }
-        Err(ReadAllFault::Memory) => return Status::Memory,
+        Err(status) => return status,
     };
     if !is_text(&bytes) {
         return refuse(alloc, file, b"is no text", err);

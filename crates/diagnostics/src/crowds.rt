@@ -12,6 +12,14 @@ pub struct Crowd {
     pub first: Option<u32>,
 }
 
+impl Crowd {
+    /// The names in the book are counted.
+    fn of(names: &IndexSet<Name>, first: Option<u32>) -> Crowd {
+        let count = names.len();
+        Crowd { count, first }
+    }
+}
+
 /// Adds the name of the rule of that number.
 fn add(
     alloc: Global,
@@ -48,19 +56,14 @@ pub fn crowded(alloc: Global, bundle: &Bundle) -> Result<Crowd, Memory> {
     let mut names = IndexSet::new(alloc);
     let first = add_opening(alloc, bundle, &mut names)?;
     if first.is_some() {
-        let count = names.len();
-        return Ok(Crowd { count, first });
+        return Ok(Crowd::of(&names, first));
     }
     for timed in bundle.script.as_slice() {
         match &timed.change {
             Change::Add(number) => {
                 add(alloc, bundle.rules.as_slice(), &mut names, *number)?;
                 if names.len() > MOST_RULES {
-                    let count = names.len();
-                    return Ok(Crowd {
-                        count,
-                        first: Some(*number),
-                    });
+                    return Ok(Crowd::of(&names, Some(*number)));
                 }
             }
             Change::Drop(name) => {
@@ -69,6 +72,5 @@ pub fn crowded(alloc: Global, bundle: &Bundle) -> Result<Crowd, Memory> {
             Change::Env(_, _) => {}
         }
     }
-    let count = names.len();
-    Ok(Crowd { count, first: None })
+    Ok(Crowd::of(&names, None))
 }

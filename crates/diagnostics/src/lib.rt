@@ -16,7 +16,9 @@ mod syntax;
 mod traces;
 mod wording;
 
-pub use calls::{Command, Options, Request, Status, explain, read_request, tell};
+pub use calls::{
+    Command, Options, Request, Status, explain, read_bytes, read_request, refuse, tell,
+};
 pub use diagnostic::{Code, Diagnostic, Span};
 pub use examining::{examine, examine_trace};
 pub use rendering::{write_json, write_text};

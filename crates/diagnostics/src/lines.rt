@@ -56,6 +56,11 @@ fn value_length(text: &Lexed<'_>, at: usize) -> usize {
     }
 }
 
+/// How many tokens the line has that begins at a place and ends with a value behind so many others.
+fn length_with_value(text: &Lexed<'_>, at: usize, front: usize) -> usize {
+    value_length(text, at.saturating_add(front)).saturating_add(front)
+}
+
 /// How many tokens the payload of a message has.
 fn note_length(text: &Lexed<'_>, at: usize) -> usize {
     match text.sort(at) {
@@ -83,9 +88,9 @@ fn named_length(text: &Lexed<'_>, at: usize, name: &[u8]) -> usize {
             front.saturating_add(note_length(text, at.saturating_add(front)))
         }
         b"take" => 10,
-        b"set" => value_length(text, at.saturating_add(9)).saturating_add(9),
+        b"set" => length_with_value(text, at, 9),
         b"pick" => 7,
-        b"env" => value_length(text, at.saturating_add(3)).saturating_add(3),
+        b"env" => length_with_value(text, at, 3),
         _ => 2,
     }
 }
@@ -94,9 +99,7 @@ fn named_length(text: &Lexed<'_>, at: usize, name: &[u8]) -> usize {
 fn line_length(text: &Lexed<'_>, at: usize) -> usize {
     match text.sort(at) {
         Sort::Name => named_length(text, at, text.name(at)),
-        Sort::Reserved(Word::Input) => {
-            value_length(text, at.saturating_add(9)).saturating_add(9)
-        }
+        Sort::Reserved(Word::Input) => length_with_value(text, at, 9),
         Sort::Reserved(Word::Scope) => match text.sort(at.saturating_add(6)) {
             Sort::Reserved(Word::Rule) => 10,
             _ => 7,

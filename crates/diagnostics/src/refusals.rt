@@ -98,6 +98,14 @@ impl<'a> Spelled<'a> {
         }
     }
 
+    /// The first token that names the role of the cast behind so many others.
+    fn role_past(&self, number: usize) -> Option<usize> {
+        match self.bundle.cast.as_slice().get(number) {
+            Some(role) => self.role(Where::Program, role),
+            None => None,
+        }
+    }
+
     /// The name of a rule, or one that says that there is none.
     fn rule_name(&self, number: u32) -> &'a [u8] {
         match self.bundle.rules.as_slice().get(number as usize) {
@@ -145,55 +153,35 @@ fn counted(
     stated(alloc, Code::TooMany, span, message, help)
 }
 
-/// More roles than may be: the place is that of the first role that is one too many.
-fn too_many_roles(alloc: Global, spelled: &Spelled<'_>) -> Result<Diagnostic, Memory> {
-    let cast = spelled.bundle.cast.as_slice();
-    let at = match cast.get(MOST_ROLES) {
-        Some(role) => spelled.role(Where::Program, role),
-        None => None,
-    };
-    let span = spelled.span(at);
-    counted(
-        alloc,
-        span,
-        cast.len(),
-        "roles of the choreography",
-        MOST_ROLES,
-    )
-}
-
-/// More rules at once than may be: the place is that of the first rule that is one too many.
-fn too_many_rules(alloc: Global, spelled: &Spelled<'_>) -> Result<Diagnostic, Memory> {
-    let crowd = crowded(alloc, spelled.bundle)?;
-    let at = match crowd.first {
-        Some(number) => spelled.part(Where::Rule(number)),
-        None => None,
-    };
-    let span = spelled.span(at);
-    counted(
-        alloc,
-        span,
-        crowd.count,
-        "rules in the book at once",
-        MOST_RULES,
-    )
-}
-
+/// More of something than may be: the place is that of the first that is one too many, or of all.
 fn too_many(alloc: Global, spelled: &Spelled<'_>, which: Which) -> Result<Diagnostic, Memory> {
-    match which {
+    let bundle = spelled.bundle;
+    let (at, count, what, most) = match which {
         Which::Nodes => {
-            let span = spelled.span(spelled.part(Where::Program));
-            let count = nodes(&spelled.bundle.choreo);
-            counted(alloc, span, count, "nodes of the choreography", MOST_NODES)
+            let count = nodes(&bundle.choreo);
+            let at = spelled.part(Where::Program);
+            (at, count, "nodes of the choreography", MOST_NODES)
         }
-        Which::Roles => too_many_roles(alloc, spelled),
-        Which::Rules => too_many_rules(alloc, spelled),
+        Which::Roles => {
+            let count = bundle.cast.len();
+            let at = spelled.role_past(MOST_ROLES);
+            (at, count, "roles of the choreography", MOST_ROLES)
+        }
+        Which::Rules => {
+            let crowd = crowded(alloc, bundle)?;
+            let at = match crowd.first {
+                Some(number) => spelled.part(Where::Rule(number)),
+                None => None,
+            };
+            (at, crowd.count, "rules in the book at once", MOST_RULES)
+        }
         Which::Changes => {
-            let span = spelled.span(find_mark(spelled.text, Mark::Change, 0, MOST_CHANGES));
-            let count = spelled.bundle.script.len();
-            counted(alloc, span, count, "changes of the script", MOST_CHANGES)
+            let count = bundle.script.len();
+            let at = find_mark(spelled.text, Mark::Change, 0, MOST_CHANGES);
+            (at, count, "changes of the script", MOST_CHANGES)
         }
-    }
+    };
+    counted(alloc, spelled.span(at), count, what, most)
 }
 
 fn unknown_role(

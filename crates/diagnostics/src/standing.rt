@@ -81,10 +81,15 @@ impl<'a> Standing<'a> {
         Ok(standing)
     }
 
+    /// The number of a role in the cast.
+    fn number_of(&self, role: &Role) -> Option<usize> {
+        let mut roles = self.bundle.cast.as_slice().iter();
+        roles.position(|other| other == role)
+    }
+
     /// The store of a role of the cast.
     fn store(&self, role: &Role) -> Option<&Store> {
-        let mut roles = self.bundle.cast.as_slice().iter();
-        match roles.position(|other| other == role) {
+        match self.number_of(role) {
             Some(number) => self.stores.get(number),
             None => None,
         }
@@ -99,8 +104,7 @@ impl<'a> Standing<'a> {
         value: &Value,
         is_input: bool,
     ) -> Result<(), Memory> {
-        let mut roles = self.bundle.cast.as_slice().iter();
-        let number = match roles.position(|other| other == role) {
+        let number = match self.number_of(role) {
             Some(number) => number,
             None => return Ok(()),
         };
@@ -122,6 +126,11 @@ impl<'a> Standing<'a> {
             self.book.push(name)?;
         }
         Ok(())
+    }
+
+    /// Counts a change of the script.
+    fn count_change(&mut self) {
+        self.changes = self.changes.saturating_add(1);
     }
 
     /// Goes past an entry, behind those before it.
@@ -148,16 +157,16 @@ impl<'a> Standing<'a> {
             } => self.assign(alloc, role, var, value, true),
             Entry::Scope { index, chosen, .. } => self.replace(*index, chosen),
             Entry::Add { name } => {
-                self.changes = self.changes.saturating_add(1);
+                self.count_change();
                 self.enter(name)
             }
             Entry::Drop { name } => {
-                self.changes = self.changes.saturating_add(1);
+                self.count_change();
                 self.book.retain(|other| **other != *name);
                 Ok(())
             }
             Entry::Env { .. } => {
-                self.changes = self.changes.saturating_add(1);
+                self.count_change();
                 Ok(())
             }
             Entry::Put { .. } | Entry::Pick { .. } | Entry::Take { .. } => Ok(()),
