@@ -95,3 +95,11 @@ noted (Flag b) = note.Flag b
 noted Keep = note.Keep
 noted (Part n P) = note.Part n
 noted Done = note.Done
+
+-- what was noted so, with the process that a part brings
+abbrev pub noted_load : Note → Process → Load
+noted_load (note.Val v) P = Val v
+noted_load (note.Flag b) P = Flag b
+noted_load note.Keep P = Keep
+noted_load (note.Part n) P = Part n P
+noted_load note.Done P = Done

@@ -3,6 +3,7 @@
 ghost use Rattle.std.specs.Prelude.{◌≡◌, IfOk, Option};
 ghost use Rattle.std.specs.Option.{option_copied};
 ghost use Rattle.dioc_terms.specs.declared.entries.Entry.TheVariants as entry;
+ghost use Rattle.dioc_terms.specs.declared.entries.Note.{Note as OneNote};
 ghost use Rattle.dioc_terms.specs.declared.names.Name.{Name as OneName};
 ghost use Rattle.dioc_terms.specs.declared.processes.Key.{Key as OneKey};
 ghost use Rattle.dioc_terms.specs.Equality.{entry_eq, variable_eq};
@@ -11,7 +12,7 @@ ghost use Rattle.dioc_terms.specs.Messages.{doer};
 use crate::copies::copy_both;
 use crate::faults::Memory;
 use crate::names::{Index, Name, Role};
-use crate::processes::Key;
+use crate::processes::{Key, Payload, Proc};
 use crate::values::Value;
 use std::alloc::Global;
 
@@ -42,6 +43,22 @@ impl Drop for Note {
 }
 
 impl Note {
+    ghost use Rattle.dioc_terms.specs.Processes.{load, noted_load, process};
+
+    /// The message that is noted so, with the process that it brings where it is a part of an
+    /// update.
+    pub fn into_payload(self, proc: Proc) -> Payload
+        ensures { load result ≡ noted_load self (process proc) }
+    {
+        match self {
+            Note::Val(value) => Payload::Val(value),
+            Note::Flag(flag) => Payload::Flag(flag),
+            Note::Keep => Payload::Keep,
+            Note::Part(epoch) => Payload::Part { epoch, proc },
+            Note::Done => Payload::Done,
+        }
+    }
+
     /// A copy, the same note.
     pub fn copy(&self, alloc: Global) -> Result<Note, Memory>
         ensures { IfOk result (λ copy. copy ≡ self.now) }
@@ -244,6 +261,17 @@ impl Entry {
     {
         match self {
             Entry::Take { key, var } => (key, var),
+            _ => unreachable!(),
+        }
+    }
+
+    /// The key of a put, and what is noted of its message.
+    pub fn into_put(self) -> (Key, Note)
+        requires put { (key : OneKey) × (note : OneNote) × (self ≡ entry.Put key note) }
+        ensures put { self ≡ entry.Put result.0 result.1 }
+    {
+        match self {
+            Entry::Put { key, note } => (key, note),
             _ => unreachable!(),
         }
     }

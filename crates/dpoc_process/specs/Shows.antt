@@ -5,10 +5,9 @@ use Rattle.std.specs.Global.{Global}
 use Rattle.dioc_terms.specs.declared.entries.Entry.{Entry}
 use Rattle.dioc_terms.specs.declared.entries.Entry.TheVariants as entry
 use Rattle.dioc_terms.specs.declared.entries.Note.{Note}
-use Rattle.dioc_terms.specs.declared.entries.Note.TheVariants as note
 use Rattle.dioc_terms.specs.declared.processes.Proc.{Proc}
 use Rattle.dioc_terms.specs.declared.processes.ScopeHead.{ScopeHead}
-use Rattle.dioc_terms.specs.Processes.{Process, Skip, Load, Val, Flag, Keep, Part, Done, process}
+use Rattle.dioc_terms.specs.Processes.{Process, Skip, Load, Part, noted_load, process}
 use Rattle.dpoc_process.specs.declared.runs.Shown.{Shown}
 
 -- the process in a box, where there is one
@@ -31,11 +30,7 @@ process_or_skip None = Skip
 
 -- the message that an entry notes so, with the process that it brings
 abbrev pub noted_message : Note → Option Process → Load
-noted_message (note.Val v) part = Val v
-noted_message (note.Flag b) part = Flag b
-noted_message note.Keep part = Keep
-noted_message (note.Part n) part = Part n (process_or_skip part)
-noted_message note.Done part = Done
+noted_message n part = noted_load n (process_or_skip part)
 
 -- the message that an entry puts
 abbrev pub put_message : Option Entry → Option Process → Option Load

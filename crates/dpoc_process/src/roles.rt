@@ -58,6 +58,16 @@ pub trait Runs: Drop {
             (is_offered act.now (offered (local self.old)) ≡ false) }
         ensures shown { IfOk result (IsPrepared (local self.old) act.now) };
 
+    /// Makes the role ready for an act as `prepare` does, and shows the same but the act.
+    fn prepare_act(&mut self, alloc: Global, act: &Act) -> Result<Shown, PrepareFault>
+        ensures same { local self.new ≡ local self.old }
+        ensures ready { OnOk result (is_ready self.new act.now) }
+        ensures ready_alone { (other : OneAct) → is_ready self.new other → other ≡ act.now }
+        ensures unready { OnErr result ((other : OneAct) → ¬ is_ready self.new other) }
+        ensures no_act { IsErrOf result PrepareFault.NoAct ↔
+            (is_offered act.now (offered (local self.old)) ≡ false) }
+        ensures shown { IfOk result (IsShown (local self.old) act.now) };
+
     /// Makes the role ready for the act of that number among those that the process offers, counted
     /// from 0, as `prepare` does, and shows the same but the act. No act before it is the same.
     /// After an error, which says that memory ran out, the role is ready for none.

@@ -1,11 +1,14 @@
 //! A role that runs, act by act.
 
 ghost use Rattle.std.specs.Prelude.{◌≡◌, IsSome, Some, IfOk, option_map};
+ghost use Rattle.dioc_terms.specs.declared.entries.Entry.TheVariants as entries;
+ghost use Rattle.dioc_terms.specs.declared.entries.Note.{Note as OneNote};
+ghost use Rattle.dioc_terms.specs.declared.processes.Key.{Key as OneKey};
 ghost use Rattle.dioc_terms.specs.Processes.{load, process};
 ghost use Rattle.dpoc_process.specs.Shows.{boxed_head, boxed_process, noted_message, process_in, process_or_skip, put_message};
 
 use dioc_terms::{
-    Act, Entry, Memory, Note, Parts, Payload, Proc, ScopeHead, Store, give_up, new_box,
+    Act, Entry, Key, Memory, Note, Parts, Payload, Proc, ScopeHead, Store, give_up, new_box,
 };
 use std::alloc::Global;
 use thiserror::Error;
@@ -91,7 +94,7 @@ impl Prepared {
 impl Shown {
     ghost use Rattle.dpoc_process.specs.LocalStates.{LocalState};
     ghost use Rattle.dpoc_process.specs.RoleSteps.{IsPrepared, IsShown};
-    ghost use Rattle.dpoc_process.specs.Shows.{head_shown};
+    ghost use Rattle.dpoc_process.specs.Shows.{head_shown, message_shown};
 
     /// The same with the act of which it is shown.
     pub fn with_act(self, alloc: Global, act: Act) -> Result<Prepared, Memory>
@@ -107,6 +110,29 @@ impl Shown {
             }),
             Err(fault) => give_up((act, (entry, head)), fault),
         }
+    }
+
+    /// The key and the message of a put; the rest is dropped.
+    pub fn into_put(self) -> (Key, Payload)
+        requires { IsSome (message_shown self) }
+        ensures key { (k : OneKey) (n : OneNote) → self.entry ≡ Some (entries.Put k n)
+            → result.0 ≡ k }
+        ensures message { message_shown self ≡ Some (load result.1) }
+    {
+        let Shown { entry, head, part } = self;
+        drop(head);
+        let (key, note) = known_entry(entry).into_put();
+        (key, note.into_payload(known_process(part)))
+    }
+
+    /// The entry of an act that begins no scope; the rest is dropped.
+    pub fn into_entry(self) -> Entry
+        requires { IsSome self.entry }
+        ensures { self.entry ≡ Some result }
+    {
+        let Shown { entry, head, part } = self;
+        drop((head, part));
+        known_entry(entry)
     }
 
     /// What the book sees of the scope for which the role was made ready; the rest is dropped.
@@ -220,6 +246,14 @@ fn known_process(part: Option<Box<Proc>>) -> Proc
         Some(proc) => Box::into_inner(proc),
         None => Proc::Skip,
     }
+}
+
+// (Apart, as `known_head` is.)
+fn known_entry(entry: Option<Entry>) -> Entry
+    requires { IsSome entry }
+    ensures { entry ≡ Some result }
+{
+    entry.unwrap()
 }
 
 // (Apart, since letting go of the rest beside an `unwrap` makes for large goals.)

@@ -82,15 +82,20 @@ impl Runs for RoleState {
         }
     }
 
+    fn prepare_act(&mut self, alloc: Global, act: &Act) -> Result<Shown, PrepareFault> {
+        let prepared = self.prepare(alloc, act)?;
+        match prepared.into_shown(alloc) {
+            Ok(shown) => Ok(shown),
+            Err(_) => {
+                clear(&mut self.ready);
+                Err(PrepareFault::Memory)
+            }
+        }
+    }
+
     fn prepare_at(&mut self, alloc: Global, _number: usize, act: &Act) -> Result<Shown, Memory> {
-        match self.prepare(alloc, act) {
-            Ok(prepared) => match prepared.into_shown(alloc) {
-                Ok(shown) => Ok(shown),
-                Err(fault) => {
-                    clear(&mut self.ready);
-                    Err(fault)
-                }
-            },
+        match self.prepare_act(alloc, act) {
+            Ok(shown) => Ok(shown),
             Err(PrepareFault::NoAct) => unreachable!(),
             Err(PrepareFault::Memory) => Err(Memory),
         }

@@ -126,6 +126,25 @@ impl Runs for FlatRole {
         }
     }
 
+    fn prepare_act(&mut self, alloc: Global, act: &Act) -> Result<Shown, PrepareFault> {
+        clear(&mut self.ready);
+        let Some(at) = self.progress.find(&self.role, &self.plan, act) else {
+            return Err(PrepareFault::NoAct);
+        };
+        match prepare_found(
+            alloc,
+            &self.role,
+            &self.plan,
+            &mut self.progress,
+            &mut self.store,
+            &mut self.ready,
+            (act, at),
+        ) {
+            Ok(shown) => Ok(shown),
+            Err(_) => Err(PrepareFault::Memory),
+        }
+    }
+
     fn prepare_at(&mut self, alloc: Global, number: usize, act: &Act) -> Result<Shown, Memory> {
         clear(&mut self.ready);
         let at = find_at(&self.progress, &self.role, &self.plan, number, act);

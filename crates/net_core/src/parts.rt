@@ -235,11 +235,8 @@ fn do_act<R: Runs>(
             Ok(shown) => finish(fixed, state, mail, updates, history, act, shown),
             Err(_) => Err(StepFault::Memory),
         },
-        None => match state.prepare(fixed.alloc, act) {
-            Ok(prepared) => match prepared.into_shown(fixed.alloc) {
-                Ok(shown) => finish(fixed, state, mail, updates, history, act, shown),
-                Err(_) => Err(StepFault::Memory),
-            },
+        None => match state.prepare_act(fixed.alloc, act) {
+            Ok(shown) => finish(fixed, state, mail, updates, history, act, shown),
             Err(PrepareFault::NoAct) => Err(StepFault::NoAct),
             Err(PrepareFault::Memory) => Err(StepFault::Memory),
         },
@@ -339,8 +336,8 @@ pub(crate) fn step_role<R: Runs>(
         (map R.local roles.old.items) mail.old updates.old history.old.entries
         (map R.local roles.new.items) mail.new updates.new history.new.entries) }
     ensures refused { (role : OneRole) → slice_get fixed.now.cast.now place ≡ Some role
-        → IfErr result
-        (RefusedFor fixed.now.cast.now (map R.local roles.old.items) mail.old role asked.entry.act.now) }
+        → IfErr result (RefusedFor fixed.now.cast.now (map R.local roles.old.items) mail.old role
+        asked.entry.act.now) }
     ensures same_roles { OnErr result (map R.local roles.new.items ≡ map R.local roles.old.items) }
     ensures same_mail { OnErr result (messages mail.new ≡ messages mail.old) }
     ensures same_updates { OnErr result (updates.new ≡ updates.old) }

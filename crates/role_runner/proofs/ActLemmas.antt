@@ -1,6 +1,5 @@
 -- What a role that is tied to its seat may commit.
 use Rattle.std.proofs.Common.{◌≡◌, ℕ, List, true, Option, Some, None, IsSome, refl, sym, ap, ◌∙◌, subst}
-use Rattle.std.specs.Prelude.{option_map}
 use Rattle.dioc_terms.specs.declared.entries.Act.{Act}
 use Rattle.dioc_terms.specs.declared.entries.Act.TheVariants as act
 use Rattle.dioc_terms.specs.declared.entries.Entry.{Entry}
@@ -11,12 +10,13 @@ use Rattle.dioc_terms.specs.declared.processes.Payload.{Payload}
 use Rattle.dioc_terms.specs.Attempts.{Does}
 use Rattle.dioc_terms.specs.Messages.{act_of, doer}
 use Rattle.dioc_terms.specs.Plain.{PlainBundle, setting}
-use Rattle.dioc_terms.specs.Processes.{Process, Load, load}
+use Rattle.dioc_terms.specs.Processes.{Process, Load, load, noted}
 use Rattle.dpoc_process.specs.declared.runs.Got.TheVariants as came
-use Rattle.dpoc_process.specs.declared.runs.Prepared.{Prepared}
+use Rattle.dpoc_process.specs.declared.runs.Shown.{Shown}
 use Rattle.dpoc_process.specs.Handed.{Empty, IsEnabled, Message}
 use Rattle.dpoc_process.specs.LocalStates.{LocalState, step_at}
-use Rattle.dpoc_process.specs.RoleSteps.{IsPrepared, IsStep}
+use Rattle.dpoc_process.specs.RoleSteps.{IsShown, IsStep}
+use Rattle.dpoc_process.specs.Shows.{message_shown}
 use Rattle.marked_laws.proofs.Premise.{Known}
 use Rattle.marked_laws.proofs.Shapes.{none_some, some_same}
 use Rattle.marked_laws.specs.Laws.{IsSound}
@@ -65,25 +65,22 @@ module _ (known : Known) (steps : OffersAreSteps) (shows : StepsShowTheirActs) (
   deed_own a given d P fits does = own_deeds known bundle sound v.seen q s.process s.store tied.stands a given d P fits
       (ap (λ p. step p s.store s.process a given) (sym tied.role) ∙ does)
 
-  module _ (k : Key) (p : Prepared) (prepared : IsPrepared s (act.Put k) p) where
-    abbrev put_is : (l : Load) × (P : Process) × (step_at s (act.Put k) Alone ≡ Does (Puts k l) P) × (option_map load p.payload ≡ Some l)
+  module _ (k : Key) (p : Shown) (prepared : IsShown s (act.Put k) p) where
+    abbrev pub put_is : (l : Load) × (P : Process) × (step_at s (act.Put k) Alone ≡ Does (Puts k l) P) × (message_shown p ≡ Some l)
+        × (p.entry ≡ Some (entry.Put k (noted l)))
     put_is = put_shown steps shows s k p prepared
 
     -- the message of a put is the role's
     pub put_mine : k.from ≡ q
     put_mine = some_same (deed_own (act.Put k) Alone (Puts k put_is.0) put_is.1 refl put_is.2)
 
-    payload_there : (o : Option Payload) (l : Load) → option_map load o ≡ Some l → IsSome o
-    payload_there None l h = absurd (none_some h)
-    payload_there (Some payload) l h = refl
-
     -- and it is there
-    pub put_sends : IsSome p.payload
-    put_sends = payload_there p.payload put_is.0 put_is.3
+    pub put_sends : IsSome (message_shown p)
+    put_sends = subst IsSome (sym put_is.3) refl
 
-    pub put_can : (payload : Payload) → p.payload ≡ Some payload → CanCommit v k.from (act.Put k) Alone (Puts k (load payload))
+    pub put_can : (payload : Payload) → message_shown p ≡ Some (load payload) → CanCommit v k.from (act.Put k) Alone (Puts k (load payload))
     put_can payload is =
-        let same : put_is.0 ≡ load payload = some_same (sym put_is.3 ∙ ap (option_map load) is) in
+        let same : put_is.0 ≡ load payload = some_same (sym put_is.3 ∙ is) in
         subst (λ l. CanCommit v k.from (act.Put k) Alone (Puts k l)) same
         (can_commit k.from (act.Put k) Alone (Puts k put_is.0) put_is.1 put_mine put_is.2)
 
@@ -95,7 +92,7 @@ module _ (known : Known) (steps : OffersAreSteps) (shows : StepsShowTheirActs) (
     put_leaves l w done local' stepped = moved_leaves bundle q v s tied role_fault w k.from (act.Put k) Alone (Puts k l) put_mine done local' stepped
 
     -- a put that was committed is the role's next step
-    pub put_committed : (payload : Payload) → p.payload ≡ Some payload → (w : View Entry Base) → Committed role_fault v w k.from (act.Put k) Alone (Puts k (load payload))
+    pub put_committed : (payload : Payload) → message_shown p ≡ Some (load payload) → (w : View Entry Base) → Committed role_fault v w k.from (act.Put k) Alone (Puts k (load payload))
         → IsCommitted bundle q v w s (act.Put k) came.Nothing
     put_committed payload is w done = record {
       enabled = put_enabled;
@@ -104,7 +101,7 @@ module _ (known : Known) (steps : OffersAreSteps) (shows : StepsShowTheirActs) (
       leaves = put_leaves (load payload) w done;
     }
 
-  module _ (k : Key) (p : Prepared) (prepared : IsPrepared s (act.Take k) p) where
+  module _ (k : Key) (p : Shown) (prepared : IsShown s (act.Take k) p) where
     -- what a role takes is to it
     pub take_mine : k.to ≡ q
     take_mine =
@@ -147,7 +144,7 @@ module _ (known : Known) (steps : OffersAreSteps) (shows : StepsShowTheirActs) (
       leaves = take_leaves (take_fault k) w (load payload) x done;
     }
 
-  module _ (a : Act) (p : Prepared) (prepared : IsPrepared s a p) (alone : is_alone a ≡ true) where
+  module _ (a : Act) (p : Shown) (prepared : IsShown s a p) (alone : is_alone a ≡ true) where
     -- what a role does alone it may commit
     pub alone_can : (e : Entry) → p.entry ≡ Some e → (act_of e ≡ Some a) × CanCommitOwn v e
     alone_can e is =

@@ -24,11 +24,12 @@ use Rattle.dioc_terms.specs.Stores.{Store}
 use Rattle.dioc_terms.specs.TermLaws.{MentionsAreRoles}
 use Rattle.dioc_terms.specs.Terms.{is_in, term}
 use Rattle.dpoc_process.proofs.ActingLemmas.{acting-single}
-use Rattle.dpoc_process.specs.declared.runs.Prepared.{Prepared}
+use Rattle.dpoc_process.specs.declared.runs.Shown.{Shown}
 use Rattle.dpoc_process.specs.Acting.{Lead, acting, acting_lead, lead_head, lead_of}
 use Rattle.dpoc_process.specs.Handed.{BookKeeps, BookReplaces}
 use Rattle.dpoc_process.specs.LocalStates.{LocalState}
-use Rattle.dpoc_process.specs.RoleSteps.{IsPrepared, IsStep}
+use Rattle.dpoc_process.specs.RoleSteps.{IsShown, IsStep}
+use Rattle.dpoc_process.specs.Shows.{head_shown}
 use Rattle.global_steps.specs.Follow.{TakesRule, book_choice, updated}
 use Rattle.marked_laws.proofs.Equality.{act_same, role_same}
 use Rattle.marked_laws.proofs.Extension.{extensions}
@@ -117,12 +118,12 @@ begin_keeps b H N M i r c runs more q = ⊎_elim by_role by_change (network_case
     by_change : ChangeStep (setting b) N (entry.Scope i r c) M → M.stores q ≡ N.stores q
     by_change s = ap (λ (L : Network). L.stores q) s.gives
 
-module _ (leaders : LeadersTell) (bundle : PlainBundle) (q : Role) (v : View Entry Base) (s : LocalState) (tied : IsTied bundle q v s) (i : Index) (p : Prepared)
-    (prepared : IsPrepared s (act.Scope i) p) where
+module _ (leaders : LeadersTell) (bundle : PlainBundle) (q : Role) (v : View Entry Base) (s : LocalState) (tied : IsTied bundle q v s) (i : Index) (p : Shown)
+    (prepared : IsShown s (act.Scope i) p) where
   pub led : (lead : Lead) × (acting_lead s (act.Scope i) ≡ Some lead)
   led = lead_there s (act.Scope i) refl prepared.can_act
 
-  pub head_there : IsSome p.head
+  pub head_there : IsSome (head_shown p)
   head_there = subst IsSome (sym (prepared.head ∙ ap (option_map lead_head) led.1)) refl
 
   -- the role in the network after what its seat has seen
@@ -135,7 +136,7 @@ module _ (leaders : LeadersTell) (bundle : PlainBundle) (q : Role) (v : View Ent
       (tells_run leaders bundle v.seen tied.stands.network tied.stands.runs q (act.Scope i) lead
       (ap (λ l. acting_lead l (act.Scope i)) local_there ∙ is))
 
-  module _ (head : ScopeHead) (is_head : p.head ≡ Some head) where
+  module _ (head : ScopeHead) (is_head : head_shown p ≡ Some head) where
     pub heads : (led.0).head ≡ head
     heads = some_same (sym (prepared.head ∙ ap (option_map lead_head) led.1) ∙ is_head)
 

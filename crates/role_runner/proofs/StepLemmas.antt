@@ -1,7 +1,6 @@
 -- What a role that stands in a run can do there: what it offers it can do, and each deed is its own.
 use Rattle.std.proofs.Common.{◌≡◌, ℕ, List, Bool, true, false, Option, Some, refl, sym, ap, ◌∙◌, subst}
 use Rattle.std.proofs.lemmas.Bool.{both_ways}
-use Rattle.std.specs.Prelude.{option_map}
 use Rattle.dioc_terms.specs.declared.entries.Act.{Act}
 use Rattle.dioc_terms.specs.declared.entries.Act.TheVariants as act
 use Rattle.dioc_terms.specs.declared.entries.Entry.{Entry}
@@ -14,11 +13,12 @@ use Rattle.dioc_terms.specs.declared.values.Value.TheVariants as value
 use Rattle.dioc_terms.specs.Attempts.{Attempt, Stuck, Does}
 use Rattle.dioc_terms.specs.Messages.{act_of, doer}
 use Rattle.dioc_terms.specs.Plain.{PlainBundle, setting}
-use Rattle.dioc_terms.specs.Processes.{Process, Load, Val, Flag, Keep, Done, load}
+use Rattle.dioc_terms.specs.Processes.{Process, Load, Val, Flag, Keep, Done, noted}
 use Rattle.dioc_terms.specs.Stores.{Store}
-use Rattle.dpoc_process.specs.declared.runs.Prepared.{Prepared}
+use Rattle.dpoc_process.specs.declared.runs.Shown.{Shown}
 use Rattle.dpoc_process.specs.LocalStates.{LocalState, offered, step_at}
-use Rattle.dpoc_process.specs.RoleSteps.{IsPrepared, entry_before, sent}
+use Rattle.dpoc_process.specs.RoleSteps.{IsShown, entry_before, sent}
+use Rattle.dpoc_process.specs.Shows.{message_shown}
 use Rattle.marked_laws.proofs.Networks.{after_deed, deed_outcome}
 use Rattle.marked_laws.proofs.Plays.{entry_doer}
 use Rattle.marked_laws.proofs.Premise.{Known}
@@ -174,19 +174,20 @@ module _ (known : Known) (b : PlainBundle) (sound : IsSound b) (H : List Entry) 
       ap doer did.entry ∙ entry_doer did.deed ∙ ap (λ (r : Role). Some r) did.who
 
 -- what is shown of a put before it is done: its message
-pub put_shown : OffersAreSteps → StepsShowTheirActs → (s : LocalState) (k : Key) (p : Prepared) → IsPrepared s (act.Put k) p
-    → (l : Load) × (P : Process) × (step_at s (act.Put k) Alone ≡ Does (Puts k l) P) × (option_map load p.payload ≡ Some l)
+pub put_shown : OffersAreSteps → StepsShowTheirActs → (s : LocalState) (k : Key) (p : Shown) → IsShown s (act.Put k) p
+    → (l : Load) × (P : Process) × (step_at s (act.Put k) Alone ≡ Does (Puts k l) P) × (message_shown p ≡ Some l) × (p.entry ≡ Some (entry.Put k (noted l)))
 put_shown steps shows s k p prepared =
     let did = deed_there (step_at s (act.Put k) Alone) (can_do steps s (act.Put k) prepared.can_act Alone refl) in
     let put = puts_key did.0 k (shows s.role s.store s.process (act.Put k) Alone did.0 did.1 did.2) in (
       put.0,
       did.1,
       did.2 ∙ ap (λ d. Does d did.1) put.1,
-      prepared.payload Alone did.0 did.1 did.2 ∙ ap sent put.1,
+      prepared.message Alone did.0 did.1 did.2 ∙ ap sent put.1,
+      prepared.entry Alone did.0 did.1 did.2 ∙ ap entry_before put.1,
     )
 
 -- what is shown of a take before it is done: its entry
-pub take_shown : OffersAreSteps → StepsShowTheirActs → (s : LocalState) (k : Key) (p : Prepared) → IsPrepared s (act.Take k) p
+pub take_shown : OffersAreSteps → StepsShowTheirActs → (s : LocalState) (k : Key) (p : Shown) → IsShown s (act.Take k) p
     → (x : Option (List ℕ)) × (p.entry ≡ Some (entry.Take k x))
 take_shown steps shows s k p prepared =
     let did = fitting_deed steps s (act.Take k) prepared.can_act in
@@ -194,14 +195,14 @@ take_shown steps shows s k p prepared =
     (take.0, prepared.entry (fitting (act.Take k)) did.0 did.1 did.2 ∙ ap entry_before take.2)
 
 -- whatever comes, the entry of the take is that
-pub take_entry : StepsShowTheirActs → (s : LocalState) (k : Key) (p : Prepared) → IsPrepared s (act.Take k) p → (x : Option (List ℕ)) → p.entry ≡ Some (entry.Take k x)
+pub take_entry : StepsShowTheirActs → (s : LocalState) (k : Key) (p : Shown) → IsShown s (act.Take k) p → (x : Option (List ℕ)) → p.entry ≡ Some (entry.Take k x)
     → (given : Given) (d : Deed) (P : Process) → step_at s (act.Take k) given ≡ Does d P → entry_of d ≡ entry.Take k x
 take_entry shows s k p prepared x is given d P does =
     let take = takes_key d k (shows s.role s.store s.process (act.Take k) given d P does) in
     ap entry_of take.2 ∙ some_same (ap entry_before (sym take.2) ∙ sym (prepared.entry given d P does) ∙ is)
 
 -- what is shown of what a role does alone
-pub record ShownAlone (s : LocalState) (a : Act) (p : Prepared) : Type 0 where
+pub record ShownAlone (s : LocalState) (a : Act) (p : Shown) : Type 0 where
   pub deed : Deed
   pub left : Process
   pub does : step_at s a Alone ≡ Does deed left
@@ -209,7 +210,7 @@ pub record ShownAlone (s : LocalState) (a : Act) (p : Prepared) : Type 0 where
   pub is_own : own_deed (entry_of deed) ≡ Some deed
   pub acts : act_of (entry_of deed) ≡ Some a
 
-pub alone_shown : OffersAreSteps → StepsShowTheirActs → (s : LocalState) (a : Act) (p : Prepared) → IsPrepared s a p → is_alone a ≡ true → ShownAlone s a p
+pub alone_shown : OffersAreSteps → StepsShowTheirActs → (s : LocalState) (a : Act) (p : Shown) → IsShown s a p → is_alone a ≡ true → ShownAlone s a p
 alone_shown steps shows s a p prepared alone =
     let did = deed_there (step_at s a Alone) (can_do steps s a prepared.can_act Alone (alone_fits a alone)) in
     let acts = shows s.role s.store s.process a Alone did.0 did.1 did.2 in
@@ -224,10 +225,10 @@ alone_shown steps shows s a p prepared alone =
     }
 
 -- the key of the entry of a take is that of its act
-pub take_key : OffersAreSteps → StepsShowTheirActs → (s : LocalState) (a : Act) (p : Prepared) → IsPrepared s a p → (k : Key) → a ≡ act.Take k
+pub take_key : OffersAreSteps → StepsShowTheirActs → (s : LocalState) (a : Act) (p : Shown) → IsShown s a p → (k : Key) → a ≡ act.Take k
     → (j : Key) (x : Option (List ℕ)) → p.entry ≡ Some (entry.Take j x) → a ≡ act.Take j
 take_key steps shows s a p prepared k is j x shown =
-    let take = take_shown steps shows s k p (subst (λ c. IsPrepared s c p) is prepared) in
+    let take = take_shown steps shows s k p (subst (λ c. IsShown s c p) is prepared) in
     is ∙ ap (λ i. act.Take i) (key_same (some_same (sym take.1 ∙ shown)))
   where
     key_same : {y x : Option (List ℕ)} → entry.Take k y ≡ entry.Take j x → k ≡ j

@@ -9,7 +9,7 @@ ghost use Rattle.dioc_terms.specs.declared.processes.Payload.{Payload as OnePayl
 ghost use Rattle.dioc_terms.specs.Plain.{plain};
 ghost use Rattle.flat_role.specs.FlatStates.{local_of, IsReady};
 ghost use Rattle.dpoc_process.specs.declared.runs.Got.TheVariants as got;
-ghost use Rattle.dpoc_process.specs.RoleSteps.{IsPrepared};
+ghost use Rattle.dpoc_process.specs.RoleSteps.{IsShown};
 ghost use Rattle.marked_laws.specs.Laws.{IsSound};
 ghost use Rattle.role_runner.specs.Acts.{is_alone, is_scope};
 ghost use Rattle.role_runner.specs.Ties.{IfRefused, IsCommitted, IsRefusedTry, IsTied, IsUncommitted, Leaves, is_not_yet};
@@ -21,7 +21,7 @@ ghost use Rattle.turn_lock.specs.Words.{view};
 use crate::actors::Actor;
 use crate::gates::{Gate, Place};
 use dioc_terms::{Act, Entry, Key, Payload};
-use dpoc_process::{Got, Prepared, Runs};
+use dpoc_process::{Got, Runs, Shown};
 use flat_role::FlatRole;
 use stage::{CommitFault, Home, Stage};
 use std::sync::Wait;
@@ -56,13 +56,13 @@ pub(crate) fn commit<R: Wait, G: Gate>(
     seat: Seat<Home>,
     state: &mut FlatRole,
     act: &Act,
-    prepared: Prepared,
+    shown: Shown,
 ) -> (Seat<Home>, Tried)
     requires sound { IsSound (plain actor.now.bundle.now) }
     requires of { IsSeatIn actor.now.stage.now seat }
     requires tied { IsTied (plain actor.now.bundle.now) actor.now.role.now (view seat)
         (local_of state.old) }
-    requires shown { IsPrepared (local_of state.old) act.now prepared }
+    requires shown { IsShown (local_of state.old) act.now shown }
     requires ready { IsReady state.old act.now }
     requires no_scope { is_scope act.now ≡ false }
     ensures of { IsSeatIn actor.now.stage.now result.0 }
@@ -71,7 +71,7 @@ pub(crate) fn commit<R: Wait, G: Gate>(
     ensures refused { IfRefused result.1 (IsRefusedTry act.now (view seat) (view result.0)
         (local_of state.old) (local_of state.new)) }
 {
-    let (seat, done) = on_stage(rt, actor, seat, state, act, prepared);
+    let (seat, done) = on_stage(rt, actor, seat, state, act, shown);
     match done {
         Ok(got) => {
             actor.gate.pass(rt, Place::AfterStep(actor.role));
@@ -90,13 +90,13 @@ fn on_stage<R: Wait, G: Gate>(
     seat: Seat<Home>,
     state: &FlatRole,
     act: &Act,
-    prepared: Prepared,
+    shown: Shown,
 ) -> (Seat<Home>, Result<Got, CommitFault>)
     requires sound { IsSound (plain actor.now.bundle.now) }
     requires of { IsSeatIn actor.now.stage.now seat }
     requires tied { IsTied (plain actor.now.bundle.now) actor.now.role.now (view seat)
         (local_of state.now) }
-    requires shown { IsPrepared (local_of state.now) act.now prepared }
+    requires shown { IsShown (local_of state.now) act.now shown }
     requires no_scope { is_scope act.now ≡ false }
     ensures of { IsSeatIn actor.now.stage.now result.0 }
     ensures done { IfOk result.1 (IsCommitted (plain actor.now.bundle.now) actor.now.role.now
@@ -109,16 +109,16 @@ fn on_stage<R: Wait, G: Gate>(
     process_steps::steps_show_their_acts();
     match act {
         Act::Put(_) => {
-            let (key, payload) = put_of(prepared);
+            let (key, payload) = shown.into_put();
             let (seat, done) = actor.stage.commit_put(rt, seat, key, payload);
             (seat, nothing(done))
         }
         Act::Take(_) => {
-            let (key, var) = entry_of(prepared).into_take();
+            let (key, var) = shown.into_entry().into_take();
             let (seat, done) = actor.stage.commit_take(rt, seat, &key, var);
             (seat, message(done))
         }
-        Act::Set(_) | Act::Input(_) | Act::Pick(_) => alone(rt, actor, seat, state, act, prepared),
+        Act::Set(_) | Act::Input(_) | Act::Pick(_) => alone(rt, actor, seat, state, act, shown),
         Act::Scope(_) => unreachable!(),
     }
 }
@@ -131,13 +131,13 @@ fn alone<R: Wait, G: Gate>(
     seat: Seat<Home>,
     state: &FlatRole,
     act: &Act,
-    prepared: Prepared,
+    shown: Shown,
 ) -> (Seat<Home>, Result<Got, CommitFault>)
     requires sound { IsSound (plain actor.now.bundle.now) }
     requires of { IsSeatIn actor.now.stage.now seat }
     requires tied { IsTied (plain actor.now.bundle.now) actor.now.role.now (view seat)
         (local_of state.now) }
-    requires shown { IsPrepared (local_of state.now) act.now prepared }
+    requires shown { IsShown (local_of state.now) act.now shown }
     requires alone { is_alone act.now ≡ true }
     ensures of { IsSeatIn actor.now.stage.now result.0 }
     ensures done { IfOk result.1 (IsCommitted (plain actor.now.bundle.now) actor.now.role.now
@@ -148,58 +148,9 @@ fn alone<R: Wait, G: Gate>(
     marked_laws::term_laws();
     process_steps::offers_are_steps();
     process_steps::steps_show_their_acts();
-    let entry = entry_of(prepared);
+    let entry = shown.into_entry();
     let (seat, done) = commit_alone(rt, actor.stage, seat, act, entry);
     (seat, nothing(done))
-}
-
-/// The key and the message of a put that was prepared; the rest is let go.
-fn put_of(prepared: Prepared) -> (Key, Payload)
-    requires put { (k : OneKey) × (prepared.act ≡ acts.Put k) }
-    requires sends { IsSome prepared.payload }
-    ensures key { prepared.act ≡ acts.Put result.0 }
-    ensures payload { prepared.payload ≡ Some result.1 }
-{
-    let Prepared {
-        act,
-        entry,
-        head,
-        payload,
-    } = prepared;
-    drop((entry, head));
-    let Act::Put(key) = act else { unreachable!() };
-    (key, sent(payload))
-}
-
-/// The message of a put.
-fn sent(payload: Option<Payload>) -> Payload
-    requires { IsSome payload }
-    ensures { payload ≡ Some result }
-{
-    payload.unwrap()
-}
-
-/// The entry of an act that was prepared and isn't a scope's; the rest is let go.
-fn entry_of(prepared: Prepared) -> Entry
-    requires { IsSome prepared.entry }
-    ensures { prepared.entry ≡ Some result }
-{
-    let Prepared {
-        act,
-        entry,
-        head,
-        payload,
-    } = prepared;
-    drop((act, head, payload));
-    shown(entry)
-}
-
-/// The entry of an act that isn't a scope's.
-fn shown(entry: Option<Entry>) -> Entry
-    requires { IsSome entry }
-    ensures { entry ≡ Some result }
-{
-    entry.unwrap()
 }
 
 /// What comes of a commit that brings nothing.

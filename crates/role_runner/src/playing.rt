@@ -4,7 +4,7 @@ ghost use Rattle.std.specs.Prelude.{◌≡◌, ◌<◌, [], false, true, None, I
 ghost use Rattle.dioc_terms.specs.Equality.{member};
 ghost use Rattle.dioc_terms.specs.Plain.{plain};
 ghost use Rattle.dpoc_process.specs.LocalStates.{offered};
-ghost use Rattle.dpoc_process.specs.RoleSteps.{IsPrepared};
+ghost use Rattle.dpoc_process.specs.RoleSteps.{IsShown};
 ghost use Rattle.flat_role.specs.FlatStates.{local_of, IsReady};
 ghost use Rattle.marked_laws.specs.Laws.{IsSound};
 ghost use Rattle.process_steps.specs.Steps.{is_offered};
@@ -20,7 +20,7 @@ use crate::actors::Actor;
 use crate::gates::{Gate, Place};
 use crate::scopes::begin;
 use dioc_terms::Act;
-use dpoc_process::{PrepareFault, Prepared, Runs};
+use dpoc_process::{PrepareFault, Runs, Shown};
 use flat_role::FlatRole;
 use net_core::opening_state;
 use stage::{CommitFault, Home, Why};
@@ -288,8 +288,8 @@ fn try_act<R: Wait, G: Gate>(
     ensures refused { IfRefused result.1 (IsRefusedTry act.now (view seat) (view result.0)
         (local_of state.old) (local_of state.new)) }
 {
-    match state.prepare(actor.alloc, act) {
-        Ok(prepared) => try_prepared(rt, actor, seat, state, act, prepared),
+    match state.prepare_act(actor.alloc, act) {
+        Ok(shown) => try_prepared(rt, actor, seat, state, act, shown),
         Err(PrepareFault::NoAct) => unreachable!(),
         Err(PrepareFault::Memory) => (seat, Tried::Refused(CommitFault::Memory)),
     }
@@ -306,8 +306,8 @@ fn try_listed<R: Wait, G: Gate>(
     requires can { CanPlay actor.now seat state.old }
     ensures left { Left actor.now seat result.0 result.1 state.new }
 {
-    match state.prepare(actor.alloc, act) {
-        Ok(prepared) => try_prepared(rt, actor, seat, state, act, prepared),
+    match state.prepare_act(actor.alloc, act) {
+        Ok(shown) => try_prepared(rt, actor, seat, state, act, shown),
         Err(PrepareFault::NoAct) => (seat, Tried::Done),
         Err(PrepareFault::Memory) => (seat, Tried::Refused(CommitFault::Memory)),
     }
@@ -320,10 +320,10 @@ fn try_prepared<R: Wait, G: Gate>(
     seat: Seat<Home>,
     state: &mut FlatRole,
     act: &Act,
-    prepared: Prepared,
+    shown: Shown,
 ) -> (Seat<Home>, Tried)
     requires can { CanPlay actor.now seat state.old }
-    requires shown { IsPrepared (local_of state.old) act.now prepared }
+    requires shown { IsShown (local_of state.old) act.now shown }
     requires ready { IsReady state.old act.now }
     ensures left { Left actor.now seat result.0 result.1 state.new }
     ensures refused { IfRefused result.1 (IsRefusedTry act.now (view seat) (view result.0)
@@ -332,8 +332,8 @@ fn try_prepared<R: Wait, G: Gate>(
     actor.gate.pass(rt, Place::BeforeStep(actor.role));
     match act {
         Act::Put(_) | Act::Take(_) | Act::Set(_) | Act::Input(_) | Act::Pick(_) => {
-            commit(rt, actor, seat, state, act, prepared)
+            commit(rt, actor, seat, state, act, shown)
         }
-        Act::Scope(_) => begin(rt, actor, seat, state, act, prepared),
+        Act::Scope(_) => begin(rt, actor, seat, state, act, shown),
     }
 }

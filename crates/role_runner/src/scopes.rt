@@ -9,7 +9,7 @@ ghost use Rattle.dioc_terms.specs.Rules.{Book};
 ghost use Rattle.dpoc_process.specs.Acting.{Lead, acting_lead};
 ghost use Rattle.dpoc_process.specs.Handed.{IsEnabled, Kept};
 ghost use Rattle.flat_role.specs.FlatStates.{local_of, IsReady};
-ghost use Rattle.dpoc_process.specs.RoleSteps.{IsPrepared, IsStep};
+ghost use Rattle.dpoc_process.specs.RoleSteps.{IsShown, IsStep};
 ghost use Rattle.marked_laws.specs.Laws.{IsSound};
 ghost use Rattle.net_core.specs.Scopes.{Tells};
 ghost use Rattle.role_runner.specs.Acts.{book_given};
@@ -22,7 +22,7 @@ use crate::acting::Tried;
 use crate::actors::Actor;
 use crate::gates::{Gate, Place};
 use dioc_terms::{Act, Bundle, Memory, Rule, ScopeHead};
-use dpoc_process::{Got, Prepared, Runs};
+use dpoc_process::{Got, Runs, Shown};
 use flat_role::FlatRole;
 use scope_leader::plan_update;
 use stage::Home;
@@ -36,14 +36,14 @@ pub(crate) fn begin<R: Wait, G: Gate>(
     seat: Seat<Home>,
     state: &mut FlatRole,
     act: &Act,
-    prepared: Prepared,
+    shown: Shown,
 ) -> (Seat<Home>, Tried)
     requires sound { IsSound (plain actor.now.bundle.now) }
     requires of { IsSeatIn actor.now.stage.now seat }
     requires tied { IsTied (plain actor.now.bundle.now) actor.now.role.now (view seat)
         (local_of state.old) }
     requires ready { IsReady state.old act.now }
-    requires shown { IsPrepared (local_of state.old) act.now prepared }
+    requires shown { IsShown (local_of state.old) act.now shown }
     requires scope { (i : OneIndex) × (act.now ≡ acts.Scope i) }
     ensures of { IsSeatIn actor.now.stage.now result.0 }
     ensures leaves { Leaves (plain actor.now.bundle.now) actor.now.role.now (view seat)
@@ -53,7 +53,7 @@ pub(crate) fn begin<R: Wait, G: Gate>(
 {
     scope_leader::leaders_tell();
     process_steps::offers_are_steps();
-    let head = prepared.into_head();
+    let head = shown.into_head();
     let (seat, done) = actor.stage.commit_scope(rt, seat, &head, state.store());
     match done {
         Ok(update) => {

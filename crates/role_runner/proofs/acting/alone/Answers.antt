@@ -14,20 +14,20 @@ use Rattle.stage.specs.Seats.{CommittedOwn, RefusedFor}
 use Rattle.turn_lock.specs.Words.{view}
 use Rattle.role_runner.proofs.acting.alone.Goals as goal
 
-pub entry_of-entry-requires : goal.entry_of-entry-requires
-entry_of-entry-requires g c =
+pub into_entry-entry-requires : goal.into_entry-entry-requires
+into_entry-entry-requires g c =
     alone_entry c.term_laws.ensures c.offers_are_steps.ensures c.steps_show_their_acts.ensures (plain c.args.actor.now.bundle.now) c.requires.sound c.args.actor.now.role.now (view c.args.seat) (local_of c.args.state.now) c.requires.tied
-    c.args.act.now c.args.prepared c.requires.shown c.requires.alone
+    c.args.act.now c.args.shown c.requires.shown c.requires.alone
 
 pub commit_alone-seat-requires-clause-shows : goal.commit_alone-seat-requires-clause-shows
 commit_alone-seat-requires-clause-shows g c =
     (alone_can c.term_laws.ensures c.offers_are_steps.ensures c.steps_show_their_acts.ensures (plain c.args.actor.now.bundle.now) c.requires.sound c.args.actor.now.role.now (view c.args.seat) (local_of c.args.state.now) c.requires.tied
-    c.args.act.now c.args.prepared c.requires.shown c.requires.alone c.entry_of-entry.result c.entry_of-entry.ensures).0
+    c.args.act.now c.args.shown c.requires.shown c.requires.alone c.into_entry-entry.result c.into_entry-entry.ensures).0
 
 pub commit_alone-seat-requires-clause-can : goal.commit_alone-seat-requires-clause-can
 commit_alone-seat-requires-clause-can g c =
     (alone_can c.term_laws.ensures c.offers_are_steps.ensures c.steps_show_their_acts.ensures (plain c.args.actor.now.bundle.now) c.requires.sound c.args.actor.now.role.now (view c.args.seat) (local_of c.args.state.now) c.requires.tied
-    c.args.act.now c.args.prepared c.requires.shown c.requires.alone c.entry_of-entry.result c.entry_of-entry.ensures).1
+    c.args.act.now c.args.shown c.requires.shown c.requires.alone c.into_entry-entry.result c.into_entry-entry.ensures).1
 
 pub returns-clause-done : goal.returns-clause-done
 returns-clause-done g c =
@@ -36,12 +36,12 @@ returns-clause-done g c =
     let s = local_of c.args.state.now in
     let v = view c.args.seat in
     let w = view c.commit_alone-seat.result.0 in
-    let entry = c.entry_of-entry.result in
+    let entry = c.into_entry-entry.result in
     ok_each (IsCommitted bundle q v w s c.args.act.now) c.nothing.result (λ came there.
     let both = if_ok_at (λ (x : GotValue). (x ≡ got.Nothing) × (c.commit_alone-seat.result.1 ≡ Ok tt)) c.nothing.result came c.nothing.ensures.done there in
     let done = if_ok_at (λ _. CommittedOwn role_fault v w entry) c.commit_alone-seat.result.1 tt c.commit_alone-seat.ensures.done both.1 in
     subst (IsCommitted bundle q v w s c.args.act.now) (sym both.0)
-    (alone_committed c.term_laws.ensures c.offers_are_steps.ensures c.steps_show_their_acts.ensures bundle c.requires.sound q v s c.requires.tied c.args.act.now c.args.prepared c.requires.shown c.requires.alone entry c.entry_of-entry.ensures w done))
+    (alone_committed c.term_laws.ensures c.offers_are_steps.ensures c.steps_show_their_acts.ensures bundle c.requires.sound q v s c.requires.tied c.args.act.now c.args.shown c.requires.shown c.requires.alone entry c.into_entry-entry.ensures w done))
 
 pub returns-clause-refused : goal.returns-clause-refused
 returns-clause-refused g c =
