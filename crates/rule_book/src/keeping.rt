@@ -9,7 +9,7 @@ ghost use Rattle.dioc_terms.specs.Plain.{plain_rule};
 ghost use Rattle.dioc_terms.specs.Rules.{opening_order};
 ghost use Rattle.rule_book.specs.Kept.{change_of, order_of, IsKept, AreKept, IsKeptChange};
 
-use crate::kept::{KeptChange, KeptRule};
+use crate::kept::{KeptChange, KeptRule, wanted_of};
 use dioc_terms::{Change, Items, Memory, Name, Rule, Timed, Value, conditions_join_nothing, roles};
 use indexmap::IndexMap;
 use std::alloc::Global;
@@ -100,11 +100,13 @@ fn keep_rule(alloc: Global, rules: &[Rule], number: u32) -> Result<(Name, KeptRu
     let roles = roles(alloc, &rule.body)?;
     let name = rule.name.copy(alloc)?;
     let cond = rule.cond.copy(alloc)?;
+    let wanted = wanted_of(alloc, &cond)?;
     let kept = KeptRule {
         number,
         priority: rule.priority,
         cond,
         roles,
+        wanted,
     };
     Ok((name, kept))
 }

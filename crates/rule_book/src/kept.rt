@@ -1,19 +1,22 @@
 //! What a book keeps of rules and of changes: copies, so that a change takes no memory and no body
 //! is walked again.
 
-ghost use Rattle.std.specs.Prelude.{◌≡◌, ◌&&◌, true, false, ℕ, List, nat_lt, int_lt};
+ghost use Rattle.std.specs.Prelude.{◌≡◌, ◌&&◌, true, false, ℕ, List, nat_lt, int_lt, IfOk};
 ghost use Rattle.std.specs.List.{list_all};
 ghost use Rattle.std.specs.Option.{option_map_or};
 ghost use Rattle.dioc_terms.specs.Conditions.{has_no_join};
 ghost use Rattle.dioc_terms.specs.Equality.{member, value_eq};
-ghost use Rattle.dioc_terms.specs.Expressions.{expression, Bin};
+ghost use Rattle.dioc_terms.specs.Expressions.{Expression, expression, Bin};
 ghost use Rattle.dioc_terms.specs.KeptStores.{store_of};
 ghost use Rattle.dioc_terms.specs.Stores.{Store as Stored};
 ghost use Rattle.limits.specs.Limits.{top_level};
 ghost use Rattle.dioc_terms.specs.Values.{bound, holds};
+ghost use Rattle.dioc_terms.specs.declared.values.Value.TheVariants as values;
+ghost use Rattle.rule_book.specs.Wanted.{IsWanted, IsWanted-prop};
 
-use dioc_terms::{Expr, Name, Oper, Role, Roles, ScopeHead, Store, Value, is_among, test};
+use dioc_terms::{Expr, Memory, Name, Oper, Role, Roles, ScopeHead, Store, Value, is_among, test};
 use limits::TOP_LEVEL;
+use std::alloc::Global;
 
 /// What a book keeps of a rule.
 pub struct KeptRule {
@@ -25,7 +28,10 @@ pub struct KeptRule {
     pub(crate) cond: Expr,
     /// The roles of its body.
     pub(crate) roles: Roles,
+    /// A property and the whole number that the condition asks of it, where it asks for one.
+    pub(crate) wanted: Option<(Name, i64)>,
     ghost no_join: { has_no_join (expression cond) ≡ true },
+    ghost asks: { IsWanted (expression cond) wanted } by { IsWanted-prop (expression cond) wanted },
 }
 
 impl Drop for KeptRule {
@@ -35,6 +41,7 @@ impl Drop for KeptRule {
             priority: _,
             cond: _,
             roles: _,
+            wanted: _,
         } = self;
     }
 }
@@ -59,7 +66,8 @@ impl KeptRule {
             && list_all (λ q. member q head.now.roles) self.now.roles
             && nat_lt head.now.level top_level) }
     {
-        !is_excluded(&self.cond, head.props.as_slice())
+        !lacks(&self.wanted, head.props.as_slice())
+            && !is_excluded(&self.cond, head.props.as_slice())
             && test(&self.cond, store, head.props.as_slice(), env)
             && are_among(self.roles.as_slice(), head.roles.as_slice())
             && head.level < TOP_LEVEL
@@ -74,6 +82,73 @@ impl KeptRule {
             Some((_, priority)) => priority < self.priority,
             None => true,
         }
+    }
+}
+
+/// A property and the whole number that a conjunct of the condition asks of it: the first that asks
+/// for one.
+pub(crate) fn wanted_of(alloc: Global, cond: &Expr) -> Result<Option<(Name, i64)>, Memory>
+    ensures { IfOk result (IsWanted (expression cond.now)) }
+{
+    match cond {
+        Expr::Bin(Oper::And, left, right) => match wanted_of(alloc, left)? {
+            Some(wanted) => Ok(Some(wanted)),
+            None => wanted_of(alloc, right),
+        },
+        Expr::Bin(Oper::Eq, left, right) => wanted_by(alloc, left, right),
+        _ => Ok(None),
+    }
+}
+
+/// The property and the whole number, where one of the two is a property and the other a whole
+/// number.
+fn wanted_by(alloc: Global, left: &Expr, right: &Expr) -> Result<Option<(Name, i64)>, Memory>
+    ensures { IfOk result
+        (IsWanted (Bin Oper.Eq (expression left.now) (expression right.now))) }
+{
+    match (left, right) {
+        (Expr::Prop(name), Expr::Const(Value::Int(number))) => {
+            Ok(Some((name.copy(alloc)?, *number)))
+        }
+        (Expr::Const(Value::Int(number)), Expr::Prop(name)) => {
+            Ok(Some((name.copy(alloc)?, *number)))
+        }
+        _ => Ok(None),
+    }
+}
+
+/// Whether the property is known not to be the whole number that is wanted. Of a property that is
+/// given twice it may leave the answer to the test of the condition.
+// (Most rules are for other scopes, and most properties that tell them apart are numbers: so this
+// is asked first, and costs least.)
+fn lacks(wanted: &Option<(Name, i64)>, props: &[(Name, Value)]) -> bool
+    ensures { (e : Expression) → IsWanted e wanted.now → result ≡ true
+        → (s : Stored) (env : List ℕ → Value) → holds e s (bound props.now) env ≡ false }
+{
+    match wanted {
+        Some((name, number)) => is_no_number(props, name, *number),
+        None => false,
+    }
+}
+
+/// Whether no property of that name has this number.
+fn is_no_number(props: &[(Name, Value)], name: &Name, number: i64) -> bool
+    ensures { result ≡ true → value_eq (bound props.now name.now) (values.Int number) ≡ false }
+{
+    for (key, held) in props {
+        if is_number(held, number) && key == name {
+            return false;
+        }
+    }
+    true
+}
+
+fn is_number(value: &Value, number: i64) -> bool
+    ensures { result ≡ value_eq value.now (values.Int number) }
+{
+    match value {
+        Value::Int(held) => *held == number,
+        _ => false,
     }
 }
 

@@ -30,6 +30,7 @@ invariant_of-kept c =
           ap has_no_join c.in_ok-cond.ensures
           ∙ c.conditions_join_nothing.ensures (expression rule.cond)
           (and_parts (is_condition (expression rule.cond)) (nat_le (expression_depth (expression rule.cond)) most_expression_depth) formed.condition).0;
+      asks = c.in_ok-wanted.ensures;
     }
 
 pub returns-clause-kept : goal.returns-clause-kept
