@@ -1,5 +1,5 @@
 -- The pieces of a written expression, byte by byte.
-use Rattle.std.specs.Prelude.{ℕ, Bool, true, false, List, [], ◌++◌, codes}
+use Rattle.std.specs.Prelude.{ℕ, Bool, List, [], ◌++◌, codes, if◌then◌else◌}
 use Rattle.dioc_terms.specs.Expressions.{Expression, Const, Var, Prop, Env, Not, Neg, Bin}
 use Rattle.aioc_tokens.specs.Spelling.{spelling}
 use Rattle.text_pieces.specs.declared.values.Minus.TheVariants.{Apart}
@@ -7,12 +7,10 @@ use Rattle.text_pieces.specs.Pieces.{value_text}
 use Rattle.expr_syntax.specs.Writing.{is_compound, operator_lexeme}
 
 abbrev pub opening_text : Bool → List ℕ
-opening_text true = codes "( "
-opening_text false = []
+opening_text compound = if compound then codes "( " else []
 
 abbrev pub closing_text : Bool → List ℕ
-closing_text true = codes " )"
-closing_text false = []
+closing_text compound = if compound then codes " )" else []
 
 abbrev pub expression_text : Expression → List ℕ
 expression_text (Const v) = value_text Apart v

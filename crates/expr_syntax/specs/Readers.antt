@@ -1,7 +1,7 @@
 -- What the readers of the levels answer.
 use Rattle.std.specs.Prelude.{◌≡◌, ℕ, ◌<◌, ◌≤◌, ◌^◌, List, length, drop, Option, Some, None, option_map, MatchOption}
 use Rattle.dioc_terms.specs.declared.expressions.Expr.{Expr}
-use Rattle.dioc_terms.specs.Expressions.{Expression, expression, expression_depth}
+use Rattle.dioc_terms.specs.Expressions.{Expression, Not, Neg, expression, expression_depth}
 use Rattle.aioc_tokens.specs.Lexemes.{Lexeme, sort_of}
 use Rattle.aioc_tokens.specs.Fronts.{Longest, NoFront}
 use Rattle.expr_syntax.specs.Constants.{constant}
@@ -11,6 +11,8 @@ use Rattle.expr_syntax.specs.declared.levels.Level.{Level}
 use Rattle.expr_syntax.specs.declared.places.Reader.{Reader}
 use Rattle.expr_syntax.specs.declared.places.Place.{Place}
 use Rattle.expr_syntax.specs.declared.readers.Found.{Found}
+use Rattle.expr_syntax.specs.declared.readers.Prefix.{Prefix}
+use Rattle.expr_syntax.specs.declared.readers.Prefix.TheVariants as prefixes
 
 -- what a reader of leaves answers: what stands at this place of the list, and the place behind it
 abbrev pub LeafAt : ExprKind → List Lexeme → ℕ → Option (Expr × ℕ) → Type 0
@@ -73,3 +75,8 @@ pub record FollowedBy (kind : ExprKind) (level : Level) (room deep : ℕ) (text 
       (expression found.expr) (drop found.at text)
   pub noted : IsNoted deep text found
   pub after : first.at ≤ found.at
+
+-- an operand with what stands before it
+abbrev pub prefixed : Prefix → Expression → Expression
+prefixed prefixes.Not inner = Not inner
+prefixed prefixes.Minus inner = Neg inner

@@ -11,6 +11,7 @@ ghost use Rattle.expr_syntax.specs.Readers.{LeafAt, ConstantLeafAt, MemberAt};
 
 use crate::constants::constant_at;
 use crate::levels::ExprKind;
+use crate::places::Reader;
 use aioc_tokens::{Lexed, Punctuator, Sort, Word};
 use dioc_terms::{Expr, Memory, Name};
 use std::alloc::Global;
@@ -33,105 +34,69 @@ pub fn is_number(text: &Lexed<'_>, at: usize) -> bool
     matches!(text.sort(at), Sort::Number)
 }
 
-fn variable_at(
-    alloc: Global,
-    text: &Lexed<'_>,
-    kind: ExprKind,
-    at: usize,
-) -> Result<Option<(Expr, usize)>, Memory>
-    requires sort { sort_of (drop at text.now) ≡ Sort.Name }
-    requires within { at < length text.now }
-    requires small { length text.now < 2 ^ 63 }
-    ensures { IfOk result (λ found. LeafAt kind text.now at found) }
+fn variable_at(reader: &Reader<'_>, at: usize) -> Result<Option<(Expr, usize)>, Memory>
+    requires sort { sort_of (drop at reader.now.text.now) ≡ Sort.Name }
+    requires within { at < length reader.now.text.now }
+    requires small { length reader.now.text.now < 2 ^ 63 }
+    ensures { IfOk result (λ found. LeafAt reader.now.kind reader.now.text.now at found) }
 {
-    let name = name_at(alloc, text, at)?;
+    let name = name_at(reader.alloc, reader.text, at)?;
     Ok(Some((Expr::Var(name), at + 1)))
 }
 
 /// Behind `N` or `E`: the name at a place of the text with a `.` before it, and the place behind
 /// it.
-fn member_at(alloc: Global, text: &Lexed<'_>, at: usize) -> Result<Option<(Name, usize)>, Memory>
+fn member_at(reader: &Reader<'_>, at: usize) -> Result<Option<(Name, usize)>, Memory>
     requires { at < 2 ^ 63 }
-    ensures { IfOk result (λ found. MemberAt text.now at found) }
+    ensures { IfOk result (λ found. MemberAt reader.now.text.now at found) }
 {
-    if !text.begins(at, &[Sort::Symbol(Punctuator::Dot), Sort::Name]) {
+    if !reader
+        .text
+        .begins(at, &[Sort::Symbol(Punctuator::Dot), Sort::Name])
+    {
         return Ok(None);
     }
-    let name = name_at(alloc, text, at + 1)?;
+    let name = name_at(reader.alloc, reader.text, at + 1)?;
     Ok(Some((name, at + 2)))
 }
 
-fn property_at(alloc: Global, text: &Lexed<'_>, at: usize) -> Result<Option<(Expr, usize)>, Memory>
-    requires sort { sort_of (drop at text.now) ≡ Sort.Reserved Word.N }
-    requires within { at < length text.now }
-    requires small { length text.now < 2 ^ 63 }
-    ensures { IfOk result (λ found. LeafAt ExprKind.Condition text.now at found) }
+fn constant_leaf_at(reader: &Reader<'_>, at: usize) -> Result<Option<(Expr, usize)>, Memory>
+    ensures { IfOk result (λ found. ConstantLeafAt reader.now.text.now at found) }
 {
-    match member_at(alloc, text, at + 1)? {
-        Some((name, next)) => Ok(Some((Expr::Prop(name), next))),
-        None => Ok(None),
-    }
-}
-
-fn key_at(alloc: Global, text: &Lexed<'_>, at: usize) -> Result<Option<(Expr, usize)>, Memory>
-    requires sort { sort_of (drop at text.now) ≡ Sort.Reserved Word.E }
-    requires within { at < length text.now }
-    requires small { length text.now < 2 ^ 63 }
-    ensures { IfOk result (λ found. LeafAt ExprKind.Condition text.now at found) }
-{
-    match member_at(alloc, text, at + 1)? {
-        Some((name, next)) => Ok(Some((Expr::Env(name), next))),
-        None => Ok(None),
-    }
-}
-
-fn constant_leaf_at(
-    alloc: Global,
-    text: &Lexed<'_>,
-    at: usize,
-) -> Result<Option<(Expr, usize)>, Memory>
-    ensures { IfOk result (λ found. ConstantLeafAt text.now at found) }
-{
-    match constant_at(alloc, text, at)? {
-        Some((value, next)) => Ok(Some((Expr::Const(value), next))),
-        None => Ok(None),
-    }
+    let found = constant_at(reader.alloc, reader.text, at)?;
+    Ok(found.map(|(value, next)| (Expr::Const(value), next)))
 }
 
 /// The leaf at a place of the text of a condition where a reserved word stands.
-fn word_leaf_at(
-    alloc: Global,
-    text: &Lexed<'_>,
-    at: usize,
-    word: Word,
-) -> Result<Option<(Expr, usize)>, Memory>
-    requires sort { sort_of (drop at text.now) ≡ Sort.Reserved word }
-    requires within { at < length text.now }
-    requires small { length text.now < 2 ^ 63 }
-    ensures { IfOk result (λ found. LeafAt ExprKind.Condition text.now at found) }
+fn word_leaf_at(reader: &Reader<'_>, at: usize, word: Word) -> Result<Option<(Expr, usize)>, Memory>
+    requires sort { sort_of (drop at reader.now.text.now) ≡ Sort.Reserved word }
+    requires within { at < length reader.now.text.now }
+    requires small { length reader.now.text.now < 2 ^ 63 }
+    ensures { IfOk result (λ found. LeafAt ExprKind.Condition reader.now.text.now at found) }
 {
     match word {
-        Word::N => property_at(alloc, text, at),
-        Word::E => key_at(alloc, text, at),
-        _ => constant_leaf_at(alloc, text, at),
+        Word::N => {
+            let property = member_at(reader, at + 1)?;
+            Ok(property.map(|(name, next)| (Expr::Prop(name), next)))
+        }
+        Word::E => {
+            let key = member_at(reader, at + 1)?;
+            Ok(key.map(|(name, next)| (Expr::Env(name), next)))
+        }
+        _ => constant_leaf_at(reader, at),
     }
 }
 
 /// The leaf at a place of the text, and the place behind it, or `None` where no leaf stands there.
-pub fn leaf_at(
-    alloc: Global,
-    text: &Lexed<'_>,
-    kind: ExprKind,
-    at: usize,
-) -> Result<Option<(Expr, usize)>, Memory>
-    ensures { IfOk result (λ found. LeafAt kind text.now at found) }
+pub fn leaf_at(reader: &Reader<'_>, at: usize) -> Result<Option<(Expr, usize)>, Memory>
+    ensures { IfOk result (λ found. LeafAt reader.now.kind reader.now.text.now at found) }
 {
-    match text.sort(at) {
-        Sort::Name => variable_at(alloc, text, kind, at),
-        Sort::Reserved(word) => match kind {
-            ExprKind::Step => constant_leaf_at(alloc, text, at),
-            ExprKind::Condition => word_leaf_at(alloc, text, at, word),
+    match reader.text.sort(at) {
+        Sort::Name => variable_at(reader, at),
+        Sort::Reserved(word) => match reader.kind {
+            ExprKind::Step => constant_leaf_at(reader, at),
+            ExprKind::Condition => word_leaf_at(reader, at, word),
         },
-        _ => constant_leaf_at(alloc, text, at),
+        _ => constant_leaf_at(reader, at),
     }
 }

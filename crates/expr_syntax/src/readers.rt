@@ -1,14 +1,14 @@
 //! The readers of the levels.
 
 ghost use Rattle.std.specs.Prelude.{◌≡◌, ◌≢◌, ◌≤◌, ◌<◌, ◌^◌, ◌+◌, ◌-◌, suc, max, drop, length, true, false, None, IfOk, IsTrue, ◌↔◌};
-ghost use Rattle.dioc_terms.specs.Expressions.{expression, Not, Neg, Bin};
+ghost use Rattle.dioc_terms.specs.Expressions.{expression, Bin};
 ghost use Rattle.aioc_tokens.specs.declared.words.Sort.{Sort};
 ghost use Rattle.aioc_tokens.specs.declared.words.Punctuator.{Punctuator};
 ghost use Rattle.aioc_tokens.specs.declared.words.Word.{Word};
 ghost use Rattle.aioc_tokens.specs.Lexemes.{sort_of};
 ghost use Rattle.expr_syntax.specs.Grammar.{begins_with_number};
 ghost use Rattle.expr_syntax.specs.Levels.{is_chain, is_inside, looseness, tighter};
-ghost use Rattle.expr_syntax.specs.Readers.{LevelAt, IsNoted, Finds, FollowedBy};
+ghost use Rattle.expr_syntax.specs.Readers.{prefixed, LevelAt, IsNoted, Finds, FollowedBy};
 ghost use Rattle.expr_syntax.specs.declared.levels.Level.{Level};
 
 use crate::leaves::{is_number, leaf_at};
@@ -50,34 +50,29 @@ fn two_sided(alloc: Global, oper: Oper, left: Found, right: Found) -> Result<Fou
     })
 }
 
-/// Behind a `not`.
-fn negation(alloc: Global, inner: Found) -> Result<Found, Memory>
-    requires { inner.depth < 2 ^ 64 - 1 }
-    ensures expr { IfOk result (λ found. expression found.expr ≡ Not (expression inner.expr)) }
-    ensures depth { IfOk result (λ found. found.depth ≡ suc inner.depth) }
-    ensures at { IfOk result (λ found. found.at ≡ inner.at) }
-    ensures behind { IfOk result (λ found. found.behind ≡ inner.behind) }
-{
-    let inside = new_box(alloc, inner.expr)?;
-    Ok(Found {
-        expr: Expr::Not(inside),
-        depth: inner.depth + 1,
-        at: inner.at,
-        behind: inner.behind,
-    })
+/// What may stand before an operand.
+#[derive(Clone, Copy)]
+pub enum Prefix {
+    Not,
+    Minus,
 }
 
-/// Behind a `-`.
-fn minus(alloc: Global, inner: Found) -> Result<Found, Memory>
+/// An operand with a `not` or a `-` before it.
+fn one_sided(alloc: Global, prefix: Prefix, inner: Found) -> Result<Found, Memory>
     requires { inner.depth < 2 ^ 64 - 1 }
-    ensures expr { IfOk result (λ found. expression found.expr ≡ Neg (expression inner.expr)) }
+    ensures expr { IfOk result (λ found. expression found.expr
+        ≡ prefixed prefix (expression inner.expr)) }
     ensures depth { IfOk result (λ found. found.depth ≡ suc inner.depth) }
     ensures at { IfOk result (λ found. found.at ≡ inner.at) }
     ensures behind { IfOk result (λ found. found.behind ≡ inner.behind) }
 {
     let inside = new_box(alloc, inner.expr)?;
+    let expr = match prefix {
+        Prefix::Not => Expr::Not(inside),
+        Prefix::Minus => Expr::Neg(inside),
+    };
     Ok(Found {
-        expr: Expr::Neg(inside),
+        expr,
         depth: inner.depth + 1,
         at: inner.at,
         behind: inner.behind,
@@ -129,7 +124,7 @@ fn shallow_leaf_at(reader: &Reader<'_>, place: Place) -> Result<Option<Found>, M
     if place.deep == 0 {
         return Ok(None);
     }
-    match leaf_at(reader.alloc, reader.text, reader.kind, place.at)? {
+    match leaf_at(reader, place.at)? {
         Some((expr, next)) => Ok(Some(Found {
             expr,
             depth: 1,
@@ -174,7 +169,7 @@ fn denied_at(reader: &Reader<'_>, level: Level, place: Place) -> Result<Option<F
     }
     match level_at(reader, Level::Negation, place.operand(place.at + 1))? {
         Some(inner) => {
-            let denied = negation(reader.alloc, inner)?;
+            let denied = one_sided(reader.alloc, Prefix::Not, inner)?;
             let whole = climb(reader, level, Level::Negation, place, denied)?;
             Ok(Some(whole))
         }
@@ -306,7 +301,7 @@ fn minus_at(reader: &Reader<'_>, place: Place) -> Result<Option<Found>, Memory>
     }
     match unary_at(reader, place.operand(place.at + 1))? {
         Some(inner) => {
-            let whole = minus(reader.alloc, inner)?;
+            let whole = one_sided(reader.alloc, Prefix::Minus, inner)?;
             Ok(Some(whole))
         }
         None => Ok(None),

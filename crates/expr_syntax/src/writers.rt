@@ -1,6 +1,6 @@
 //! Expressions as they are written.
 
-ghost use Rattle.std.specs.Prelude.{◌≡◌, ◌++◌, [], codes, OnOk, OnErr};
+ghost use Rattle.std.specs.Prelude.{◌≡◌, ◌++◌, [], codes, OnOk, OnErr, if◌then◌else◌};
 ghost use Rattle.dioc_terms.specs.Expressions.{expression};
 ghost use Rattle.aioc_tokens.specs.Spelling.{spelling, spelled};
 ghost use Rattle.text_pieces.specs.Pieces.{KeepsFront};
@@ -52,7 +52,7 @@ fn write_part(expr: &Expr, out: &mut Vec<u8>) -> Result<(), Memory>
             let compound = is_compound(inner);
             write_not(compound, out)?;
             write_part(inner, out)?;
-            write_closing(compound, out)
+            write_where(compound, b" )", out)
         }
         Expr::Neg(inner) => {
             write_bytes(b"- ( ", out)?;
@@ -62,11 +62,11 @@ fn write_part(expr: &Expr, out: &mut Vec<u8>) -> Result<(), Memory>
         Expr::Bin(oper, left, right) => {
             let left_compound = is_compound(left);
             let right_compound = is_compound(right);
-            write_opening(left_compound, out)?;
+            write_where(left_compound, b"( ", out)?;
             write_part(left, out)?;
             write_between(left_compound, *oper, right_compound, out)?;
             write_part(right, out)?;
-            write_closing(right_compound, out)
+            write_where(right_compound, b" )", out)
         }
     }
 }
@@ -100,23 +100,14 @@ fn write_not(compound: bool, out: &mut Vec<u8>) -> Result<(), Memory>
     }
 }
 
-fn write_opening(compound: bool, out: &mut Vec<u8>) -> Result<(), Memory>
-    ensures ok { OnOk result (out.new.items ≡ out.old.items ++ opening_text compound) }
+/// A bracket where it is wanted.
+fn write_where(wanted: bool, bracket: &[u8], out: &mut Vec<u8>) -> Result<(), Memory>
+    ensures ok { OnOk result (out.new.items ≡ out.old.items
+        ++ (if wanted then bracket.now else [])) }
     ensures memory { OnErr result (KeepsFront out.old.items out.new.items) }
 {
-    if compound {
-        write_bytes(b"( ", out)
-    } else {
-        Ok(())
-    }
-}
-
-fn write_closing(compound: bool, out: &mut Vec<u8>) -> Result<(), Memory>
-    ensures ok { OnOk result (out.new.items ≡ out.old.items ++ closing_text compound) }
-    ensures memory { OnErr result (KeepsFront out.old.items out.new.items) }
-{
-    if compound {
-        write_bytes(b" )", out)
+    if wanted {
+        write_bytes(bracket, out)
     } else {
         Ok(())
     }
@@ -155,9 +146,9 @@ fn write_between(
         ++ opening_text right_compound)) }
     ensures memory { OnErr result (KeepsFront out.old.items out.new.items) }
 {
-    write_closing(left_compound, out)?;
+    write_where(left_compound, b" )", out)?;
     write_bytes(b" ", out)?;
     write_bytes(operator_bytes(oper), out)?;
     write_bytes(b" ", out)?;
-    write_opening(right_compound, out)
+    write_where(right_compound, b"( ", out)
 }

@@ -6,7 +6,6 @@ use Rattle.aioc_tokens.proofs.Places.{one_more, symbol_at, reserved_at}
 use Rattle.expr_syntax.specs.Readers.{FoundAt, Finds}
 use Rattle.expr_syntax.specs.Grammar.{IsShallow}
 use Rattle.expr_syntax.specs.Levels.{tighter, operator, looseness}
-use Rattle.expr_syntax.specs.declared.readers.Found.{Found}
 use Rattle.expr_syntax.specs.declared.levels.Level.TheVariants.{Disjunction, Negation, Comparison, Sum, Unary}
 use Rattle.expr_syntax.proofs.LeafFacts.{if_ok, if_ok_four}
 use Rattle.expr_syntax.proofs.PlaceFacts.{at_place}
