@@ -2,7 +2,6 @@
 use Rattle.std.specs.Prelude.{[], ◌∷◌, ◌++◌, Some}
 use Rattle.expr_syntax.specs.Constants.{greatest}
 use Rattle.aioc_tokens.specs.declared.words.Word.TheVariants as word
-use Rattle.wanted_tokens.specs.declared.looks.PlaceWord.{PlaceWord}
 use Rattle.wanted_tokens.specs.declared.looks.PlaceWord.TheVariants as place
 use Rattle.wanted_tokens.specs.declared.looks.Look.{Look}
 use Rattle.wanted_tokens.specs.declared.looks.Look.TheVariants as looks
@@ -36,37 +35,32 @@ section_of items next =
     Takes (left_brace ∷ items ∷ right_brace ∷ next ∷ [])
 
 -- a section of a kind that may come any number of times, and the same sections behind it
-abbrev pub take_repeated : Goal → GoalEffect → PlaceWord → GoalEffect
-take_repeated next other place.Rules = section_of goal.Rules next
-take_repeated next other place.Env = section_of goal.Bindings next
-take_repeated next other place.Inputs = section_of goal.Inputs next
-take_repeated next other place.Script = section_of goal.Script next
+abbrev pub take_repeated : Goal → GoalEffect → Look → GoalEffect
+take_repeated next other (looks.Name (Some place.Rules)) = section_of goal.Rules next
+take_repeated next other (looks.Name (Some place.Env)) = section_of goal.Bindings next
+take_repeated next other (looks.Name (Some place.Inputs)) = section_of goal.Inputs next
+take_repeated next other (looks.Name (Some place.Script)) = section_of goal.Script next
 take_repeated next other _ = other
 
 -- a section of the trace, and what is wanted behind it; else what the other kinds are
-abbrev pub take_traced : Goal → Goal → GoalEffect → PlaceWord → GoalEffect
-take_traced next again other place.Trace = section_of goal.Lines next
-take_traced next again other word = take_repeated again other word
+abbrev pub take_traced : Goal → Goal → GoalEffect → Look → GoalEffect
+take_traced next again other (looks.Name (Some place.Trace)) = section_of goal.Lines next
+take_traced next again other look = take_repeated again other look
 
 -- sections, with one choreography and at most one trace
 abbrev pub sections : Look → GoalEffect
 sections (looks.Reserved word.Aioc) = Takes (block_goals ++ goal.LaterSections ∷ [])
-sections (looks.Name (Some word)) = take_traced goal.SectionsBehindTrace goal.Sections Stops word
-sections _ = Stops
+sections look = take_traced goal.SectionsBehindTrace goal.Sections Stops look
 
 abbrev pub sections_behind_trace : Look → GoalEffect
 sections_behind_trace (looks.Reserved word.Aioc) = Takes (block_goals ++ goal.LastSections ∷ [])
-sections_behind_trace (looks.Name (Some word)) = take_repeated goal.SectionsBehindTrace Stops word
-sections_behind_trace _ = Stops
+sections_behind_trace look = take_repeated goal.SectionsBehindTrace Stops look
 
 abbrev pub later_sections : Look → GoalEffect
-later_sections (looks.Name (Some word)) =
-    take_traced goal.LastSections goal.LaterSections Passes word
-later_sections _ = Passes
+later_sections look = take_traced goal.LastSections goal.LaterSections Passes look
 
 abbrev pub last_sections : Look → GoalEffect
-last_sections (looks.Name (Some word)) = take_repeated goal.LastSections Passes word
-last_sections _ = Passes
+last_sections look = take_repeated goal.LastSections Passes look
 
 -- bundle = [ "version" "2" ] section { section }
 abbrev pub bundle : Look → GoalEffect

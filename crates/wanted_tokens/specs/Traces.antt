@@ -45,11 +45,15 @@ take_lines (looks.Reserved word.Scope) =
     Takes (goal.Name ∷ index_goals ++ goal.Chosen ∷ goal.Lines ∷ [])
 take_lines _ = Passes
 
+-- an operation with what is wanted behind it, or a `!` with what is wanted behind that
+abbrev pub tag : List Goal → List Goal → Look → GoalEffect
+tag named auxiliary (looks.Name word) = Takes named
+tag named auxiliary (looks.Symbol punctuator.Bang) = Takes auxiliary
+tag named auxiliary _ = Stops
+
 -- an operation with its value, or an auxiliary tag with the payload that fits it
 abbrev pub tag_of_put : Look → GoalEffect
-tag_of_put (looks.Name word) = Takes (index_goals ++ equal ∷ goal.Value ∷ [])
-tag_of_put (looks.Symbol punctuator.Bang) = Takes (goal.AuxiliaryOfPut ∷ [])
-tag_of_put _ = Stops
+tag_of_put look = tag (index_goals ++ equal ∷ goal.Value ∷ []) (goal.AuxiliaryOfPut ∷ []) look
 
 abbrev pub auxiliary_word : PlaceWord → GoalEffect
 auxiliary_word place.Choice = Takes (index_goals ++ equal ∷ goal.Truth ∷ [])
@@ -72,9 +76,7 @@ begun _ = Stops
 
 -- an operation with its variable, or an auxiliary tag
 abbrev pub tag_of_take : Look → GoalEffect
-tag_of_take (looks.Name word) = Takes (index_goals ++ goal.Name ∷ [])
-tag_of_take (looks.Symbol punctuator.Bang) = Takes (goal.AuxiliaryOfTake ∷ [])
-tag_of_take _ = Stops
+tag_of_take look = tag (index_goals ++ goal.Name ∷ []) (goal.AuxiliaryOfTake ∷ []) look
 
 abbrev pub auxiliary_of_take : Look → GoalEffect
 auxiliary_of_take (looks.Name (Some place.Choice)) = Takes index_goals

@@ -74,26 +74,26 @@ pub fn script(look: Look) -> Taking
 
 /// A section of a kind that may come any number of times, and the goal behind it; else the other
 /// answer.
-fn repeated(behind: Goal, other: Taking, word: PlaceWord) -> Taking
-    ensures { effect result ≡ take_repeated behind (effect other) word }
+fn repeated(behind: Goal, other: Taking, look: Look) -> Taking
+    ensures { effect result ≡ take_repeated behind (effect other) look }
 {
-    match word {
-        PlaceWord::Rules => takes_before(RULES.as_slice(), behind),
-        PlaceWord::Env => takes_before(BINDINGS.as_slice(), behind),
-        PlaceWord::Inputs => takes_before(INPUTS.as_slice(), behind),
-        PlaceWord::Script => takes_before(SCRIPT.as_slice(), behind),
+    match look {
+        Look::Name(Some(PlaceWord::Rules)) => takes_before(RULES.as_slice(), behind),
+        Look::Name(Some(PlaceWord::Env)) => takes_before(BINDINGS.as_slice(), behind),
+        Look::Name(Some(PlaceWord::Inputs)) => takes_before(INPUTS.as_slice(), behind),
+        Look::Name(Some(PlaceWord::Script)) => takes_before(SCRIPT.as_slice(), behind),
         _ => other,
     }
 }
 
 /// A section of a trace, and the goal behind it; else one of another kind, and the same goal behind
 /// that; else the other answer.
-fn traced(behind: Goal, same: Goal, other: Taking, word: PlaceWord) -> Taking
-    ensures { effect result ≡ take_traced behind same (effect other) word }
+fn traced(behind: Goal, same: Goal, other: Taking, look: Look) -> Taking
+    ensures { effect result ≡ take_traced behind same (effect other) look }
 {
-    match word {
-        PlaceWord::Trace => takes_before(LINES.as_slice(), behind),
-        _ => repeated(same, other, word),
+    match look {
+        Look::Name(Some(PlaceWord::Trace)) => takes_before(LINES.as_slice(), behind),
+        _ => repeated(same, other, look),
     }
 }
 
@@ -103,15 +103,12 @@ pub fn sections(look: Look) -> Taking
 {
     match look {
         Look::Reserved(Word::Aioc) => takes_before(BLOCK.as_slice(), Goal::LaterSections),
-        Look::Name(Some(word)) => {
-            traced(
-                Goal::SectionsBehindTrace,
-                Goal::Sections,
-                Taking::Stops,
-                word,
-            )
-        }
-        _ => Taking::Stops,
+        _ => traced(
+            Goal::SectionsBehindTrace,
+            Goal::Sections,
+            Taking::Stops,
+            look,
+        ),
     }
 }
 
@@ -121,8 +118,7 @@ pub fn sections_behind_trace(look: Look) -> Taking
 {
     match look {
         Look::Reserved(Word::Aioc) => takes_before(BLOCK.as_slice(), Goal::LastSections),
-        Look::Name(Some(word)) => repeated(Goal::SectionsBehindTrace, Taking::Stops, word),
-        _ => Taking::Stops,
+        _ => repeated(Goal::SectionsBehindTrace, Taking::Stops, look),
     }
 }
 
@@ -130,27 +126,19 @@ pub fn sections_behind_trace(look: Look) -> Taking
 pub fn later_sections(look: Look) -> Taking
     ensures { effect result ≡ later_sections look }
 {
-    match look {
-        Look::Name(Some(word)) => {
-            traced(
-                Goal::LastSections,
-                Goal::LaterSections,
-                Taking::Passes,
-                word,
-            )
-        }
-        _ => Taking::Passes,
-    }
+    traced(
+        Goal::LastSections,
+        Goal::LaterSections,
+        Taking::Passes,
+        look,
+    )
 }
 
 /// Sections behind a choreography and a trace, or none.
 pub fn last_sections(look: Look) -> Taking
     ensures { effect result ≡ last_sections look }
 {
-    match look {
-        Look::Name(Some(word)) => repeated(Goal::LastSections, Taking::Passes, word),
-        _ => Taking::Passes,
-    }
+    repeated(Goal::LastSections, Taking::Passes, look)
 }
 
 /// The version of a bundle and its sections.

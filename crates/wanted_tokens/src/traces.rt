@@ -2,7 +2,7 @@
 
 ghost use Rattle.std.specs.Prelude.{◌≡◌};
 ghost use Rattle.wanted_tokens.specs.Takings.{effect};
-ghost use Rattle.wanted_tokens.specs.Traces.{name_line, take_lines, tag_of_put, auxiliary_word, auxiliary_of_put, begun, tag_of_take, auxiliary_of_take, chosen};
+ghost use Rattle.wanted_tokens.specs.Traces.{name_line, take_lines, tag, tag_of_put, auxiliary_word, auxiliary_of_put, begun, tag_of_take, auxiliary_of_take, chosen};
 
 use crate::goals::Goal::{self, Name, Truth, Value};
 use crate::goals::{A_NAME, ARROW, AT, BOUND, DOT, EQUAL, HASH};
@@ -90,15 +90,22 @@ pub fn lines(look: Look) -> Taking
     }
 }
 
+/// A tag: the operation of a message, with what follows it, or an auxiliary one.
+fn tag(named: &'static [Goal], auxiliary: &'static [Goal], look: Look) -> Taking
+    ensures { effect result ≡ tag named.now auxiliary.now look }
+{
+    match look {
+        Look::Name(_) => takes(named),
+        Look::Symbol(Punctuator::Bang) => takes(auxiliary),
+        _ => Taking::Stops,
+    }
+}
+
 /// The tag of a put, with its payload.
 pub fn tag_of_put(look: Look) -> Taking
     ensures { effect result ≡ tag_of_put look }
 {
-    match look {
-        Look::Name(_) => takes(VALUED.as_slice()),
-        Look::Symbol(Punctuator::Bang) => takes(AUXILIARY_OF_PUT.as_slice()),
-        _ => Taking::Stops,
-    }
+    tag(VALUED.as_slice(), AUXILIARY_OF_PUT.as_slice(), look)
 }
 
 /// The word of an auxiliary tag of a put, with the payload that fits it.
@@ -138,11 +145,7 @@ pub fn begun(look: Look) -> Taking
 pub fn tag_of_take(look: Look) -> Taking
     ensures { effect result ≡ tag_of_take look }
 {
-    match look {
-        Look::Name(_) => takes(NAMED.as_slice()),
-        Look::Symbol(Punctuator::Bang) => takes(AUXILIARY_OF_TAKE.as_slice()),
-        _ => Taking::Stops,
-    }
+    tag(NAMED.as_slice(), AUXILIARY_OF_TAKE.as_slice(), look)
 }
 
 /// An auxiliary tag of a take.
