@@ -16,6 +16,9 @@ use aioc_tokens::{Lexed, Punctuator, Sort, Word};
 use dioc_terms::{Expr, Memory, Name};
 use std::alloc::Global;
 
+/// `. x`
+const MEMBER: [Sort; 2] = [Sort::Symbol(Punctuator::Dot), Sort::Name];
+
 /// The name at a place of the text, which the caller knows to be one. The error says that memory
 /// ran out.
 pub fn name_at(alloc: Global, text: &Lexed<'_>, at: usize) -> Result<Name, Memory>
@@ -50,10 +53,7 @@ fn member_at(reader: &Reader<'_>, at: usize) -> Result<Option<(Name, usize)>, Me
     requires { at < 2 ^ 63 }
     ensures { IfOk result (λ found. MemberAt reader.now.text.now at found) }
 {
-    if !reader
-        .text
-        .begins(at, &[Sort::Symbol(Punctuator::Dot), Sort::Name])
-    {
+    if !reader.text.begins(at, &MEMBER) {
         return Ok(None);
     }
     let name = name_at(reader.alloc, reader.text, at + 1)?;
