@@ -15,3 +15,4 @@ pub mod Every
 pub mod Readings
 pub mod Places
 pub mod SortPlaces
+pub mod FirstCodes

@@ -1,13 +1,20 @@
 -- The longest symbol of at most two bytes.
 use Rattle.std.specs.Prelude.{MatchOption}
-use Rattle.std.proofs.Common.{◌≡◌, ℕ, zero, suc, ◌<◌, ◌≤◌, true, List, [], ◌∷◌, length, get_or, take, Option, Some, None, is_some, refl, ap, sym, ◌∙◌, subst, arith, length-take-le}
+use Rattle.std.specs.Option.{option_map_or}
+use Rattle.std.proofs.Common.{◌≡◌, ℕ, zero, suc, ◌<◌, ◌≤◌, ◌⊎◌, inl, inr, true, List, [], ◌∷◌, length, get_or, take, Option, Some, None, is_some, refl, ap, sym, ◌∙◌, subst, arith, length-take-le}
+use Rattle.std.proofs.lemmas.Bool.{cases_lt}
 use Rattle.aioc_tokens.specs.declared.kinds.Kind.TheVariants.{Symbol}
 use Rattle.aioc_tokens.specs.declared.words.Punctuator.{Punctuator}
+use Rattle.aioc_tokens.specs.declared.words.Sort.{Sort}
 use Rattle.aioc_tokens.specs.declared.words.Punctuator.TheVariants.{LeftBrace, RightBrace}
 use Rattle.aioc_tokens.specs.Words.{punctuator_spelling, punctuator_of, longer_of, longest_symbol}
 use Rattle.aioc_tokens.specs.Tokens.{IsFront, IsLongestToken, BeginsComment}
-use Rattle.aioc_tokens.specs.Packed.{IsSymbolAt}
+use Rattle.aioc_tokens.specs.Lexemes.{Long, sort_of}
+use Rattle.aioc_tokens.specs.Lexemes as lexemes
+use Rattle.aioc_tokens.specs.Packed.{IsSymbolAt, IsSortedToken}
+use Rattle.aioc_tokens.specs.FirstBytes.{IsLone}
 use Rattle.aioc_tokens.proofs.Firsts.{front_first, same_kind}
+use Rattle.aioc_tokens.proofs.Runs.{no_comment_by}
 use Rattle.aioc_tokens.proofs.Spellings.{punctuator_found, punctuator_of_spelled}
 
 pub punctuator_short : (punctuator : Punctuator) → length (punctuator_spelling punctuator) ≤ 2
@@ -114,3 +121,18 @@ longest_at text no_comment more = by_pair (punctuator_of (get_or text 0 0 ∷ ge
     by_pair : (pair : Option Punctuator) → punctuator_of (get_or text 0 0 ∷ get_or text 1 0 ∷ []) ≡ pair → FoundIn text (longer_of pair (punctuator_of (get_or text 0 0 ∷ [])))
     by_pair (Some punctuator) is = pair_at text no_comment punctuator more is
     by_pair None is = by_lone (no_pair_at text more is) (punctuator_of (get_or text 0 0 ∷ [])) refl
+
+-- a symbol of one byte that begins no longer one, and no comment, is the token at the front
+pub lone_token : (text : List ℕ) → 0 < length text → (sort : Sort) → IsLone (get_or text 0 0) sort → IsSortedToken text sort 1
+lone_token text some sort lone =
+    let no_comment : ¬ BeginsComment text = no_comment_by text lone.no_slash in
+    let found : IsSymbolAt text lone.punctuator 1 = lone_at text no_comment lone.punctuator some (no_two (cases_lt 1 (length text))) lone.known in
+    record {
+      kind = Symbol;
+      token = found.token;
+      sort_is = lone.sort_is ∙ ap (λ known. sort_of (option_map_or lexemes.Symbol known Long ∷ [])) (sym found.known);
+    }
+  where
+    no_two : (1 < length text) ⊎ (length text ≤ 1) → IsFront text Symbol 2 → ⊥
+    no_two (inl more) = no_pair_at text more (lone.no_pair (get_or text 1 0))
+    no_two (inr short) = short_for_pair text short

@@ -5,5 +5,6 @@ pub mod Lexing
 pub mod Lexemes
 pub mod Fronts
 pub mod Packed
+pub mod FirstBytes
 pub mod Spelling
 pub mod Laws

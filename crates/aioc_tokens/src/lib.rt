@@ -6,6 +6,7 @@
 //! values of texts. `laws` has what holds of every text.
 #![tactic(auto)]
 
+mod first_bytes;
 mod kinds;
 pub mod laws;
 mod packed;

@@ -7,8 +7,9 @@ ghost use Rattle.aioc_tokens.specs.Tokens.{is_space, BeginsComment, IsFront};
 ghost use Rattle.aioc_tokens.specs.Lexing.{Breaks};
 ghost use Rattle.aioc_tokens.specs.Packed.{ArePacked, IsSortedToken, IsSymbolAt, HasNoToken, StandsInFront};
 
+use crate::first_bytes::{First, first_of};
 use crate::kinds::TokenFault;
-use crate::scan::{begins_comment, is_space, line_length, name_length, number_length, text_length};
+use crate::scan::{begins_comment, line_length, name_length, number_length, text_length};
 use crate::sort_byte::SortByte;
 use crate::view::{name_sort, text_sort};
 use crate::words::{Punctuator, Sort, lone_punctuator, longest_symbol};
@@ -110,23 +111,15 @@ fn in_front(text: &[u8]) -> Front
     requires { 0 < length text.now }
     ensures { StandsInFront text.now result }
 {
-    let first = text[0];
-    if first.is_ascii_alphabetic() {
-        return name_in_front(text);
+    match first_of(text[0]) {
+        First::Name => name_in_front(text),
+        First::Space => Front::Blank(1),
+        First::Number => number_in_front(text),
+        First::Text => text_in_front(text),
+        First::Lone(sort) => Front::Token(sort, 1),
+        First::Rest if begins_comment(text) => Front::Blank(line_length(text)),
+        First::Rest => symbol_in_front(text),
     }
-    if is_space(first) {
-        return Front::Blank(1);
-    }
-    if first.is_ascii_digit() {
-        return number_in_front(text);
-    }
-    if first == b'"' {
-        return text_in_front(text);
-    }
-    if begins_comment(text) {
-        return Front::Blank(line_length(text));
-    }
-    symbol_in_front(text)
 }
 
 /// The tokens of a text, packed, in one pass over its bytes: `tokens` with `sorts`, in 5 bytes a

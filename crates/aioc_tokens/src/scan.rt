@@ -7,20 +7,15 @@ ghost use Rattle.aioc_tokens.specs.declared.kinds.Kind.{Kind};
 ghost use Rattle.aioc_tokens.specs.Tokens.{is_space, is_name_byte, is_printable, needs_pair, line_length, BeginsComment, IsBlank, IsFront, IsLongestToken};
 ghost use Rattle.aioc_tokens.specs.Lexing.{Lexes, Breaks, InOrder};
 
+use crate::first_bytes::is_name_byte;
 use crate::kinds::{Kind, Token, TokenFault};
 use crate::words::find_punctuator;
 use std::alloc::Global;
 
-pub(crate) fn is_space(byte: u8) -> bool
+fn is_space(byte: u8) -> bool
     ensures { result ≡ is_space byte }
 {
     matches!(byte, b' ' | b'\t' | b'\n' | b'\r')
-}
-
-fn is_name_byte(byte: u8) -> bool
-    ensures { result ≡ is_name_byte byte }
-{
-    byte.is_ascii_alphanumeric() || byte == b'_'
 }
 
 fn is_printable(byte: u8) -> bool

@@ -102,6 +102,14 @@ fn byte_of(sort: Sort) -> u8
 }
 
 impl SortByte {
+    /// What this byte stands for.
+    pub(crate) fn from_byte(byte: u8) -> SortByte
+        requires { byte < 52 }
+        ensures { result ≡ sort_at byte }
+    {
+        SortByte { byte }
+    }
+
     /// The byte of a sort.
     pub fn of(sort: Sort) -> SortByte
         ensures { result ≡ sort }
