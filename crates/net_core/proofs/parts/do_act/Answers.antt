@@ -9,7 +9,7 @@ finish-requires-clause-tells g c =
     subst (λ (s : LocalState). Tells c.args.fixed.now.cast.now s c.args.asked.act.now)
     (sym c.prepare_at.ensures.same) c.requires.tells
 
-pub finish-requires-in-Ok-into_shown-clause-tells : goal.finish-requires-in-Ok-into_shown-clause-tells
-finish-requires-in-Ok-into_shown-clause-tells g c =
+pub finish-requires-in-Ok-prepare_act-clause-tells : goal.finish-requires-in-Ok-prepare_act-clause-tells
+finish-requires-in-Ok-prepare_act-clause-tells g c =
     subst (λ (s : LocalState). Tells c.args.fixed.now.cast.now s c.args.asked.act.now)
-    (sym c.prepare.ensures.same) c.requires.tells
+    (sym c.prepare_act.ensures.same) c.requires.tells
