@@ -1,6 +1,11 @@
 -- Places of a text where choreographies are read.
 use Rattle.std.specs.Prelude.{ℕ, ◌+◌, ◌-◌}
+use Rattle.limits.specs.Limits.{most_depth}
 use Rattle.dioc_syntax.specs.declared.places.Place.{Place}
+
+-- where a whole choreography begins: nothing of it stands before it
+abbrev pub front : ℕ → ℕ → Place
+front at room = record { at = at; room = room; deep = most_depth; earlier = 0 }
 
 -- behind the bracket that opens at a place: one bracket fewer may be open at once
 abbrev pub inside : Place → Place

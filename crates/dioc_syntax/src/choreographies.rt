@@ -13,7 +13,7 @@ use crate::places::{Place, Reader};
 use crate::readers::choreo_at;
 use aioc_tokens::{Lexed, Token, place};
 use dioc_terms::{Choreo, SyntaxFault};
-use limits::{MOST_BRACKETS, MOST_DEPTH};
+use limits::MOST_BRACKETS;
 use std::alloc::Global;
 
 /// Reads the longest choreography of this version of the grammar at a place of a text whose tokens
@@ -47,13 +47,7 @@ pub fn read_choreo(
         text: &text,
         version,
     };
-    let front = Place {
-        at,
-        room: MOST_BRACKETS,
-        deep: MOST_DEPTH,
-        earlier: 0,
-    };
-    match choreo_at(&reader, front)? {
+    match choreo_at(&reader, Place::front(at, MOST_BRACKETS))? {
         Some(found) => Ok((Box::into_inner(found.choreo), found.at)),
         None => Err(SyntaxFault::Syntax(place(bytes, tokens, at))),
     }

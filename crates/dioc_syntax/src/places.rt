@@ -1,9 +1,10 @@
 //! What stays the same while a choreography is read, and the places where its parts are read.
 
 ghost use Rattle.std.specs.Prelude.{◌≡◌, ◌<◌, ◌^◌};
-ghost use Rattle.dioc_syntax.specs.Places.{inside, behind, part};
+ghost use Rattle.dioc_syntax.specs.Places.{front, inside, behind, part};
 
 use aioc_tokens::Lexed;
+use limits::MOST_DEPTH;
 use std::alloc::Global;
 
 /// What stays the same while a choreography is read.
@@ -29,6 +30,18 @@ pub struct Place {
 }
 
 impl Place {
+    /// The place where a whole choreography begins: nothing of it stands before it.
+    pub fn front(at: usize, room: usize) -> Place
+        ensures { result ≡ front at room }
+    {
+        Place {
+            at,
+            room,
+            deep: MOST_DEPTH,
+            earlier: 0,
+        }
+    }
+
     /// The place behind the bracket that opens here.
     pub fn inside(self) -> Place
         requires some { 0 < self.room }

@@ -1,4 +1,4 @@
-use Rattle.std.proofs.Common.{◌+◌, ◌-◌, sym, ap, ◌∙◌, subst, arith, rules, drop}
+use Rattle.std.proofs.Common.{◌+◌, sym, ap, ◌∙◌, subst, arith, rules, drop}
 use Rattle.dioc_terms.specs.Terms.{Skip, term}
 use Rattle.dioc_syntax.specs.declared.places.Place.{Place}
 use Rattle.aioc_tokens.specs.declared.words.Sort.TheVariants as sorts
