@@ -1,5 +1,6 @@
 -- What is made ready at a place is what another process there needs.
 use Rattle.std.proofs.Common.{◌≡◌, List, Option, Some, true, refl, sym, subst, ap, ◌∙◌}
+use Rattle.std.specs.Global.{Box}
 use Rattle.dioc_terms.specs.declared.names.Index.{Index}
 use Rattle.dioc_terms.specs.declared.names.Role.{Role}
 use Rattle.dioc_terms.specs.declared.processes.Key.{Key}
@@ -79,8 +80,8 @@ tells_room me k l ms room {left} role is rest = record {
 }
 
 -- room that was made for this is room for it
-pub made_for : (me : Role) (R : Process) (w : What) (o : Option Room)
+pub made_for : (me : Role) (R : Process) (w : What) (o : Option (Box Room))
     → ((room : Room) → room.me.value ≡ me → room.what ≡ w → IsRoom me R room)
-    → (made : Room) × (o ≡ Some made) × (made.what ≡ w) × (made.me.value ≡ me)
+    → (made : Box Room) × (o ≡ Some made) × (made.value.what ≡ w) × (made.value.me.value ≡ me)
     → IsRoomFor me R o
-made_for me R w o is made = subst (IsRoomFor me R) (sym made.1) (is made.0 made.3 made.2)
+made_for me R w o is made = subst (IsRoomFor me R) (sym made.1) (is made.0.value made.3 made.2)

@@ -1,6 +1,7 @@
 -- What is seen of an update is what it keeps.
 use Rattle.std.proofs.Common.{◌≡◌, ◌<◌, ◌+◌, ℕ, arith, ⊎_elim, Bool, Option, None, Some, true, false, sym, ap, ◌∙◌, subst, refl}
 use Rattle.std.specs.Option.{is_some}
+use Rattle.std.specs.Global.{Box}
 use Rattle.std.specs.Prelude.{option_map}
 use Rattle.std.proofs.lemmas.Bool.{cases_lt}
 use Rattle.dioc_terms.specs.declared.names.Role.{Role}
@@ -85,8 +86,8 @@ more_fail p n before here k below = ⊎_elim (λ less. before k less)
     subst (λ i. p i ≡ false) same here)
     (cases_lt k n)
 
-pub room_mine : (b : Bool) (me : Role) (R : Process) (o : Option Room) → IsRoomWhen b me R o
-    → IfSome o (λ room. room.me.value ≡ me)
+pub room_mine : (b : Bool) (me : Role) (R : Process) (o : Option (Box Room)) → IsRoomWhen b me R o
+    → IfSome o (λ room. room.value.me.value ≡ me)
 room_mine b me R None is = tt
 room_mine true me R (Some room) is = is.role
 room_mine false me R (Some room) is = cc

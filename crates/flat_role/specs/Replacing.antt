@@ -1,6 +1,7 @@
 -- A place in which another process comes: a scope that an update replaces, and a tell once its
 -- first message is put.
-use Rattle.std.specs.Prelude.{◌≡◌, Bool, true, false, Option, None, Some}
+use Rattle.std.specs.Prelude.{◌≡◌, Bool, true, false, Option, None, Some, Box}
+use Rattle.std.specs.Global.{Global}
 use Rattle.dioc_terms.specs.declared.names.Role.{Role}
 use Rattle.dioc_terms.specs.Processes.{Process, Skip, ScopeLead, ScopeFollow, Tell, More, Part, letters, process}
 use Rattle.dpoc_process.specs.Growth.{follower_end, leader_end}
@@ -54,11 +55,11 @@ pub record IsRoom (me : Role) (R : Process) (room : Room) : Type 0 where
   pub when : (h : Handed) → comes room.what h ≡ replaces R h
 
 -- there is room exactly where another process may come
-abbrev pub IsRoomFor : Role → Process → Option Room → Type 0
+abbrev pub IsRoomFor : Role → Process → Option (Box Room Global) → Type 0
 IsRoomFor me R None = is_replaced R ≡ false
-IsRoomFor me R (Some room) = IsRoom me R room
+IsRoomFor me R (Some room) = IsRoom me R room.value
 
 -- and only for the first act of a place
-abbrev pub IsRoomWhen : Bool → Role → Process → Option Room → Type 0
+abbrev pub IsRoomWhen : Bool → Role → Process → Option (Box Room Global) → Type 0
 IsRoomWhen true me R room = IsRoomFor me R room
 IsRoomWhen false me R room = room ≡ None

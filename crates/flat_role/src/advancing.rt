@@ -26,12 +26,12 @@ use crate::marks::Mark;
 use crate::moved::moved;
 use crate::progress::Progress;
 use crate::replacing::Room;
-use crate::steps::Own;
+use crate::steps::{Own, take_value, write_store};
 use dioc_terms::{Act, Role, Store};
 use dpoc_process::Got;
 use dpoc_process::growth::Write;
-use dpoc_process::ready::{apply, split};
 use flat_code::Plan;
+use std::mem;
 
 /// Does the act for which this was made ready, with what comes with it. It takes no memory: there
 /// is room for one more variable.
@@ -42,18 +42,18 @@ pub(crate) fn advance(
     act: &Act,
     progress: &mut Progress,
     store: &mut Store,
-    own: Own,
-    got: Got,
+    own: &mut Own,
+    got: &mut Got,
 )
     requires progress { IsProgress me.now plan.now progress.old }
-    requires ready { IsReadyBy me.now plan.now progress.old (store_of store.old) act.now own }
+    requires ready { IsReadyBy me.now plan.now progress.old (store_of store.old) act.now own.old }
     requires has_room { 0 < room store.old }
     requires can { IsEnabled (local me.now (runs_by me.now plan.now progress.old)
-        (store_of store.old)) act.now (handed got) }
+        (store_of store.old)) act.now (handed got.old) }
     ensures progress { IsProgress me.now plan.now progress.new }
     ensures chosen { progress.new.chosen ≡ None }
     ensures steps { (given : Given) → Brings (local me.now (runs_by me.now plan.now progress.old)
-        (store_of store.old)) act.now (handed got) given → IsStep (local me.now
+        (store_of store.old)) act.now (handed got.old) given → IsStep (local me.now
         (runs_by me.now plan.now progress.old) (store_of store.old)) act.now given (local me.now
         (runs_by me.now plan.now progress.new) (store_of store.new)) }
 {
@@ -75,23 +75,23 @@ fn act_at(
     progress: &mut Progress,
     store: &mut Store,
     place: usize,
-    by: (Own, Got),
+    by: (&mut Own, &mut Got),
 ) -> bool
     requires progress { IsProgress me.now plan.now progress.old }
     requires has_room { 0 < room store.old }
     requires can { IsEnabled (local me.now (runs_by me.now plan.now progress.old)
-        (store_of store.old)) act.now (handed by.1) }
+        (store_of store.old)) act.now (handed by.1.now) }
     requires found { (at : ℕ) × IsFound me.now plan.now progress.old act.now at place }
     requires inner { IsInner act.now (mark_in progress.old.marks.items place) }
     requires own { IsOwnOf me.now (store_of store.old) act.now
         (runs_by me.now plan.now progress.old)
-        (is_fresh (mark_in progress.old.marks.items place)) by.0 }
+        (is_fresh (mark_in progress.old.marks.items place)) by.0.now }
     ensures as_long { length progress.new.marks.items ≡ plan_len plan.now }
     ensures active { progress.new.active ≡ progress.old.active }
     ensures fresh { progress.new.fresh ≡ progress.old.fresh }
     ensures mine { AreOf me.now progress.new.marks.items }
     ensures acted { IsActed me.now plan.now progress.old (store_of store.old) (store_of store.new)
-        act.now (handed by.1) place progress.new.marks.items result }
+        act.now (handed by.entry.1.now) place progress.new.marks.items result }
 {
     let (own, got) = by;
     if let Mark::Became(update) = &mut progress.marks[place] {
@@ -138,37 +138,33 @@ fn do_own(
     marks: &mut Vec<Mark>,
     place: usize,
     store: &mut Store,
-    own: Own,
-    got: Got,
+    own: &mut Own,
+    got: &mut Got,
 ) -> bool
     requires inside { place < plan_len plan.now }
     requires as_long { length marks.old.items ≡ plan_len plan.now }
     requires has_room { 0 < room store.old }
     ensures as_long { length marks.new.items ≡ plan_len plan.now }
     ensures moved { (me : RoleName) (a : OneAct) (d : Deed) (y : Status) →
-        IsActingBy me plan.now marks.old.items place (store_of store.old) own (handed got) a d y →
+        IsActingBy me plan.now marks.old.items place (store_of store.old) own.old (handed got.old) a d y →
         ComesTo me plan.now marks.old.items marks.new.items place result y
-        × (store_of store.new ≡ with_written (write_of own.write) (handed_value (handed got))
+        × (store_of store.new ≡ with_written (write_of own.old.write)
+        (handed_value (handed got.old))
         (store_of store.old)) }
-    ensures replaced { (me : RoleName) → IsReplacedBy me plan.now marks.old.items place own
-        (handed got) → ComesTo me plan.now marks.old.items marks.new.items place result
-        (Became (replacing me (static_at plan.now place) (handed got)))
-        × (store_of store.new ≡ with_written (write_of own.write) None (store_of store.old)) }
+    ensures replaced { (me : RoleName) → IsReplacedBy me plan.now marks.old.items place own.old
+        (handed got.old) → ComesTo me plan.now marks.old.items marks.new.items place result
+        (Became (replacing me (static_at plan.now place) (handed got.old)))
+        × (store_of store.new ≡ with_written (write_of own.old.write) None (store_of store.old)) }
     ensures mine { (me : RoleName) → AreOf me marks.old.items
-        → IfSome own.room (λ room. room.me.value ≡ me) → AreOf me marks.new.items }
+        → IfSome own.old.room (λ room. room.value.me.value ≡ me) → AreOf me marks.new.items }
 {
-    let Own {
-        write: written,
-        pick,
-        room,
-    } = own;
-    if let Some(room) = room {
-        if room.is_for(&got) {
-            return put_other(plan, marks, place, store, (written, room), got);
+    if let Some(room) = own.room.take() {
+        if room.is_for(got) {
+            return put_other(plan, marks, place, store, (&mut own.write, room), got);
         }
         drop(room);
     }
-    go_on_itself(plan, marks, place, store, (written, pick), got)
+    go_on_itself(plan, marks, place, store, own, got)
 }
 
 /// Puts another process in the place.
@@ -178,24 +174,25 @@ fn put_other(
     marks: &mut Vec<Mark>,
     place: usize,
     store: &mut Store,
-    by: (Write, Room),
-    got: Got,
+    by: (&mut Write, Box<Room>),
+    got: &mut Got,
 ) -> bool
     requires inside { place < plan_len plan.now }
     requires as_long { length marks.old.items ≡ plan_len plan.now }
     requires has_room { 0 < room store.old }
     ensures as_long { length marks.new.items ≡ plan_len plan.now }
-    ensures stored { store_of store.new ≡ with_written (write_of by.0) None (store_of store.old) }
-    ensures put { (me : RoleName) → IsRoom me (static_at plan.now place) by.1 →
-        replaces (static_at plan.now place) (handed got) ≡ true →
+    ensures stored { store_of store.new ≡ with_written (write_of by.entry.0.now) None
+        (store_of store.old) }
+    ensures put { (me : RoleName) → IsRoom me (static_at plan.now place) by.entry.1.value →
+        replaces (static_at plan.now place) (handed got.old) ≡ true →
         ComesTo me plan.now marks.old.items marks.new.items place result
-        (Became (replacing me (static_at plan.now place) (handed got))) }
-    ensures mine { (me : RoleName) → AreOf me marks.old.items → by.1.me.value ≡ me
+        (Became (replacing me (static_at plan.now place) (handed got.old))) }
+    ensures mine { (me : RoleName) → AreOf me marks.old.items → by.entry.1.value.me.value ≡ me
         → AreOf me marks.new.items }
 {
     let (written, room) = by;
-    apply(store, written, None);
-    let (mark, over) = room.filled(got);
+    write_store(store, written, None);
+    let (mark, over) = Box::into_inner(room).filled(mem::replace(got, Got::Nothing));
     write(plan, marks, place, mark);
     over
 }
@@ -206,25 +203,23 @@ fn go_on_itself(
     marks: &mut Vec<Mark>,
     place: usize,
     store: &mut Store,
-    by: (Write, bool),
-    got: Got,
+    own: &mut Own,
+    got: &mut Got,
 ) -> bool
     requires inside { place < plan_len plan.now }
     requires as_long { length marks.old.items ≡ plan_len plan.now }
     requires has_room { 0 < room store.old }
     ensures as_long { length marks.new.items ≡ plan_len plan.now }
-    ensures stored { store_of store.new ≡ with_written (write_of by.0) (handed_value (handed got))
+    ensures stored { store_of store.new ≡ with_written (write_of own.old.write)
+        (handed_value (handed got.old))
         (store_of store.old) }
     ensures moved { (me : RoleName) (s : Spec) (a : OneAct) (d : Deed) (y : Status) →
-        IsGoing me plan.now marks.old.items place s by.1 (handed got) a d y →
+        IsGoing me plan.now marks.old.items place s own.old.pick (handed got.old) a d y →
         ComesTo me plan.now marks.old.items marks.new.items place result y }
     ensures mine { (me : RoleName) → AreOf me marks.old.items → AreOf me marks.new.items }
 {
-    let (written, pick) = by;
-    let (mark, over) = moved(plan, place, &marks[place], pick, &got);
+    let (mark, over) = moved(plan, place, &marks[place], own.pick, got);
     write(plan, marks, place, mark);
-    let (value, rest) = split(got);
-    drop(rest);
-    apply(store, written, value);
+    write_store(store, &mut own.write, take_value(got));
     over
 }

@@ -1,6 +1,7 @@
 //! Room for another process in a place, where its act may put one there.
 
-ghost use Rattle.std.specs.Prelude.{◌≡◌, ◌<◌, List, IfOk, Some, false, length};
+ghost use Rattle.std.specs.Prelude.{◌≡◌, ◌<◌, Box, List, IfOk, Some, false, length};
+ghost use Rattle.std.specs.Global.{Global};
 ghost use Rattle.dioc_terms.specs.declared.names.Role.{Role as RoleName};
 ghost use Rattle.dioc_terms.specs.declared.processes.Tag.TheVariants as tags;
 ghost use Rattle.flat_role.specs.declared.replacing.Room.{Room};
@@ -24,7 +25,11 @@ use std::slice;
 use std::snapshot::Snapshot;
 
 /// Room for another process, where the first act of a place may put one there.
-pub(crate) fn room_for(alloc: Global, me: &Role, next: Next<'_>) -> Result<Option<Room>, Memory>
+pub(crate) fn room_for(
+    alloc: Global,
+    me: &Role,
+    next: Next<'_>,
+) -> Result<Option<Box<Room>>, Memory>
     ensures { (R : Process) → IsNext me.now next.entry R →
         IfOk result (IsRoomWhen (is_first next.entry) me.now R) }
 {
@@ -35,7 +40,7 @@ pub(crate) fn room_for(alloc: Global, me: &Role, next: Next<'_>) -> Result<Optio
 }
 
 /// Room for another process in the place of an op, where its first act may put one there.
-fn room_of(alloc: Global, me: &Role, op: &Op) -> Result<Option<Room>, Memory>
+fn room_of(alloc: Global, me: &Role, op: &Op) -> Result<Option<Box<Room>>, Memory>
     ensures { (done : List Process) → IfOk result (IsRoomFor me.now (op_process done op.now)) }
 {
     match op {
@@ -49,7 +54,7 @@ fn room_of(alloc: Global, me: &Role, op: &Op) -> Result<Option<Room>, Memory>
 /// Room for another process in the place of a scope or of a tell.
 // (Apart, since it is rare, and no other op is to make room for it.)
 #[inline(never)]
-fn replaced_room(alloc: Global, me: &Role, op: &Op) -> Result<Option<Room>, Memory>
+fn replaced_room(alloc: Global, me: &Role, op: &Op) -> Result<Option<Box<Room>>, Memory>
     ensures { (done : List Process) → IfOk result (IsRoomFor me.now (op_process done op.now)) }
 {
     match op {
@@ -72,20 +77,23 @@ fn replaced_room(alloc: Global, me: &Role, op: &Op) -> Result<Option<Room>, Memo
 }
 
 /// Room for this, with an update in which nothing is left to do.
-fn room(alloc: Global, me: &Role, what: What) -> Result<Option<Room>, Memory>
-    ensures { IfOk result (λ room. (made : Room) × (room ≡ Some made) × (made.what ≡ what)
-        × (made.me.value ≡ me.now)) }
+fn room(alloc: Global, me: &Role, what: What) -> Result<Option<Box<Room>>, Memory>
+    ensures { IfOk result (λ room. (made : Box Room Global) × (room ≡ Some made)
+        × (made.value.what ≡ what) × (made.value.me.value ≡ me.now)) }
 {
     let nothing = Update {
         me: Snapshot::of(me),
         state: State::Came(Proc::Skip),
     };
     match new_box(alloc, nothing) {
-        Ok(update) => Ok(Some(Room {
-            me: Snapshot::of(me),
-            what,
-            update,
-        })),
+        Ok(update) => {
+            let room = Room {
+                me: Snapshot::of(me),
+                what,
+                update,
+            };
+            Ok(Some(new_box(alloc, room)?))
+        }
         Err(fault) => give_up(what, fault),
     }
 }

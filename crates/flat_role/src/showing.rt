@@ -28,6 +28,7 @@ use std::alloc::Global;
 
 /// Keeps all that the act of what is next needs, and gives what is shown of it. There is room for
 /// one more variable then.
+#[inline(never)]
 pub(crate) fn show(
     alloc: Global,
     me: &Role,

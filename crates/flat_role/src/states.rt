@@ -14,7 +14,7 @@ use crate::numbered::find_at;
 use crate::progress::Progress;
 use crate::readying::{prepare_found, prepare_whole};
 use crate::relisting::refresh_acts;
-use crate::steps::{Own, clear};
+use crate::steps::{Own, clear, drop_got};
 use crate::updates::count_ops;
 use dioc_terms::{Act, Memory, Role, Store, give_up};
 use dpoc_process::{Got, PrepareFault, Prepared, Runs, Shown};
@@ -160,16 +160,18 @@ impl Runs for FlatRole {
     }
 
     fn advance(&mut self, act: &Act, got: Got) {
-        let own = self.ready.take().unwrap();
+        let mut own = self.ready.take().unwrap();
+        let mut came = got;
         advance(
             &self.role,
             &self.plan,
             act,
             &mut self.progress,
             &mut self.store,
-            own,
-            got,
+            &mut own,
+            &mut came,
         );
+        drop_got(came);
     }
 
     fn is_done(&self) -> bool {

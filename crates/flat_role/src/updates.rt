@@ -29,11 +29,11 @@ use crate::parts::add_told;
 use crate::progress::Progress;
 use crate::readying::{make_ready, next_of};
 use crate::relisting::add_acts;
-use crate::steps::Own;
+use crate::steps::{Own, write_store};
 use dioc_terms::{Act, Memory, Messages, Proc, Role, Store, give_up};
 use dpoc_process::Got;
+use dpoc_process::growth::Write;
 use dpoc_process::offered::{find, is_ended, offers_of, tells};
-use dpoc_process::ready::apply;
 use flat_code::{Plan, compile};
 use std::alloc::Global;
 use std::mem;
@@ -135,20 +135,20 @@ impl Update {
         me: &Role,
         act: &Act,
         store: &mut Store,
-        own: Own,
-        got: Got,
+        own: &mut Own,
+        got: &mut Got,
     ) -> bool
         requires role { self.old.role ≡ me.now }
         requires chosen { self.old.chosen ≡ Some act.now }
         requires own { IsOwnOf me.now (store_of store.old) act.now self.old.process
-            self.old.fresh own }
+            self.old.fresh own.old }
         requires has_room { 0 < room store.old }
         requires can { IsEnabled (local me.now self.old.process (store_of store.old)) act.now
-            (handed got) }
+            (handed got.old) }
         ensures role { self.new.role ≡ me.now }
         ensures over { result ≡ ended self.new.process }
         ensures steps { (given : Given) → Brings (local me.now self.old.process
-            (store_of store.old)) act.now (handed got) given → IsStep (local me.now
+            (store_of store.old)) act.now (handed got.old) given → IsStep (local me.now
             self.old.process (store_of store.old)) act.now given (local me.now self.new.process
             (store_of store.new)) }
     {
@@ -289,20 +289,20 @@ fn advance_state(
     act: &Act,
     state: &mut State,
     store: &mut Store,
-    own: Own,
-    got: Got,
+    own: &mut Own,
+    got: &mut Got,
 ) -> bool
     requires sound { IsSound me.now state.old }
     requires chosen { chosen_in state.old ≡ Some act.now }
     requires own { IsOwnOf me.now (store_of store.old) act.now (process_in me.now state.old)
-        (fresh_in state.old) own }
+        (fresh_in state.old) own.old }
     requires has_room { 0 < room store.old }
     requires can { IsEnabled (local me.now (process_in me.now state.old) (store_of store.old))
-        act.now (handed got) }
+        act.now (handed got.old) }
     ensures sound { IsSound me.now state.new }
     ensures over { result ≡ ended (process_in me.now state.new) }
     ensures steps { (given : Given) → Brings (local me.now (process_in me.now state.old)
-        (store_of store.old)) act.now (handed got) given → IsStep (local me.now
+        (store_of store.old)) act.now (handed got.old) given → IsStep (local me.now
         (process_in me.now state.old) (store_of store.old)) act.now given (local me.now
         (process_in me.now state.new) (store_of store.new)) }
 {
@@ -313,7 +313,7 @@ fn advance_state(
         }
         State::Told(messages, chosen) => {
             *chosen = None;
-            tell_next(messages, store, own, got)
+            tell_next(messages, store, &mut own.write)
         }
         State::Came(_) => unreachable!(),
     }
@@ -321,18 +321,15 @@ fn advance_state(
 
 /// Puts the next message of a tell. The answer is whether it was the last.
 #[inline(never)]
-fn tell_next(messages: &mut Box<Messages>, store: &mut Store, own: Own, got: Got) -> bool
+fn tell_next(messages: &mut Box<Messages>, store: &mut Store, written: &mut Write) -> bool
     requires { 0 < room store.old }
     ensures left { telling (letters messages.new.value)
         ≡ rest_of (telling (letters messages.old.value)) }
-    ensures stored { store_of store.new ≡ with_written (write_of own.write) None
+    ensures stored { store_of store.new ≡ with_written (write_of written.old) None
         (store_of store.old) }
     ensures over { result ≡ ended (telling (letters messages.new.value)) }
 {
-    drop(got);
-    let Own { write, room, .. } = own;
-    drop(room);
-    apply(store, write, None);
+    write_store(store, written, None);
     let told = mem::replace(&mut **messages, Messages::Nothing);
     if let Messages::More(_, _, _) = &told {
         *messages = told.into_rest();

@@ -81,7 +81,7 @@ advancing::advance-act_at-over-requires t c =
                 subst (λ (p : ℕ). IsInner a (mark_in old.marks.items p))
                     (sym (read-found me plan old k a at there.place there.found
                     c.index-place.result.now c.index-place.ensures)) there.inner,
-                subst (λ b. IsOwnOf me s a (runs_by me plan old) b c.args.own)
+                subst (λ b. IsOwnOf me s a (runs_by me plan old) b c.args.own.now)
                     (placed.fresh ∙ ap (λ p. is_fresh (mark_in old.marks.items p)) (sym here))
                     c.requires.ready.made,
               ),
@@ -115,7 +115,7 @@ advancing::advance-go_on-requires-clause-spare t c =
     let s = store_of c.args.store.now in
     let t = store_of c.act_at-over.new.store in
     let a = c.args.act.now in
-    let h = handed c.args.got in
+    let h = handed c.args.got.now in
     let at = c.chosen_place-at.result in
     let there = (chosen_placed me plan old a old.chosen at c.chosen_place-at.ensures
     c.requires.ready.chosen).there in
@@ -143,7 +143,7 @@ advancing::advance-go_on-requires-clause-room t c =
     let s = store_of c.args.store.now in
     let t = store_of c.act_at-over.new.store in
     let a = c.args.act.now in
-    let h = handed c.args.got in
+    let h = handed c.args.got.now in
     let at = c.chosen_place-at.result in
     let there = (chosen_placed me plan old a old.chosen at c.chosen_place-at.ensures
     c.requires.ready.chosen).there in
@@ -178,7 +178,7 @@ advancing::advance-returns-clause-progress t c =
     let s = store_of c.args.store.now in
     let t = store_of c.act_at-over.new.store in
     let a = c.args.act.now in
-    let h = handed c.args.got in
+    let h = handed c.args.got.now in
     let at = c.chosen_place-at.result in
     let there = (chosen_placed me plan old a old.chosen at c.chosen_place-at.ensures
     c.requires.ready.chosen).there in
@@ -218,7 +218,7 @@ advancing::advance-returns-clause-steps t c = λ given brings.
     let s = store_of c.args.store.now in
     let t = store_of c.act_at-over.new.store in
     let a = c.args.act.now in
-    let h = handed c.args.got in
+    let h = handed c.args.got.now in
     let at = c.chosen_place-at.result in
     let there = (chosen_placed me plan old a old.chosen at c.chosen_place-at.ensures
     c.requires.ready.chosen).there in
@@ -242,7 +242,7 @@ advancing::act_at-step-requires t c =
     let old = c.args.progress.now in
     let k = c.requires.progress in
     let a = c.args.act.now in
-    let h = handed c.args.by.1 in
+    let h = handed c.args.by.1.now in
     let s = store_of c.args.store.now in
     let place : ℕ = c.args.place in
     let at = c.requires.found.0 in
@@ -263,9 +263,9 @@ advancing::act_at-step-requires t c =
         (
           ap (λ w. w.chosen) e ∙ subst (IsInner a) was c.requires.inner,
           (
-            subst (λ (w : Running). IsOwnOf me s a w.process w.fresh c.args.by.0) (sym e)
+            subst (λ (w : Running). IsOwnOf me s a w.process w.fresh c.args.by.0.now) (sym e)
                 (update-own me plan old k s s a h at place found c.requires.can c.in-Became.update
-                c.in-Became.update was inside c.args.by.0 c.requires.own),
+                c.in-Became.update was inside c.args.by.0.now c.requires.own),
             (
               c.requires.has_room,
               subst (λ (w : Running). IsEnabled (local me w.process s) a h) (sym e)
@@ -296,7 +296,7 @@ advancing::act_at-returns-in-Became-clause-acted t c =
     let old = c.args.progress.now in
     let k = c.requires.progress in
     let a = c.args.act.now in
-    let h = handed c.args.by.1 in
+    let h = handed c.args.by.1.now in
     let s = store_of c.args.store.now in
     let u = store_of c.step.new.store in
     let place : ℕ = c.args.place in
@@ -326,7 +326,7 @@ advancing::act_at-returns-clause-acted t c =
     let old = c.args.progress.now in
     let k = c.requires.progress in
     let a = c.args.act.now in
-    let h = handed c.args.by.1 in
+    let h = handed c.args.by.1.now in
     let s = store_of c.args.store.now in
     let u = store_of c.do_own.new.store in
     let place : ℕ = c.args.place in
@@ -338,7 +338,7 @@ advancing::act_at-returns-clause-acted t c =
     c.index_mut.ensures.value kept.Untouched in
     let back : set old.marks.items place c.index_mut.result.now ≡ old.marks.items =
     ap (set old.marks.items place) here ∙ set-get_or old.marks.items place kept.Untouched in
-    let own = c.args.by.0 in
+    let own = c.args.by.0.now in
     let new = c.do_own.new.marks.items in
     let P = static_at plan place in
     code-acted me plan old k s u a h at place found c.requires.can own new c.do_own.result
@@ -368,7 +368,7 @@ advancing::act_at-returns-clause-mine t c =
     let back : set old.marks.items place c.index_mut.result.now ≡ old.marks.items =
     ap (set old.marks.items place) here ∙ set-get_or old.marks.items place kept.Untouched in
     c.do_own.ensures.mine me (subst (AreOf me) (sym back) k.mine)
-    (room_mine (is_fresh (mark_in old.marks.items place)) me c.requires.own.part c.args.by.0.room
+    (room_mine (is_fresh (mark_in old.marks.items place)) me c.requires.own.part c.args.by.0.now.room
     c.requires.own.room)
 
 pub updates::advance_state-advance-requires : goal.updates::advance_state-advance-requires
@@ -378,7 +378,7 @@ updates::advance_state-advance-requires t c =
     let progress = c.in-Runs.progress in
     let a = c.args.act.now in
     let s = store_of c.args.store.now in
-    let h = handed c.args.got in
+    let h = handed c.args.got.now in
     let is = c.in-Runs.is in
     let sound = subst (IsSound me) is c.requires.sound in
     let deep : depth_in c.args.state.now ≡ deepest progress.marks.items = ap depth_in is in (
@@ -390,7 +390,7 @@ updates::advance_state-advance-requires t c =
             chosen = chosen_for me plan progress a progress.chosen sound.1
                 (subst (λ (x : State). chosen_in x ≡ Some a) is c.requires.chosen);
             made = subst
-                (λ (x : State). IsOwnOf me s a (process_in me x) (fresh_in x) c.args.own) is
+                (λ (x : State). IsOwnOf me s a (process_in me x) (fresh_in x) c.args.own.now) is
                 c.requires.own;
           },
           (
@@ -408,7 +408,7 @@ updates::advance_state-returns-in-Runs t c =
     let a = c.args.act.now in
     let s = store_of c.args.store.now in
     let u = store_of c.advance.new.store in
-    let h = handed c.args.got in
+    let h = handed c.args.got.now in
     let is = c.in-Runs.is in
     record {
       sound = (
@@ -428,7 +428,7 @@ updates::advance_state-returns-in-Told t c =
     let me = c.args.me.now in
     let a = c.args.act.now in
     let s = store_of c.args.store.now in
-    let h = handed c.args.got in
+    let h = handed c.args.got.now in
     let is = c.in-Told.is in
     record {
       sound = tt;
@@ -437,8 +437,8 @@ updates::advance_state-returns-in-Told t c =
           (local me (telling (letters c.tell_next.new.messages.value)) (store_of c.tell_next.new.store)))
           (sym is)
           (told_steps me s (store_of c.tell_next.new.store) a h (letters c.in-Told.messages.value)
-          (letters c.tell_next.new.messages.value) c.args.own
-          (subst (λ (x : State). IsOwnOf me s a (process_in me x) (fresh_in x) c.args.own) is
+          (letters c.tell_next.new.messages.value) c.args.own.now
+          (subst (λ (x : State). IsOwnOf me s a (process_in me x) (fresh_in x) c.args.own.now) is
           c.requires.own)
           (subst (λ (x : State). IsEnabled (local me (process_in me x) s) a h) is c.requires.can)
           c.tell_next.ensures.left c.tell_next.ensures.stored given
@@ -450,7 +450,7 @@ marks::Update::step-advance_state-requires t c =
     let me = c.args.me.now in
     let a = c.args.act.now in
     let s = store_of c.args.store.now in
-    let h = handed c.args.got in
+    let h = handed c.args.got.now in
     let r = c.self.inside.me.value in
     let x = c.self.inside.state in
     let old = c.args.self.now in
@@ -462,9 +462,9 @@ marks::Update::step-advance_state-requires t c =
         (
           ap (λ v. v.chosen) c.self.view_is ∙ c.requires.chosen,
           (
-            subst (λ b. IsOwnOf me s a (process_in me x) b c.args.own)
+            subst (λ b. IsOwnOf me s a (process_in me x) b c.args.own.now)
                 (sym (ap (λ v. v.fresh) c.self.view_is))
-                (subst (λ (Q : Process). IsOwnOf me s a Q old.fresh c.args.own) (sym P)
+                (subst (λ (Q : Process). IsOwnOf me s a Q old.fresh c.args.own.now) (sym P)
                 c.requires.own),
             (
               c.requires.has_room,
@@ -486,7 +486,7 @@ marks::Update::step-returns t c =
     let a = c.args.act.now in
     let s = store_of c.args.store.now in
     let u = store_of c.advance_state.new.store in
-    let h = handed c.args.got in
+    let h = handed c.args.got.now in
     let r = c.self.inside.me.value in
     let P = process_by me r c.self.inside.state c.self.view_is c.requires.role in
     let Q = process_again me r c.self.inside.state c.self.view_is c.requires.role c.advance_state.new.state in

@@ -15,11 +15,11 @@ returns-clause-moved c = λ me s a d y goes.
     let old = c.args.marks.now.items in
     let place = c.args.place in
     let P = static_at plan place in
-    let h = handed c.args.got in
+    let h = handed c.args.got.now in
     let here : c.index.result.now ≡ mark_in old place =
     get_or_read old place c.index.result.now
     (omega (arith, c.requires.inside, c.requires.as_long)) c.index.ensures kept.Untouched in
-    let moving : IsMoving me s a (given_like h) P (mark_in old place) c.args.by.1 h d y = record {
+    let moving : IsMoving me s a (given_like h) P (mark_in old place) c.args.own.now.pick h d y = record {
       acts = goes.leaf;
       stays = goes.own_mark;
       keeps = goes.stays;
@@ -29,7 +29,7 @@ returns-clause-moved c = λ me s a d y goes.
     } in
     let to : IsMovedTo me P y c.moved-mark.result =
     c.moved-mark.ensures.moved me s a (given_like h) d y
-    (subst (λ m. IsMoving me s a (given_like h) P m c.args.by.1 h d y) (sym here) moving) in
+    (subst (λ m. IsMoving me s a (given_like h) P m c.args.own.now.pick h d y) (sym here) moving) in
     record {
       written = c.write.ensures.written me
           ∙ ap (write (plan_marks me plan old) (low_at plan place) place P) (sym to.mark_is);
