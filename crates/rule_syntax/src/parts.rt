@@ -4,12 +4,10 @@ ghost use Rattle.std.specs.Prelude.{◌≡◌, ◌≤◌, length, None, IfOk};
 ghost use Rattle.limits.specs.Limits.{greatest_place};
 ghost use Rattle.rule_syntax.specs.Readers.{ConditionAt, BodyAt};
 
-use aioc_tokens::{Lexed, Punctuator, Sort, Word};
+use aioc_tokens::{Punctuator, Sort, Word};
 use dioc_syntax::{Place, Reader, choreo_at};
 use dioc_terms::{Choreo, Expr, Memory};
 use expr_syntax::{ExprKind, expr_at};
-use limits::MOST_DEPTH;
-use std::alloc::Global;
 
 /// `} do {`
 const DOING: [Sort; 3] = [
@@ -33,19 +31,19 @@ pub fn no_part<T: Drop, U: Drop>(_value: T) -> Option<U>
 
 /// The condition at a place of the text with `} do {` behind it, and the place behind both.
 pub fn condition_at(
-    alloc: Global,
-    text: &Lexed<'_>,
+    reader: &Reader<'_>,
     room: usize,
     at: usize,
 ) -> Result<Option<(Expr, usize)>, Memory>
-    requires { length text.now ≤ greatest_place }
-    ensures { IfOk result (λ found. ConditionAt room text.now at found) }
+    requires { length reader.now.text.now ≤ greatest_place }
+    ensures { IfOk result (λ found. ConditionAt room reader.now.text.now at found) }
 {
-    let (cond, next) = match expr_at(alloc, text, ExprKind::Condition, room, at)? {
+    let read = expr_at(reader.alloc, reader.text, ExprKind::Condition, room, at)?;
+    let (cond, next) = match read {
         Some(read) => read,
         None => return Ok(None),
     };
-    if !text.begins(next, &DOING) {
+    if !reader.text.begins(next, &DOING) {
         return Ok(no_part(cond));
     }
     Ok(Some((cond, next + 3)))
@@ -53,31 +51,19 @@ pub fn condition_at(
 
 /// The body at a place of the text with `} }` behind it, and the place behind both.
 pub fn body_at(
-    alloc: Global,
-    text: &Lexed<'_>,
-    version: u32,
+    reader: &Reader<'_>,
     room: usize,
     at: usize,
 ) -> Result<Option<(Choreo, usize)>, Memory>
-    requires { length text.now ≤ greatest_place }
-    ensures { IfOk result (λ found. BodyAt version room text.now at found) }
+    requires { length reader.now.text.now ≤ greatest_place }
+    ensures { IfOk result (λ found.
+        BodyAt reader.now.version room reader.now.text.now at found) }
 {
-    let reader = Reader {
-        alloc,
-        text,
-        version,
-    };
-    let place = Place {
-        at,
-        room,
-        deep: MOST_DEPTH,
-        earlier: 0,
-    };
-    let found = match choreo_at(&reader, place)? {
+    let found = match choreo_at(reader, Place::front(at, room))? {
         Some(found) => found,
         None => return Ok(None),
     };
-    if !text.begins(found.at, &CLOSING) {
+    if !reader.text.begins(found.at, &CLOSING) {
         return Ok(no_part(found));
     }
     Ok(Some((Box::into_inner(found.choreo), found.at + 2)))

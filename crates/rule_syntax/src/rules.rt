@@ -15,6 +15,7 @@ ghost use Rattle.rule_syntax.specs.Readers.{StandsAt, RuleAt, HeadAt, rule_seen}
 use crate::parts::{body_at, condition_at, no_part};
 use crate::priorities::priority_at;
 use aioc_tokens::{Lexed, Punctuator, Sort, Token, Word, place};
+use dioc_syntax::Reader;
 use dioc_terms::{Memory, Rule, SyntaxFault, give_up};
 use expr_syntax::name_at;
 use limits::MOST_BRACKETS;
@@ -73,11 +74,16 @@ pub fn rule_at(
         Some(head) => head,
         None => return Ok(None),
     };
-    let (cond, does) = match condition_at(alloc, text, room - 2, inside)? {
+    let reader = Reader {
+        alloc,
+        text,
+        version,
+    };
+    let (cond, does) = match condition_at(&reader, room - 2, inside)? {
         Some(read) => read,
         None => return Ok(None),
     };
-    let (body, next) = match body_at(alloc, text, version, room - 2, does) {
+    let (body, next) = match body_at(&reader, room - 2, does) {
         Ok(Some(read)) => read,
         Ok(None) => return Ok(no_part(cond)),
         Err(fault) => return give_up(cond, fault),
