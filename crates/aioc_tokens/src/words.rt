@@ -92,27 +92,30 @@ fn find_spelled(words: &[Word], bytes: &[u8]) -> Option<Word>
     None
 }
 
-/// The reserved words with this first byte.
+/// The reserved words with these first two bytes.
 #[tactic(auto, unfolding(crate::specs::Words::word_of))]
-fn words_from(first: u8) -> &'static [Word]
-    ensures { (others : List ℕ) → word_of (first ∷ others)
-        ≡ find (λ word. bytes_eq (first ∷ others) (word_spelling word)) result.now }
+fn words_with(first: u8, second: u8) -> &'static [Word]
+    ensures { (others : List ℕ) → word_of (first ∷ second ∷ others)
+        ≡ find (λ word. bytes_eq (first ∷ second ∷ others) (word_spelling word)) result.now }
 {
-    match first {
-        b'a' => &[Word::Aioc, Word::And],
-        b's' => &[Word::Skip, Word::Scope],
-        b'i' => &[Word::If, Word::Input],
-        b'e' => &[Word::Else],
-        b'w' => &[Word::While],
-        b'p' => &[Word::Prop],
-        b'r' => &[Word::Rule],
-        b'o' => &[Word::On, Word::Or],
-        b'd' => &[Word::Do],
-        b't' => &[Word::True],
-        b'f' => &[Word::False],
-        b'n' => &[Word::Nil, Word::Not],
-        b'N' => &[Word::N],
-        b'E' => &[Word::E],
+    match (first, second) {
+        (b'a', b'i') => &[Word::Aioc],
+        (b'a', b'n') => &[Word::And],
+        (b's', b'k') => &[Word::Skip],
+        (b's', b'c') => &[Word::Scope],
+        (b'i', b'f') => &[Word::If],
+        (b'i', b'n') => &[Word::Input],
+        (b'e', b'l') => &[Word::Else],
+        (b'w', b'h') => &[Word::While],
+        (b'p', b'r') => &[Word::Prop],
+        (b'r', b'u') => &[Word::Rule],
+        (b'o', b'n') => &[Word::On],
+        (b'o', b'r') => &[Word::Or],
+        (b'd', b'o') => &[Word::Do],
+        (b't', b'r') => &[Word::True],
+        (b'f', b'a') => &[Word::False],
+        (b'n', b'i') => &[Word::Nil],
+        (b'n', b'o') => &[Word::Not],
         _ => &[],
     }
 }
@@ -136,8 +139,10 @@ pub fn find_word(bytes: &[u8]) -> Option<Word>
 {
     // No word is longer than five bytes.
     match bytes {
-        [] => None,
-        [first, ..] if bytes.len() <= LONGEST_WORD => find_spelled(words_from(*first), bytes),
+        [byte] => lone_word(*byte),
+        [first, second, ..] if bytes.len() <= LONGEST_WORD => {
+            find_spelled(words_with(*first, *second), bytes)
+        }
         _ => None,
     }
 }
