@@ -12,7 +12,7 @@ use Rattle.dioc_terms.specs.Equality.{member, role_eq}
 use Rattle.dioc_terms.specs.Messages.{doer, act_of}
 use Rattle.dioc_terms.specs.Plain.{PlainBundle, plain, setting}
 use Rattle.dioc_terms.specs.Processes.{Load}
-use Rattle.dpoc_process.specs.KeptStates.{local_of}
+use Rattle.flat_role.specs.FlatStates.{local_of}
 use Rattle.dpoc_process.specs.LocalStates.{LocalState}
 use Rattle.marked_laws.proofs.Shapes.{none_some}
 use Rattle.dioc_terms.specs.TermLaws.{MentionsAreRoles}

@@ -3,7 +3,7 @@ use Rattle.std.specs.Prelude.{◌≡◌, ◌<◌, suc, List, [], ◌∷◌, ◌+
 use Rattle.dioc_terms.specs.declared.entries.Entry.{Entry}
 use Rattle.dioc_terms.specs.declared.names.Role.{Role}
 use Rattle.dioc_terms.specs.Plain.{PlainBundle, plain}
-use Rattle.dpoc_process.specs.KeptStates.{local_of}
+use Rattle.flat_role.specs.FlatStates.{local_of}
 use Rattle.marked_laws.specs.Laws.{IsSound}
 use Rattle.role_monitor.specs.declared.monitor.Monitor.{Monitor}
 use Rattle.role_monitor.specs.declared.monitor.FeedFault.{FeedFault}

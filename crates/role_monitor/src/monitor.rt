@@ -7,7 +7,7 @@ ghost use Rattle.dioc_terms.specs.Equality.{role_eq};
 ghost use Rattle.dioc_terms.specs.Messages.{act_of, doer};
 ghost use Rattle.dioc_terms.specs.Plain.{PlainBundle, plain};
 ghost use Rattle.marked_laws.specs.Laws.{IsSound};
-ghost use Rattle.dpoc_process.specs.KeptStates.{local_of};
+ghost use Rattle.flat_role.specs.FlatStates.{local_of};
 ghost use Rattle.role_monitor.specs.Judging.{HoldsScript};
 ghost use Rattle.role_monitor.specs.Monitoring.{mon_start, own_entries};
 ghost use Rattle.rule_book.specs.KeptBooks.{book_of};
@@ -20,7 +20,7 @@ use crate::scenes::Scene;
 use crate::script::see_change;
 use crate::updates::Update;
 use dioc_terms::{Act, Bundle, Entry, Memory, Role, give_up};
-use dpoc_process::RoleState;
+use flat_role::FlatRole;
 use net_core::opening_state;
 use role_mailbox::Mail;
 use rule_book::Book;
@@ -43,7 +43,7 @@ pub struct Monitor<'a> {
     alloc: Global,
     bundle: &'a Bundle,
     role: &'a Role,
-    state: RoleState,
+    state: FlatRole,
     mail: Mail,
     book: Book,
     changes: usize,
@@ -88,7 +88,7 @@ impl<'a> Monitor<'a> {
         alloc: Global,
         bundle: &'a Bundle,
         role: &'a Role,
-        state: RoleState,
+        state: FlatRole,
         book: Book,
     ) -> Monitor<'a>
         requires sound { IsSound (plain bundle.now) }

@@ -1,7 +1,7 @@
 -- An entry of the role was read.
 use Rattle.std.proofs.Common.{refl, sym, subst, arith}
 use Rattle.dioc_terms.specs.Plain.{PlainBundle, setting}
-use Rattle.dpoc_process.specs.KeptStates.{local_of}
+use Rattle.flat_role.specs.FlatStates.{local_of}
 use Rattle.role_monitor.specs.Judging.{KeepsOwn, RefusesOwn}
 use Rattle.net_core.specs.Scopes.{Tells}
 use Rattle.marked_laws.specs.Laws.{IsSound}
