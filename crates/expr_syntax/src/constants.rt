@@ -18,8 +18,24 @@ pub const GREATEST: u64 = 9_223_372_036_854_775_807;
 /// The greatest number directly after a `-`.
 pub const GREATEST_NEGATED: u64 = 9_223_372_036_854_775_808;
 
-/// The number that digits stand for, unless it is greater than `most`.
+/// The number that digits stand for, unless it is greater than `most`. Most numbers have one digit,
+/// of which little is to be asked.
 fn number_of(digits: &[u8], most: u64) -> Option<u64>
+    requires some { 0 < length digits.now }
+    requires digits { IsTrue (list_all is_ascii_digit digits.now) }
+    ensures { result ≡ number_up_to most digits.now }
+{
+    match digits {
+        [digit] => {
+            let number = u64::from(*digit - b'0');
+            (number <= most).then_some(number)
+        }
+        _ => number_by_digits(digits, most),
+    }
+}
+
+/// The number that digits stand for, unless it is greater than `most`, digit by digit.
+fn number_by_digits(digits: &[u8], most: u64) -> Option<u64>
     requires some { 0 < length digits.now }
     requires digits { IsTrue (list_all is_ascii_digit digits.now) }
     ensures { result ≡ number_up_to most digits.now }

@@ -2,7 +2,7 @@ use Rattle.std.proofs.Common.{◌≡◌, ℕ, Bool, true, false, Some, None, if�
 use Rattle.std.specs.Bool.{then_some}
 use Rattle.std.specs.Str.Parse.{digits_value}
 use Rattle.expr_syntax.proofs.NumberFacts.{one_more, passes}
-use Rattle.expr_syntax.proofs.constants.number_of.Goals as goal
+use Rattle.expr_syntax.proofs.constants.number_by_digits.Goals as goal
 
 pub returns-in_err-checked_mul : goal.returns-in_err-checked_mul
 returns-in_err-checked_mul c =
