@@ -9,6 +9,7 @@ mod expressions;
 mod indices;
 mod lexemes;
 mod links;
+mod lists;
 mod refusals;
 mod rules;
 mod sizes;
@@ -34,41 +35,13 @@ pub fn answer(alloc: Global, case: &Case) -> Result<Vec<u8>, Problem> {
 }
 
 fn write_answer(alloc: Global, case: &Case, out: &mut Vec<u8>) -> Result<(), Problem> {
-    if let Some(answered) = answer_piece(alloc, case, out) {
-        return answered;
-    }
-    if let Some(answered) = answer_choreography(alloc, case, out) {
-        return answered;
-    }
-    if let Some(answered) = answer_message(alloc, case, out) {
-        return answered;
-    }
-    match answer_whole(alloc, case, out) {
-        Some(answered) => answered,
-        None => Err(Problem::Bad("there is no such call")),
-    }
-}
-
-// Answers a call that is about names, tokens or expressions, if it is one.
-fn answer_piece(alloc: Global, case: &Case, out: &mut Vec<u8>) -> Option<Result<(), Problem>> {
-    Some(match case.call.as_slice() {
+    match case.call.as_slice() {
         b"name" => spellings::answer_name(alloc, case, out),
         b"text" => spellings::answer_text(alloc, case, out),
         b"tokens" => tokenizing::answer(alloc, case, out),
         b"lexemes" => lexemes::answer(alloc, case, out),
         b"read_expr" => expressions::answer(alloc, case, out),
         b"eval" => values::answer(alloc, case, out),
-        _ => return None,
-    })
-}
-
-// Answers a call that is about a choreography, if it is one.
-fn answer_choreography(
-    alloc: Global,
-    case: &Case,
-    out: &mut Vec<u8>,
-) -> Option<Result<(), Problem>> {
-    Some(match case.call.as_slice() {
         b"read_choreo" => choreographies::answer(alloc, case, out),
         b"nodes" => sizes::answer_nodes(alloc, case, out),
         b"depth" => sizes::answer_depth(alloc, case, out),
@@ -77,24 +50,10 @@ fn answer_choreography(
         b"stamped" => copies::answer_stamped(alloc, case, out),
         b"roles" => casts::answer(alloc, case, out),
         b"check" => links::answer(alloc, case, out),
-        _ => return None,
-    })
-}
-
-// Answers a call that is about messages or the lines of a trace, if it is one.
-fn answer_message(alloc: Global, case: &Case, out: &mut Vec<u8>) -> Option<Result<(), Problem>> {
-    Some(match case.call.as_slice() {
         b"leader_plan" => auxiliary::answer_plan(alloc, case, out),
         b"read_trace" => traces::answer_trace(alloc, case, out),
         b"trace_line" => traces::answer_line(alloc, case, false, out),
         b"json_line" => traces::answer_line(alloc, case, true, out),
-        _ => return None,
-    })
-}
-
-// Answers a call that is about rules, bundles or the words of a command, if it is one.
-fn answer_whole(alloc: Global, case: &Case, out: &mut Vec<u8>) -> Option<Result<(), Problem>> {
-    Some(match case.call.as_slice() {
         b"read_rule" => rules::answer_rule(alloc, case, out),
         b"read_change" => rules::answer_change(alloc, case, out),
         b"read_bundle" => bundles::answer_read(alloc, case, out),
@@ -102,6 +61,6 @@ fn answer_whole(alloc: Global, case: &Case, out: &mut Vec<u8>) -> Option<Result<
         b"read_sessions" => bundles::answer_sessions(alloc, case, out),
         b"accept" => refusals::answer(alloc, case, out),
         b"read_words" => words::answer(alloc, case, out),
-        _ => return None,
-    })
+        _ => Err(Problem::Bad("there is no such call")),
+    }
 }

@@ -71,18 +71,21 @@ impl<T: Drop> Front<T> {
         }
     }
 
-    /// Appends `reads N: ` and gives the value that was read, which is to stand behind it; or
-    /// appends `none at byte N` or `bad byte N`.
-    pub fn write_head(&self, out: &mut Vec<u8>) -> Result<Option<&T>, Memory> {
-        match self {
+    /// Appends `reads N: ` with the value behind it, as the call writes it; `none at byte N`; or
+    /// `bad byte N`.
+    pub fn write<F>(self, write_value: &F, out: &mut Vec<u8>) -> Result<(), Memory>
+    where
+        F: Fn(&T, &mut Vec<u8>) -> Result<(), Memory>,
+        requires { F.IsAlwaysCallable write_value.now }
+    {
+        match &self {
             Front::Found { value, count, .. } => {
                 write_count(*count, out)?;
-                return Ok(Some(value));
+                write_value(value, out)
             }
-            Front::Nothing(byte) => write_place("none at byte", *byte, out)?,
-            Front::BadByte(byte) => write_place("bad byte", *byte, out)?,
+            Front::Nothing(byte) => write_place("none at byte", *byte, out),
+            Front::BadByte(byte) => write_place("bad byte", *byte, out),
         }
-        Ok(None)
     }
 }
 

@@ -1,6 +1,7 @@
 //! Other white space and comments between the tokens of a text.
 
-use std::alloc::{AllocError, Global};
+use dioc_terms::Memory;
+use std::alloc::Global;
 
 /// The next number of a sequence that begins with a seed.
 fn next(state: u64) -> u64 {
@@ -25,7 +26,7 @@ fn blank(number: u64) -> &'static [u8] {
 
 /// A text in which white space stands for each space that is in no quotes. Each seed gives another
 /// one.
-pub fn loosen(alloc: Global, text: &[u8], seed: u64) -> Result<Vec<u8>, AllocError> {
+pub fn loosen(alloc: Global, text: &[u8], seed: u64) -> Result<Vec<u8>, Memory> {
     let mut loose = Vec::with_capacity(alloc, text.len())?;
     let mut state = next(seed);
     let mut is_quoted = false;

@@ -9,7 +9,7 @@ use bundle_text::{read_bundle, write_bundle};
 use dioc_terms::{Memory, SyntaxFault};
 use load_gen::make;
 use loose::loosen;
-use std::alloc::{AllocError, Global};
+use std::alloc::Global;
 use std::io;
 use std::process::ExitCode;
 use thiserror::Error;
@@ -31,12 +31,6 @@ enum Problem {
     Other,
     #[error("out of memory")]
     Memory,
-}
-
-impl From<AllocError> for Problem {
-    fn from(_: AllocError) -> Problem {
-        Problem::Memory
-    }
 }
 
 impl From<Memory> for Problem {

@@ -92,22 +92,9 @@ fn turns_of_role(alloc: Global, letter: u8) -> Result<Option<Counts>, Fail> {
 
 #[test]
 fn roles_are_alike(rt: HostRuntime) -> Result<(), Fail> {
-    let alloc = rt.alloc();
-    let found = turns_of_role(alloc, b'a')?;
-    assert!(rt;
-        found
-            == Some(Counts {
-                turns: 16,
-                updates: 1
-            })
-    );
-    let found = turns_of_role(alloc, b'b')?;
-    assert!(rt;
-        found
-            == Some(Counts {
-                turns: 23,
-                updates: 1
-            })
-    );
+    for (letter, turns) in [(b'a', 16), (b'b', 23)] {
+        let found = turns_of_role(rt.alloc(), letter)?;
+        assert!(rt; found == Some(Counts { turns, updates: 1 }));
+    }
     Ok(())
 }

@@ -1,11 +1,12 @@
 //! Two seats of a lock that take turns in two threads, a seat that is left out at the end, and
 //! seats that are handed in with the first one last.
 
-ghost use Rattle.std.specs.Prelude.{◌≡◌, ◌≤◌, ◌<◌, ◌^◌, [], ◌∷◌, ◌++◌, length, true, false};
+ghost use Rattle.std.specs.Prelude.{◌≡◌, ◌≤◌, ◌<◌, ◌^◌, [], ◌∷◌, ◌++◌, All, IfOk, length, true, false};
 ghost use Rattle.std.specs.Bool.{OnTrue, OnFalse};
-ghost use Rattle.turn_lock.specs.Views.{number};
+ghost use Rattle.turn_lock.specs.Views.{first_view, number};
 ghost use Rattle.turn_lock.specs.Words.{view, IsSeatOf};
 
+use std::alloc::Global;
 use std::sync::Wait;
 use std::test::Fail;
 use std::thread::join;
@@ -101,15 +102,46 @@ fn has_all_turns(journal: &Journal) -> bool {
     journal.count() == 2 * TURNS && of_second as u64 == TURNS
 }
 
-#[test]
-fn two_seats_take_turns_and_close(rt: HostRuntime) -> Result<(), Fail> {
-    let alloc = rt.alloc();
+/// A lock over an empty journal, and its first seat.
+fn new_lock(alloc: Global) -> Result<(Turns<Journal>, Seat<Journal>), Fail>
+    ensures of { IfOk result (λ made. IsSeatOf made.0 made.1) }
+    ensures view { IfOk result (λ made. view made.1 ≡ first_view tt) }
+{
     let journal = Journal {
         entries: Vec::new(alloc),
     };
-    let Ok((turns, first)) = Turns::new(alloc, journal) else {
-        panic!(rt; "no memory")
+    match Turns::new(alloc, journal) {
+        Ok(made) => Ok(made),
+        Err(_) => Err(Fail::new("no memory")),
+    }
+}
+
+/// The journal of a lock that doesn't close without its last seat, and then closes with it.
+fn closed_at_last(
+    turns: Turns<Journal>,
+    seats: Vec<Seat<Journal>>,
+    last: Seat<Journal>,
+) -> Result<Journal, Fail>
+    requires of { All (λ s. IsSeatOf turns s) seats.items }
+    requires last { IsSeatOf turns last }
+{
+    let Err(Missing { turns, mut seats }) = turns.close(seats) else {
+        return Err(Fail::new("closed without its last seat"));
     };
+    seats.push(last)?;
+    match turns.close(seats) {
+        Ok(journal) => Ok(journal),
+        Err(missing) => {
+            drop(missing);
+            Err(Fail::new("did not close with all its seats"))
+        }
+    }
+}
+
+#[test]
+fn two_seats_take_turns_and_close(rt: HostRuntime) -> Result<(), Fail> {
+    let alloc = rt.alloc();
+    let (turns, first) = new_lock(alloc)?;
     let lock = &turns;
     let (first, second) = lock.split(first);
     let (first, second) = join(
@@ -119,13 +151,7 @@ fn two_seats_take_turns_and_close(rt: HostRuntime) -> Result<(), Fail> {
     );
     let mut seats = Vec::with_capacity(alloc, 2)?;
     seats.push_reserved(first);
-    let Err(Missing { turns, mut seats }) = turns.close(seats) else {
-        panic!(rt; "closed without its second seat")
-    };
-    seats.push(second)?;
-    let Ok(journal) = turns.close(seats) else {
-        panic!(rt; "did not close with both seats")
-    };
+    let journal = closed_at_last(turns, seats, second)?;
     assert!(rt; has_all_turns(&journal));
     Ok(())
 }
@@ -133,25 +159,14 @@ fn two_seats_take_turns_and_close(rt: HostRuntime) -> Result<(), Fail> {
 #[test]
 fn seats_close_in_any_order(rt: HostRuntime) -> Result<(), Fail> {
     let alloc = rt.alloc();
-    let journal = Journal {
-        entries: Vec::new(alloc),
-    };
-    let Ok((turns, first)) = Turns::new(alloc, journal) else {
-        panic!(rt; "no memory")
-    };
+    let (turns, first) = new_lock(alloc)?;
     let (first, second) = turns.split(first);
     let (first, third) = turns.split(first);
     let second = take_turn(&rt, &turns, second, 1);
     let mut seats = Vec::with_capacity(alloc, 2)?;
     seats.push_reserved(third);
     seats.push_reserved(second);
-    let Err(Missing { turns, mut seats }) = turns.close(seats) else {
-        panic!(rt; "closed without its first seat")
-    };
-    seats.push(first)?;
-    let Ok(journal) = turns.close(seats) else {
-        panic!(rt; "did not close with its first seat last")
-    };
+    let journal = closed_at_last(turns, seats, first)?;
     assert!(rt; journal.count() == 1);
     Ok(())
 }

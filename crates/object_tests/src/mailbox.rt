@@ -97,10 +97,8 @@ fn is_told(alloc: Global, mail: &mut Mail) -> Result<bool, Fail> {
 
 #[test]
 fn takes_a_message_once_by_its_key(rt: HostRuntime) -> Result<(), Fail> {
-    let mut mail = Mail::new(rt.alloc());
-    let told = is_told(rt.alloc(), &mut mail);
-    drop(mail);
-    assert!(rt; told?);
+    let told = is_told(rt.alloc(), &mut Mail::new(rt.alloc()))?;
+    assert!(rt; told);
     Ok(())
 }
 
@@ -142,9 +140,7 @@ fn finds_by_tag(alloc: Global, mail: &mut Mail) -> Result<bool, Fail> {
 
 #[test]
 fn tells_tags_apart(rt: HostRuntime) -> Result<(), Fail> {
-    let mut mail = Mail::new(rt.alloc());
-    let told = finds_by_tag(rt.alloc(), &mut mail);
-    drop(mail);
-    assert!(rt; told?);
+    let told = finds_by_tag(rt.alloc(), &mut Mail::new(rt.alloc()))?;
+    assert!(rt; told);
     Ok(())
 }

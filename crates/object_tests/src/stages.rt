@@ -1,11 +1,13 @@
 //! A stage that was stopped, one whose role has finished, and seats that are handed in with the
 //! first one last.
 
-ghost use Rattle.std.specs.Prelude.{◌≡◌, ◌∷◌, [], IfSome, length};
+ghost use Rattle.std.specs.Prelude.{◌≡◌, ◌∷◌, [], IfOk, IfSome, length};
 ghost use Rattle.dioc_terms.specs.Plain.{plain};
 ghost use Rattle.dioc_terms.specs.Bundles.{IsFormed};
 ghost use Rattle.marked_laws.specs.Laws.{IsSound};
+ghost use Rattle.stage.specs.Holds.{IsFeeder};
 ghost use Rattle.stage.specs.Stages.{IsSeatIn};
+ghost use Rattle.turn_lock.specs.Words.{view};
 
 use bundle_text::read_bundle;
 use dioc_terms::Bundle;
@@ -98,21 +100,33 @@ fn closes(stage: Stage, alloc: Global, first: Seat<Home>, feeder: Seat<Home>) ->
     }
 }
 
+/// A stage of the scripted bundle before its first entry, the seat of its role, and the feeder's.
+fn opened(alloc: Global) -> Result<(Stage, Seat<Home>, Seat<Home>), Fail>
+    ensures first { IfOk result (λ made. IsSeatIn made.0 made.1) }
+    ensures second { IfOk result (λ made. IsSeatIn made.0 made.2) }
+    ensures feeder { IfOk result (λ made. IsFeeder (view made.2)) }
+{
+    let Some(bundle) = bundle_of(alloc, SCRIPTED) else {
+        return Err(Fail::new("not accepted"));
+    };
+    let made = Stage::new(alloc, &bundle, LIMIT);
+    drop(bundle);
+    let (stage, mut seats) = made?;
+    let (Some(feeder), Some(first)) = (seats.pop(), seats.pop()) else {
+        return Err(Fail::new("no seats"));
+    };
+    drop(seats);
+    Ok((stage, first, feeder))
+}
+
 #[test]
 fn the_first_stop_is_answered(rt: HostRuntime) -> Result<(), Fail> {
     let alloc = rt.alloc();
-    let Some(bundle) = bundle_of(alloc, SCRIPTED) else {
-        panic!(rt; "not accepted")
-    };
-    let (stage, mut seats) = Stage::new(alloc, &bundle, LIMIT)?;
-    let (Some(feeder), Some(first)) = (seats.pop(), seats.pop()) else {
-        panic!(rt; "no seats")
-    };
+    let (stage, first, feeder) = opened(alloc)?;
     let first = stage.stop(&rt, first, Why::Memory(7));
     let feeder = stage.stop(&rt, feeder, Why::Memory(8));
     let (feeder, made) = stage.commit_change(&rt, feeder);
     let count = closes(stage, alloc, first, feeder)?;
-    drop((seats, bundle));
     assert!(rt; made == Err(CommitFault::Stopped(Why::Memory(7))));
     assert!(rt; count == 0);
     Ok(())
@@ -144,13 +158,7 @@ fn a_change_after_all_have_finished(rt: HostRuntime) -> Result<(), Fail> {
 #[test]
 fn a_stop_ends_all_waits(rt: HostRuntime) -> Result<(), Fail> {
     let alloc = rt.alloc();
-    let Some(bundle) = bundle_of(alloc, SCRIPTED) else {
-        panic!(rt; "not accepted")
-    };
-    let (stage, mut seats) = Stage::new(alloc, &bundle, LIMIT)?;
-    let (Some(feeder), Some(first)) = (seats.pop(), seats.pop()) else {
-        panic!(rt; "no seats")
-    };
+    let (stage, first, feeder) = opened(alloc)?;
     let feeder = stage.stop(&rt, feeder, Why::Memory(0));
     stage.wait_past(&rt, u64::MAX);
     stage.wait_past_at(&rt, 0, u64::MAX);
@@ -158,7 +166,6 @@ fn a_stop_ends_all_waits(rt: HostRuntime) -> Result<(), Fail> {
     stage.wait_for_mail(&rt, 0);
     let holds = stage.holds(&rt);
     let count = closes(stage, alloc, first, feeder)?;
-    drop((seats, bundle));
     assert!(rt; holds == 1);
     assert!(rt; count == 0);
     Ok(())

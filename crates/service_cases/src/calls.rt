@@ -28,45 +28,17 @@ fn answer_into<R: Threads + Wait + Sync>(
     case: &Case,
     out: &mut Vec<u8>,
 ) -> Result<(), Problem> {
-    if let Some(answered) = answer_once(rt, alloc, case, out) {
-        return answered;
-    }
-    match answer_each(rt, alloc, case, out) {
-        Some(answered) => answered,
-        None => Err(Problem::Bad("there is no such call")),
-    }
-}
-
-// Answers a call that asks for one thing, if it is one.
-fn answer_once<R: Threads + Wait + Sync>(
-    rt: &R,
-    alloc: Global,
-    case: &Case,
-    out: &mut Vec<u8>,
-) -> Option<Result<(), Problem>> {
-    Some(match case.call.as_slice() {
+    match case.call.as_slice() {
         b"serve" => services::answer_threaded(rt, alloc, case, out),
         b"serve_alone" => services::answer(alloc, case, out),
         b"serve_over" => services::answer_over(alloc, case, out),
         b"serve_endless" => services::answer_endless(alloc, case, out),
         b"project" => projections::answer(alloc, case, out),
-        _ => return None,
-    })
-}
-
-// Answers a call that asks for the same again and again, if it is one.
-fn answer_each<R: Threads + Wait + Sync>(
-    rt: &R,
-    alloc: Global,
-    case: &Case,
-    out: &mut Vec<u8>,
-) -> Option<Result<(), Problem>> {
-    Some(match case.call.as_slice() {
         b"each_read" => sweeps::answer_reads(alloc, case, out),
         b"each_write" => sweeps::answer_writes(alloc, case, out),
         b"each_front" => sweeps::answer_fronts(alloc, case, out),
         b"each_run" => threads::answer_runs(rt, alloc, case, out),
         b"each_workers" => threads::answer_workers(rt, alloc, case, out),
-        _ => return None,
-    })
+        _ => Err(Problem::Bad("there is no such call")),
+    }
 }

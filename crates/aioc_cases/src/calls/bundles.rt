@@ -11,8 +11,14 @@ use text_pieces::{write_bytes, write_number};
 pub fn answer_read(alloc: Global, case: &Case, out: &mut Vec<u8>) -> Result<(), Problem> {
     match read_bundle(alloc, &case.text).err() {
         None => Ok(write_bytes(b"a bundle", out)?),
-        Some(SyntaxFault::Syntax(byte)) => Ok(write_place("none at byte", byte, out)?),
-        Some(SyntaxFault::Memory) => Err(Problem::Memory),
+        Some(fault) => write_fault(fault, out),
+    }
+}
+
+fn write_fault(fault: SyntaxFault, out: &mut Vec<u8>) -> Result<(), Problem> {
+    match fault {
+        SyntaxFault::Syntax(byte) => Ok(write_place("none at byte", byte, out)?),
+        SyntaxFault::Memory => Err(Problem::Memory),
     }
 }
 
@@ -49,7 +55,6 @@ fn write_sessions(
             write_number(sessions.len() as u64, out)?;
             Ok(write_bytes(b" sessions", out)?)
         }
-        Err(SyntaxFault::Syntax(byte)) => Ok(write_place("none at byte", *byte, out)?),
-        Err(SyntaxFault::Memory) => Err(Problem::Memory),
+        Err(fault) => write_fault(*fault, out),
     }
 }

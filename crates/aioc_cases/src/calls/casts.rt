@@ -1,5 +1,6 @@
 //! `roles: TEXT`: the roles of a choreography, in the order in which its text first names them.
 
+use crate::calls::lists::write_list;
 use case_tables::{Case, Problem, whole_choreo};
 use dioc_terms::{Memory, Role, roles};
 use std::alloc::Global;
@@ -11,20 +12,11 @@ pub fn answer(alloc: Global, case: &Case, out: &mut Vec<u8>) -> Result<(), Probl
     let found = roles(alloc, &choreo);
     drop(choreo);
     let cast = found?;
-    let written = write_roles(cast.as_slice(), out);
+    let written = write_list(cast.as_slice(), b" ", &write_role, out);
     drop(cast);
     Ok(written?)
 }
 
-fn write_roles(roles: &[Role], out: &mut Vec<u8>) -> Result<(), Memory> {
-    if roles.is_empty() {
-        write_bytes(b"none", out)?;
-    }
-    for (number, role) in roles.iter().enumerate() {
-        if number > 0 {
-            write_bytes(b" ", out)?;
-        }
-        write_bytes(role.0.bytes(), out)?;
-    }
-    Ok(())
+fn write_role(role: &Role, out: &mut Vec<u8>) -> Result<(), Memory> {
+    write_bytes(role.0.bytes(), out)
 }

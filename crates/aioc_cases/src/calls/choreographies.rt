@@ -1,23 +1,13 @@
 //! `read_choreo VERSION: TEXT`: the longest choreography at the front of a text.
 
-use case_tables::{Case, Front, Problem, front_choreo};
+use case_tables::{Case, Problem, front_choreo};
 use dioc_syntax::write_choreo;
-use dioc_terms::{Choreo, Memory};
 use std::alloc::Global;
 
 /// Appends `reads N: ` with the choreography as it is written; `none at byte N`; or `bad byte N`.
 pub fn answer(alloc: Global, case: &Case, out: &mut Vec<u8>) -> Result<(), Problem> {
     let front = front_choreo(alloc, &case.text, version_of(case)?)?;
-    let written = write_front(&front, out);
-    drop(front);
-    Ok(written?)
-}
-
-fn write_front(front: &Front<Choreo>, out: &mut Vec<u8>) -> Result<(), Memory> {
-    match front.write_head(out)? {
-        Some(choreo) => write_choreo(choreo, out),
-        None => Ok(()),
-    }
+    Ok(front.write(&|choreo, out| write_choreo(choreo, out), out)?)
 }
 
 /// The version that the only option names.

@@ -2,8 +2,8 @@
 
 ghost use Rattle.aioc_tokens.specs.Lexing.{Lexes};
 
-use aioc_tokens::{Lexed, Sort, Token, TokenFault, place, tokens};
-use case_tables::{Case, Problem, write_place};
+use aioc_tokens::{Lexed, Sort, Token, place};
+use case_tables::{Case, Problem, text_tokens, write_place};
 use dioc_terms::Memory;
 use std::alloc::Global;
 use text_pieces::write_bytes;
@@ -11,14 +11,13 @@ use text_pieces::write_bytes;
 /// Appends `at N SORT VALUE` for each lexeme that begins at byte N, and `at N end`; or `bad byte
 /// N`.
 pub fn answer(alloc: Global, case: &Case, out: &mut Vec<u8>) -> Result<(), Problem> {
-    match tokens(alloc, &case.text) {
+    match text_tokens(alloc, &case.text)? {
         Ok(found) => {
             let written = write_lexemes(alloc, &case.text, &found, out);
             drop(found);
             written
         }
-        Err(TokenFault::BadByte(byte)) => Ok(write_place("bad byte", byte, out)?),
-        Err(TokenFault::Memory) => Err(Problem::Memory),
+        Err(byte) => Ok(write_place("bad byte", byte, out)?),
     }
 }
 

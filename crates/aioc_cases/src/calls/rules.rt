@@ -11,9 +11,7 @@ use text_pieces::write_bytes;
 /// Appends `reads N: ` with the rule as it is written; `none at byte N`; or `bad byte N`.
 pub fn answer_rule(alloc: Global, case: &Case, out: &mut Vec<u8>) -> Result<(), Problem> {
     let front = front_rule(alloc, &case.text, version_of(case)?)?;
-    let written = write_rule_front(&front, out);
-    drop(front);
-    Ok(written?)
+    Ok(front.write(&|rule, out| write_rule(rule, out), out)?)
 }
 
 fn front_rule(alloc: Global, text: &[u8], version: u32) -> Result<Front<Rule>, Problem> {
@@ -23,22 +21,14 @@ fn front_rule(alloc: Global, text: &[u8], version: u32) -> Result<Front<Rule>, P
     }
 }
 
-fn write_rule_front(front: &Front<Rule>, out: &mut Vec<u8>) -> Result<(), Memory> {
-    match front.write_head(out)? {
-        Some(rule) => write_rule(rule, out),
-        None => Ok(()),
-    }
-}
-
 /// Appends `reads N: ` and `a change`; `none at byte N`; or `bad byte N`.
 pub fn answer_change(alloc: Global, case: &Case, out: &mut Vec<u8>) -> Result<(), Problem> {
     let front = front_change(alloc, &case.text, version_of(case)?)?;
-    let is_read = front.write_head(out)?.is_some();
-    drop(front);
-    if is_read {
-        write_bytes(b"a change", out)?;
-    }
-    Ok(())
+    Ok(front.write(&write_kind, out)?)
+}
+
+fn write_kind(_change: &ReadChange, out: &mut Vec<u8>) -> Result<(), Memory> {
+    write_bytes(b"a change", out)
 }
 
 fn front_change(alloc: Global, text: &[u8], version: u32) -> Result<Front<ReadChange>, Problem> {

@@ -1,35 +1,22 @@
 //! `tokens: TEXT`: the kinds and places of the tokens, or the first byte that is in none.
 
-use aioc_tokens::{Kind, Token, TokenFault, tokens};
-use case_tables::{Case, Problem, write_place};
+use crate::calls::lists::write_list;
+use aioc_tokens::{Kind, Token};
+use case_tables::{Case, Problem, text_tokens, write_place};
 use dioc_terms::Memory;
 use std::alloc::Global;
 use text_pieces::{write_bytes, write_number};
 
 /// Appends `KIND START-END` for each token, with `, ` between two; `none`; or `bad byte N`.
 pub fn answer(alloc: Global, case: &Case, out: &mut Vec<u8>) -> Result<(), Problem> {
-    match tokens(alloc, &case.text) {
+    match text_tokens(alloc, &case.text)? {
         Ok(found) => {
-            let written = write_tokens(&found, out);
+            let written = write_list(&found, b", ", &write_token, out);
             drop(found);
             Ok(written?)
         }
-        Err(TokenFault::BadByte(byte)) => Ok(write_place("bad byte", byte, out)?),
-        Err(TokenFault::Memory) => Err(Problem::Memory),
+        Err(byte) => Ok(write_place("bad byte", byte, out)?),
     }
-}
-
-fn write_tokens(found: &[Token], out: &mut Vec<u8>) -> Result<(), Memory> {
-    if found.is_empty() {
-        write_bytes(b"none", out)?;
-    }
-    for (number, token) in found.iter().enumerate() {
-        if number > 0 {
-            write_bytes(b", ", out)?;
-        }
-        write_token(token, out)?;
-    }
-    Ok(())
 }
 
 fn write_token(token: &Token, out: &mut Vec<u8>) -> Result<(), Memory> {

@@ -1,8 +1,7 @@
 //! `read_trace: TEXT`: the lines of a trace up to a `}`. `trace_line: TEXT` and `json_line: TEXT`:
 //! a line, written again as it is and as JSON.
 
-use aioc_tokens::{TokenFault, tokens};
-use case_tables::{Case, Problem, write_place};
+use case_tables::{Case, Problem, text_tokens, write_place};
 use dioc_terms::{Entry, Memory, Trace};
 use std::alloc::Global;
 use text_pieces::{write_bytes, write_number};
@@ -20,7 +19,7 @@ enum Lines {
 }
 
 fn front_lines(alloc: Global, text: &[u8]) -> Result<Lines, Problem> {
-    match tokens(alloc, text) {
+    match text_tokens(alloc, text)? {
         Ok(found) => {
             let read = read_trace(alloc, text, &found, 0);
             drop(found);
@@ -30,8 +29,7 @@ fn front_lines(alloc: Global, text: &[u8]) -> Result<Lines, Problem> {
                 Err(TraceFault::Memory) => Err(Problem::Memory),
             }
         }
-        Err(TokenFault::BadByte(byte)) => Ok(Lines::BadByte(byte)),
-        Err(TokenFault::Memory) => Err(Problem::Memory),
+        Err(byte) => Ok(Lines::BadByte(byte)),
     }
 }
 

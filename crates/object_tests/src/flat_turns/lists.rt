@@ -73,16 +73,20 @@ fn lists_of_task(
     Ok(())
 }
 
-/// Whether the lists of ten programs, of each of the eight roles of each, from the program of that
-/// number on, are alike, and some have an update.
-fn are_alike(alloc: Global, first: u32) -> Result<bool, Memory>
+/// Fails unless the lists of ten programs, of each of the eight roles of each, from the program of
+/// that number on, are alike, and some have an update.
+fn try_programs(alloc: Global, first: u32) -> Result<(), Fail>
     requires { first ≤ 1000 }
 {
     let mut tally = Tally::new();
     for number in first..first + 10 {
         lists_of_program(alloc, number, &mut tally)?;
     }
-    Ok(tally.is_whole(1600, 100))
+    if tally.is_whole(1600, 100) {
+        Ok(())
+    } else {
+        Err(Fail::new("the lists are not alike"))
+    }
 }
 
 /// The lists of the program of that number. A role has its parts of one, two or three bundles side
@@ -134,44 +138,32 @@ fn lists_of_cast(
 
 #[test]
 fn programs_from_0_on_are_alike(rt: HostRuntime) -> Result<(), Fail> {
-    let alike = are_alike(rt.alloc(), 0)?;
-    assert!(rt; alike);
-    Ok(())
+    try_programs(rt.alloc(), 0)
 }
 
 #[test]
 fn programs_from_10_on_are_alike(rt: HostRuntime) -> Result<(), Fail> {
-    let alike = are_alike(rt.alloc(), 10)?;
-    assert!(rt; alike);
-    Ok(())
+    try_programs(rt.alloc(), 10)
 }
 
 #[test]
 fn programs_from_20_on_are_alike(rt: HostRuntime) -> Result<(), Fail> {
-    let alike = are_alike(rt.alloc(), 20)?;
-    assert!(rt; alike);
-    Ok(())
+    try_programs(rt.alloc(), 20)
 }
 
 #[test]
 fn programs_from_30_on_are_alike(rt: HostRuntime) -> Result<(), Fail> {
-    let alike = are_alike(rt.alloc(), 30)?;
-    assert!(rt; alike);
-    Ok(())
+    try_programs(rt.alloc(), 30)
 }
 
 #[test]
 fn programs_from_40_on_are_alike(rt: HostRuntime) -> Result<(), Fail> {
-    let alike = are_alike(rt.alloc(), 40)?;
-    assert!(rt; alike);
-    Ok(())
+    try_programs(rt.alloc(), 40)
 }
 
 #[test]
 fn programs_from_50_on_are_alike(rt: HostRuntime) -> Result<(), Fail> {
-    let alike = are_alike(rt.alloc(), 50)?;
-    assert!(rt; alike);
-    Ok(())
+    try_programs(rt.alloc(), 50)
 }
 
 /// The lists of the role of that letter in a bundle with each form, which reads an input, drawn

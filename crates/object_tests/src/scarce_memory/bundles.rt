@@ -1,5 +1,7 @@
 //! The bundles of the tests.
 
+use std::alloc::{AllocError, Global};
+
 /// A buyer and a seller, and a rule that is added live.
 pub const BUYER_SELLER: &[u8] = br#"aioc {
   n@buyer = 0;
@@ -42,44 +44,13 @@ ended 41
 "#;
 
 /// The two with the trace of their run.
-pub const PLAYED: &[u8] = br#"aioc {
-  n@buyer = 0;
-  while n < 2 @buyer {
-    ask: buyer(n) -> seller(item);
-    scope @seller {
-      price@seller = 100;
-      quote: seller(price) -> buyer(p)
-    } prop { N.name = "offer" };
-    n@buyer = n + 1
-  }
+pub fn played(alloc: Global) -> Result<Vec<u8>, AllocError> {
+    let mut text = BUYER_SELLER.to_vec(alloc)?;
+    text.extend_from_slice(b"trace {\n")?;
+    text.extend_from_slice(BUYER_SELLER_TRACE)?;
+    text.extend_from_slice(b"}\n")?;
+    Ok(text)
 }
-env { season = "sale"; }
-script { after 6 add rule cheap {
-  on { N.name == "offer" and E.season == "sale" }
-  do { price@seller = 80; quote: seller(price) -> buyer(p) } } }
-trace {
-set n@buyer #0.0 = 0
-pick buyer #0.1 true
-put buyer -> seller ask#0.2 = 0
-take buyer -> seller ask#0.2 item
-scope seller #0.3 keep
-set price@seller #0.4 = 100
-add cheap
-put seller -> buyer quote#0.5 = 100
-take seller -> buyer quote#0.5 p
-set n@buyer #0.6 = 1
-pick buyer #0.1 true
-put buyer -> seller ask#0.2 = 1
-take buyer -> seller ask#0.2 item
-scope seller #0.3 rule cheap as 1
-set price@seller #1.0 = 80
-put seller -> buyer quote#1.1 = 80
-take seller -> buyer quote#1.1 p
-set n@buyer #0.6 = 2
-pick buyer #0.1 false
-ended 41
-}
-"#;
 
 /// Each form of the language, with rules, environment, inputs and changes.
 pub const EVERY_FORM: &[u8] = br#"version 2

@@ -37,10 +37,7 @@ pub fn answer_threaded<R: Threads + Wait + Sync>(
 
 /// Appends the same of the call over the devices that the first option tells.
 pub fn answer_over(alloc: Global, case: &Case, out: &mut Vec<u8>) -> Result<(), Problem> {
-    let (told, words) = match case.options.as_slice() {
-        [told, words @ ..] => (told, words),
-        [] => return Err(Problem::Bad("the call has no devices")),
-    };
+    let (told, words) = case.first_option("the call has no devices")?;
     let devices = read_devices(told)?;
     let made = serve(alloc, words, &case.text, &devices)?;
     Ok(write_outcome(&made, out)?)

@@ -19,39 +19,90 @@ use text_pieces::{write_bytes, write_number};
 // How many bytes a call moves at most.
 const PIECE: usize = 7;
 
+/// The lines that tell how it goes at one time after another, where that changes.
+#[derive(Drop)]
+pub struct Changes {
+    /// How it went before.
+    last: Vec<u8>,
+}
+
+impl Changes {
+    /// Before the first time.
+    pub fn new(alloc: Global) -> Changes {
+        Changes {
+            last: Vec::new(alloc),
+        }
+    }
+
+    /// Appends how it goes from this time on, where that isn't how it went before.
+    pub fn add(&mut self, number: usize, line: Vec<u8>, out: &mut Vec<u8>) -> Result<(), Memory> {
+        if line != self.last {
+            write_change(number, &line, out)?;
+            self.last = line;
+        }
+        Ok(())
+    }
+}
+
+fn write_change(number: usize, line: &[u8], out: &mut Vec<u8>) -> Result<(), Memory> {
+    write_bytes(b"from ", out)?;
+    write_number(number as u64, out)?;
+    write_bytes(b": ", out)?;
+    write_bytes(line, out)?;
+    write_bytes(b"\n", out)
+}
+
 /// Appends how it goes where a call of the source fails.
 pub fn answer_reads(alloc: Global, case: &Case, out: &mut Vec<u8>) -> Result<(), Problem> {
     let whole = serve(alloc, &case.options, &case.text, &Devices::usual())?;
-    let mut devices = Devices::usual();
-    let mut last = Vec::new(alloc);
-    for number in 1..some_calls(case.text.len()) {
-        devices.source = Course::usual().in_pieces(PIECE).failing(number);
-        let made = serve(alloc, &case.options, &case.text, &devices)?;
-        let line = described(alloc, &made, &whole.out)?;
-        write_change(number, &last, &line, out)?;
-        last = line;
-    }
-    Ok(())
+    let calls = some_calls(case.text.len());
+    answer_failures(alloc, case, calls, &with_source, &whole.out, out)
 }
 
 /// Appends how it goes where a call of `out` fails.
 pub fn answer_writes(alloc: Global, case: &Case, out: &mut Vec<u8>) -> Result<(), Problem> {
     let whole = serve(alloc, &case.options, &case.text, &Devices::usual())?;
-    let mut devices = Devices::usual();
-    let mut last = Vec::new(alloc);
-    for number in 1..some_calls(whole.out.len()) {
-        devices.out = Course::usual().in_pieces(PIECE).failing(number);
+    let calls = some_calls(whole.out.len());
+    answer_failures(alloc, case, calls, &with_out, &whole.out, out)
+}
+
+// Appends how it goes where one of so many calls fails, of the device to which `with` gives its
+// course, beside the text that `out` takes where none fails.
+fn answer_failures<F: Fn(Course) -> Devices>(
+    alloc: Global,
+    case: &Case,
+    calls: usize,
+    with: &F,
+    whole: &[u8],
+    out: &mut Vec<u8>,
+) -> Result<(), Problem>
+    requires { F.IsAlwaysCallable with.now }
+{
+    let mut changes = Changes::new(alloc);
+    for number in 1..calls {
+        let devices = with(Course::usual().in_pieces(PIECE).failing(number));
         let made = serve(alloc, &case.options, &case.text, &devices)?;
-        let line = described(alloc, &made, &whole.out)?;
-        write_change(number, &last, &line, out)?;
-        last = line;
+        let line = described(alloc, &made, whole)?;
+        changes.add(number, line, out)?;
     }
     Ok(())
 }
 
+fn with_source(course: Course) -> Devices {
+    let mut devices = Devices::usual();
+    devices.source = course;
+    devices
+}
+
+fn with_out(course: Course) -> Devices {
+    let mut devices = Devices::usual();
+    devices.out = course;
+    devices
+}
+
 /// Appends how it goes with each front of the text.
 pub fn answer_fronts(alloc: Global, case: &Case, out: &mut Vec<u8>) -> Result<(), Problem> {
-    let mut last = Vec::new(alloc);
+    let mut changes = Changes::new(alloc);
     for length in 0..=case.text.len() {
         let made = serve(
             alloc,
@@ -60,8 +111,7 @@ pub fn answer_fronts(alloc: Global, case: &Case, out: &mut Vec<u8>) -> Result<()
             &Devices::usual(),
         )?;
         let line = coded(alloc, &made)?;
-        write_change(length, &last, &line, out)?;
-        last = line;
+        changes.add(length, line, out)?;
     }
     Ok(())
 }
@@ -69,23 +119,6 @@ pub fn answer_fronts(alloc: Global, case: &Case, out: &mut Vec<u8>) -> Result<()
 // A number that is two past that of the calls that move so many bytes and find their end.
 fn some_calls(bytes: usize) -> usize {
     bytes / PIECE + 4
-}
-
-/// Appends how it goes from this time on, where that isn't how it went before.
-pub fn write_change(
-    number: usize,
-    last: &[u8],
-    line: &[u8],
-    out: &mut Vec<u8>,
-) -> Result<(), Memory> {
-    if line == last {
-        return Ok(());
-    }
-    write_bytes(b"from ", out)?;
-    write_number(number as u64, out)?;
-    write_bytes(b": ", out)?;
-    write_bytes(line, out)?;
-    write_bytes(b"\n", out)
 }
 
 // The exit code of a call.

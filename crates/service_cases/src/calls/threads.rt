@@ -7,7 +7,7 @@
 //! `each_workers W,..,W WORD..: SESSIONS`: with `--workers W` behind the words, for each W of
 //! these. The answer has a line for each.
 
-use crate::calls::sweeps::{part_of, write_change};
+use crate::calls::sweeps::{Changes, part_of};
 use crate::devices::{Devices, Outcome, serve, serve_threaded};
 use case_tables::{Case, Problem, read_number};
 use dioc_terms::Memory;
@@ -23,16 +23,13 @@ pub fn answer_runs<R: Threads + Wait + Sync>(
     case: &Case,
     out: &mut Vec<u8>,
 ) -> Result<(), Problem> {
-    let (count, words) = match case.options.as_slice() {
-        [count, words @ ..] => (read_number(count)?, words),
-        [] => return Err(Problem::Bad("the call has no count")),
-    };
+    let (count, words) = case.first_option("the call has no count")?;
+    let count = read_number(count)?;
     let all = copy_words(alloc, &[b"run", b"--aux"], words)?;
-    let mut last = Vec::new(alloc);
+    let mut changes = Changes::new(alloc);
     for number in 1..=count {
         let line = judged_run(rt, alloc, &all, &case.text)?;
-        write_change(number, &last, &line, out)?;
-        last = line;
+        changes.add(number, line, out)?;
     }
     Ok(())
 }
@@ -102,10 +99,7 @@ pub fn answer_workers<R: Threads + Wait + Sync>(
     case: &Case,
     out: &mut Vec<u8>,
 ) -> Result<(), Problem> {
-    let (numbers, words) = match case.options.as_slice() {
-        [numbers, words @ ..] => (numbers, words),
-        [] => return Err(Problem::Bad("the call has no numbers of workers")),
-    };
+    let (numbers, words) = case.first_option("the call has no numbers of workers")?;
     let mut first = None;
     for number in numbers.split(|byte| *byte == b',') {
         let made = serve_workers(rt, alloc, words, number, &case.text)?;
