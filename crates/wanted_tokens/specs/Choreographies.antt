@@ -65,11 +65,7 @@ abbrev pub assigned : Look → GoalEffect
 assigned (looks.Reserved word.Input) = Takes (left_paren ∷ right_paren ∷ [])
 assigned look = take_expression kinds.Step look
 
--- seq = step { ";" step } [ ";" ]
-abbrev pub more_steps : Look → GoalEffect
-more_steps (looks.Symbol punctuator.Semicolon) = Takes (goal.NextStep ∷ [])
-more_steps _ = Passes
-
+-- behind a `;` of a sequence: a step, or nothing
 abbrev pub or_nothing : GoalEffect → GoalEffect
 or_nothing Stops = Passes
 or_nothing other = other
@@ -77,40 +73,28 @@ or_nothing other = other
 abbrev pub next_step : Look → GoalEffect
 next_step look = or_nothing (step_before (goal.MoreSteps ∷ []) look)
 
--- choreo = seq { "|" seq }
-abbrev pub more_parts : Look → GoalEffect
-more_parts (looks.Symbol punctuator.Bar) =
-    Takes (goal.Step ∷ goal.MoreSteps ∷ goal.MoreParts ∷ [])
-more_parts _ = Passes
-
--- [ "else" "{" choreo "}" ]
-abbrev pub otherwise : Look → GoalEffect
-otherwise (looks.Reserved word.Else) = Takes block_goals
-otherwise _ = Passes
-
--- in version 2 alone: [ "roles" "{" name { "," name } "}" ]
-abbrev pub extra_roles : Bool → Look → GoalEffect
-extra_roles true (looks.Name (Some place.Roles)) =
-    Takes (left_brace ∷ goal.Name ∷ goal.MoreNames ∷ right_brace ∷ [])
-extra_roles _ _ = Passes
-
-abbrev pub more_names : Look → GoalEffect
-more_names (looks.Symbol punctuator.Comma) = Takes (goal.Name ∷ goal.MoreNames ∷ [])
-more_names _ = Passes
-
--- [ "prop" "{" [ props ] "}" ], where props = "N" "." name "=" value { "," "N" "." name "=" value }
-abbrev pub properties : Look → GoalEffect
-properties (looks.Reserved word.Prop) =
-    Takes (left_brace ∷ goal.FirstProperty ∷ right_brace ∷ [])
-properties _ = Passes
-
+-- a property behind its `N`: "." name "=" value
 abbrev pub property : List Goal
 property = dot ∷ goal.Name ∷ equal ∷ goal.Value ∷ goal.MoreProperties ∷ []
 
-abbrev pub first_property : Look → GoalEffect
-first_property (looks.Reserved word.N) = Takes property
-first_property _ = Passes
-
-abbrev pub more_properties : Look → GoalEffect
-more_properties (looks.Symbol punctuator.Comma) = Takes (n_word ∷ property)
-more_properties _ = Passes
+-- what may be left out, behind its first token:
+--   seq = step { ";" step } [ ";" ]
+--   choreo = seq { "|" seq }
+--   [ "else" "{" choreo "}" ]
+--   in version 2 alone: [ "roles" "{" name { "," name } "}" ]
+--   [ "prop" "{" [ props ] "}" ]
+--   props = "N" "." name "=" value { "," "N" "." name "=" value }
+abbrev pub optional : Bool → Goal → Look → GoalEffect
+optional second goal.MoreSteps (looks.Symbol punctuator.Semicolon) = Takes (goal.NextStep ∷ [])
+optional second goal.MoreParts (looks.Symbol punctuator.Bar) =
+    Takes (goal.Step ∷ goal.MoreSteps ∷ goal.MoreParts ∷ [])
+optional second goal.Otherwise (looks.Reserved word.Else) = Takes block_goals
+optional true goal.ExtraRoles (looks.Name (Some place.Roles)) =
+    Takes (left_brace ∷ goal.Name ∷ goal.MoreNames ∷ right_brace ∷ [])
+optional second goal.MoreNames (looks.Symbol punctuator.Comma) =
+    Takes (goal.Name ∷ goal.MoreNames ∷ [])
+optional second goal.Properties (looks.Reserved word.Prop) =
+    Takes (left_brace ∷ goal.FirstProperty ∷ right_brace ∷ [])
+optional second goal.FirstProperty (looks.Reserved word.N) = Takes property
+optional second goal.MoreProperties (looks.Symbol punctuator.Comma) = Takes (n_word ∷ property)
+optional _ _ _ = Passes

@@ -11,7 +11,7 @@ use Rattle.wanted_tokens.specs.Looks.{look}
 use Rattle.wanted_tokens.specs.Takings.{GoalEffect, Takes, Passes, Stops}
 use Rattle.wanted_tokens.specs.Tokens.{symbol, reserved, name, take_number, done, as_word, truth, two}
 use Rattle.wanted_tokens.specs.Expressions.{value, more_values, take_operand, take_expression, take_negated, more_operands}
-use Rattle.wanted_tokens.specs.Choreographies.{take_step, step_behind_name, assigned, more_steps, next_step, more_parts, otherwise, extra_roles, more_names, properties, first_property, more_properties}
+use Rattle.wanted_tokens.specs.Choreographies.{take_step, step_behind_name, assigned, next_step, optional}
 use Rattle.wanted_tokens.specs.Rules.{rules, priority, rank, change}
 use Rattle.wanted_tokens.specs.Traces.{take_lines, tag_of_put, auxiliary_of_put, begun, tag_of_take, auxiliary_of_take, chosen}
 use Rattle.wanted_tokens.specs.Sections.{bindings, inputs, take_script, sections, sections_behind_trace, later_sections, last_sections, bundle, session}
@@ -34,15 +34,15 @@ taking second (goal.MoreOperands kind comparable) look = more_operands kind comp
 taking second goal.Step look = take_step look
 taking second goal.StepBehindName look = step_behind_name look
 taking second goal.Assigned look = assigned look
-taking second goal.MoreSteps look = more_steps look
+taking second goal.MoreSteps look = optional second goal.MoreSteps look
 taking second goal.NextStep look = next_step look
-taking second goal.MoreParts look = more_parts look
-taking second goal.Otherwise look = otherwise look
-taking second goal.ExtraRoles look = extra_roles second look
-taking second goal.MoreNames look = more_names look
-taking second goal.Properties look = properties look
-taking second goal.FirstProperty look = first_property look
-taking second goal.MoreProperties look = more_properties look
+taking second goal.MoreParts look = optional second goal.MoreParts look
+taking second goal.Otherwise look = optional second goal.Otherwise look
+taking second goal.ExtraRoles look = optional second goal.ExtraRoles look
+taking second goal.MoreNames look = optional second goal.MoreNames look
+taking second goal.Properties look = optional second goal.Properties look
+taking second goal.FirstProperty look = optional second goal.FirstProperty look
+taking second goal.MoreProperties look = optional second goal.MoreProperties look
 taking second goal.Rules look = rules look
 taking second goal.Priority look = priority second look
 taking second goal.Rank look = rank look

@@ -3,11 +3,12 @@
 ghost use Rattle.std.specs.Prelude.{◌≡◌, [], ◌∷◌};
 ghost use Rattle.wanted_tokens.specs.Takings.{effect, listed};
 ghost use Rattle.wanted_tokens.specs.declared.goals.Goal.{Goal};
-ghost use Rattle.wanted_tokens.specs.Choreographies.{step_before, take_step, step_behind_name, assigned, more_steps, next_step, more_parts, otherwise, extra_roles, more_names, properties, first_property, more_properties};
+ghost use Rattle.wanted_tokens.specs.Choreographies.{step_before, take_step, step_behind_name, assigned, next_step, optional};
 
 use crate::expressions::expression;
 use crate::goals::Goal::{
-    self, ExtraRoles, MoreParts, MoreSteps, Name, Otherwise, Properties, Step, Value,
+    self, ExtraRoles, FirstProperty, MoreNames, MoreParts, MoreProperties, MoreSteps, Name,
+    Otherwise, Properties, Step, Value,
 };
 use crate::goals::{
     A_NAME, ARROW, AT, BLOCK, DOT, EQUAL, EXPRESSION, OPEN_BRACE, OPEN_PAREN, SHUT_BRACE,
@@ -56,10 +57,10 @@ const NEXT_STEP: [Goal; 1] = [Goal::NextStep];
 const PART: [Goal; 2] = [Step, MoreSteps];
 
 /// Behind `roles`.
-const NAMES: [Goal; 4] = [OPEN_BRACE, Name, Goal::MoreNames, SHUT_BRACE];
+const NAMES: [Goal; 4] = [OPEN_BRACE, Name, MoreNames, SHUT_BRACE];
 
 /// Behind `prop`.
-const PROPERTIES: [Goal; 3] = [OPEN_BRACE, Goal::FirstProperty, SHUT_BRACE];
+const PROPERTIES: [Goal; 3] = [OPEN_BRACE, FirstProperty, SHUT_BRACE];
 
 /// Behind the `N` of a property.
 const PROPERTY: [Goal; 4] = [DOT, Name, EQUAL, Value];
@@ -110,92 +111,33 @@ pub fn assigned(look: Look) -> Taking
     }
 }
 
-/// A `;` and perhaps a step, or nothing.
-pub fn more_steps(look: Look) -> Taking
-    ensures { effect result ≡ more_steps look }
-{
-    match look {
-        Look::Symbol(Punctuator::Semicolon) => takes(NEXT_STEP.as_slice()),
-        _ => Taking::Passes,
-    }
-}
-
 /// Another step, or nothing.
 pub fn next_step(look: Look) -> Taking
     ensures { effect result ≡ next_step look }
 {
-    match step_before(Some(Goal::MoreSteps), look) {
+    match step_before(Some(MoreSteps), look) {
         Taking::Stops => Taking::Passes,
         other => other,
     }
 }
 
-/// A `|` and another sequence, or nothing.
-pub fn more_parts(look: Look) -> Taking
-    ensures { effect result ≡ more_parts look }
+/// What may be left out of a choreography: it is there only where its first token is.
+pub fn optional(second: bool, goal: Goal, look: Look) -> Taking
+    ensures { effect result ≡ optional second goal look }
 {
-    match look {
-        Look::Symbol(Punctuator::Bar) => takes_before(PART.as_slice(), Goal::MoreParts),
-        _ => Taking::Passes,
-    }
-}
-
-/// An `else` with its block, or nothing.
-pub fn otherwise(look: Look) -> Taking
-    ensures { effect result ≡ otherwise look }
-{
-    match look {
-        Look::Reserved(Word::Else) => takes(BLOCK.as_slice()),
-        _ => Taking::Passes,
-    }
-}
-
-/// Further roles of a scope in a text of the second version, or nothing.
-pub fn extra_roles(second: bool, look: Look) -> Taking
-    ensures { effect result ≡ extra_roles second look }
-{
-    match look {
-        Look::Name(Some(PlaceWord::Roles)) if second => takes(NAMES.as_slice()),
-        _ => Taking::Passes,
-    }
-}
-
-/// Further names, or none.
-pub fn more_names(look: Look) -> Taking
-    ensures { effect result ≡ more_names look }
-{
-    match look {
-        Look::Symbol(Punctuator::Comma) => takes_before(A_NAME.as_slice(), Goal::MoreNames),
-        _ => Taking::Passes,
-    }
-}
-
-/// The properties of a scope, or nothing.
-pub fn properties(look: Look) -> Taking
-    ensures { effect result ≡ properties look }
-{
-    match look {
-        Look::Reserved(Word::Prop) => takes(PROPERTIES.as_slice()),
-        _ => Taking::Passes,
-    }
-}
-
-/// The first property, or nothing.
-pub fn first_property(look: Look) -> Taking
-    ensures { effect result ≡ first_property look }
-{
-    match look {
-        Look::Reserved(Word::N) => takes_before(PROPERTY.as_slice(), Goal::MoreProperties),
-        _ => Taking::Passes,
-    }
-}
-
-/// Further properties, or none.
-pub fn more_properties(look: Look) -> Taking
-    ensures { effect result ≡ more_properties look }
-{
-    match look {
-        Look::Symbol(Punctuator::Comma) => takes_before(ANOTHER.as_slice(), Goal::MoreProperties),
+    match (goal, look) {
+        (MoreSteps, Look::Symbol(Punctuator::Semicolon)) => takes(NEXT_STEP.as_slice()),
+        (MoreParts, Look::Symbol(Punctuator::Bar)) => takes_before(PART.as_slice(), goal),
+        (Otherwise, Look::Reserved(Word::Else)) => takes(BLOCK.as_slice()),
+        (ExtraRoles, Look::Name(Some(PlaceWord::Roles))) if second => takes(NAMES.as_slice()),
+        (MoreNames, Look::Symbol(Punctuator::Comma)) => takes_before(A_NAME.as_slice(), goal),
+        (Properties, Look::Reserved(Word::Prop)) => takes(PROPERTIES.as_slice()),
+        (FirstProperty, Look::Reserved(Word::N)) => {
+            takes_before(PROPERTY.as_slice(), MoreProperties)
+        }
+        (MoreProperties, Look::Symbol(Punctuator::Comma)) => {
+            takes_before(ANOTHER.as_slice(), goal)
+        }
         _ => Taking::Passes,
     }
 }

@@ -5,7 +5,7 @@ ghost use Rattle.wanted_tokens.specs.Takings.{effect, Passes, Stops};
 ghost use Rattle.wanted_tokens.specs.declared.goals.Goal.{Goal};
 ghost use Rattle.wanted_tokens.specs.Sections.{bindings, inputs, take_script, take_repeated, take_traced, sections, sections_behind_trace, later_sections, last_sections, bundle, session};
 
-use crate::goals::Goal::{self, Value};
+use crate::goals::Goal::{self, LastSections, LaterSections, Sections, SectionsBehindTrace, Value};
 use crate::goals::{BLOCK, COLON, EQUAL, OPEN_BRACE, SEMICOLON, SHUT_BRACE};
 use crate::looks::{Look, PlaceWord};
 use crate::takings::{Taking, takes, takes_before};
@@ -37,7 +37,7 @@ const SCRIPT: [Goal; 3] = [OPEN_BRACE, Goal::Script, SHUT_BRACE];
 const LINES: [Goal; 3] = [OPEN_BRACE, Goal::Lines, SHUT_BRACE];
 
 /// Behind `version`.
-const VERSION: [Goal; 2] = [Goal::Two, Goal::Sections];
+const VERSION: [Goal; 2] = [Goal::Two, Sections];
 
 /// Behind `session`.
 const SESSION: [Goal; 3] = [OPEN_BRACE, Goal::Bundle, SHUT_BRACE];
@@ -102,13 +102,8 @@ pub fn sections(look: Look) -> Taking
     ensures { effect result ≡ sections look }
 {
     match look {
-        Look::Reserved(Word::Aioc) => takes_before(BLOCK.as_slice(), Goal::LaterSections),
-        _ => traced(
-            Goal::SectionsBehindTrace,
-            Goal::Sections,
-            Taking::Stops,
-            look,
-        ),
+        Look::Reserved(Word::Aioc) => takes_before(BLOCK.as_slice(), LaterSections),
+        _ => traced(SectionsBehindTrace, Sections, Taking::Stops, look),
     }
 }
 
@@ -117,8 +112,8 @@ pub fn sections_behind_trace(look: Look) -> Taking
     ensures { effect result ≡ sections_behind_trace look }
 {
     match look {
-        Look::Reserved(Word::Aioc) => takes_before(BLOCK.as_slice(), Goal::LastSections),
-        _ => repeated(Goal::SectionsBehindTrace, Taking::Stops, look),
+        Look::Reserved(Word::Aioc) => takes_before(BLOCK.as_slice(), LastSections),
+        _ => repeated(SectionsBehindTrace, Taking::Stops, look),
     }
 }
 
@@ -126,19 +121,14 @@ pub fn sections_behind_trace(look: Look) -> Taking
 pub fn later_sections(look: Look) -> Taking
     ensures { effect result ≡ later_sections look }
 {
-    traced(
-        Goal::LastSections,
-        Goal::LaterSections,
-        Taking::Passes,
-        look,
-    )
+    traced(LastSections, LaterSections, Taking::Passes, look)
 }
 
 /// Sections behind a choreography and a trace, or none.
 pub fn last_sections(look: Look) -> Taking
     ensures { effect result ≡ last_sections look }
 {
-    repeated(Goal::LastSections, Taking::Passes, look)
+    repeated(LastSections, Taking::Passes, look)
 }
 
 /// The version of a bundle and its sections.

@@ -6,10 +6,7 @@ ghost use Rattle.wanted_tokens.specs.Groups.{is_of_section, is_part};
 ghost use Rattle.wanted_tokens.specs.Takings.{effect, listed};
 ghost use Rattle.wanted_tokens.specs.Wanted.{taking, version_behind, reading_behind, is_passed, may_end, unwanted};
 
-use crate::choreographies::{
-    assigned, extra_roles, first_property, more_names, more_parts, more_properties, more_steps,
-    next_step, otherwise, properties, step, step_behind_name,
-};
+use crate::choreographies::{assigned, next_step, optional, step, step_behind_name};
 use crate::expressions::{expression, more_operands, more_values, negated, operand, value};
 use crate::goals::Goal;
 use crate::looks::{Look, look_at};
@@ -59,15 +56,15 @@ fn taking_of_part(second: bool, goal: Goal, look: Look) -> Taking
         Goal::Step => step(look),
         Goal::StepBehindName => step_behind_name(look),
         Goal::Assigned => assigned(look),
-        Goal::MoreSteps => more_steps(look),
         Goal::NextStep => next_step(look),
-        Goal::MoreParts => more_parts(look),
-        Goal::Otherwise => otherwise(look),
-        Goal::ExtraRoles => extra_roles(second, look),
-        Goal::MoreNames => more_names(look),
-        Goal::Properties => properties(look),
-        Goal::FirstProperty => first_property(look),
-        Goal::MoreProperties => more_properties(look),
+        Goal::MoreSteps
+        | Goal::MoreParts
+        | Goal::Otherwise
+        | Goal::ExtraRoles
+        | Goal::MoreNames
+        | Goal::Properties
+        | Goal::FirstProperty
+        | Goal::MoreProperties => optional(second, goal, look),
         _ => taking_of_section(second, goal, look),
     }
 }
