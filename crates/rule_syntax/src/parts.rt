@@ -22,6 +22,9 @@ const CLOSING: [Sort; 2] = [
     Sort::Symbol(Punctuator::RightBrace),
 ];
 
+/// A part of a rule that was read with the place behind it, or `None` where it doesn't stand there.
+pub type ReadPart<T> = Result<Option<(T, usize)>, Memory>;
+
 /// Lets go of what turned out to be no part of a rule.
 pub fn no_part<T: Drop, U: Drop>(_value: T) -> Option<U>
     ensures { result ≡ None }
@@ -30,11 +33,7 @@ pub fn no_part<T: Drop, U: Drop>(_value: T) -> Option<U>
 }
 
 /// The condition at a place of the text with `} do {` behind it, and the place behind both.
-pub fn condition_at(
-    reader: &Reader<'_>,
-    room: usize,
-    at: usize,
-) -> Result<Option<(Expr, usize)>, Memory>
+pub fn condition_at(reader: &Reader<'_>, room: usize, at: usize) -> ReadPart<Expr>
     requires { length reader.now.text.now ≤ greatest_place }
     ensures { IfOk result (λ found. ConditionAt room reader.now.text.now at found) }
 {
@@ -50,11 +49,7 @@ pub fn condition_at(
 }
 
 /// The body at a place of the text with `} }` behind it, and the place behind both.
-pub fn body_at(
-    reader: &Reader<'_>,
-    room: usize,
-    at: usize,
-) -> Result<Option<(Choreo, usize)>, Memory>
+pub fn body_at(reader: &Reader<'_>, room: usize, at: usize) -> ReadPart<Choreo>
     requires { length reader.now.text.now ≤ greatest_place }
     ensures { IfOk result (λ found.
         BodyAt reader.now.version room reader.now.text.now at found) }
