@@ -9,7 +9,9 @@ use Rattle.dioc_terms.specs.Rules.{Book, apply, opening_book}
 use Rattle.dioc_terms.specs.Stores.{Store}
 use Rattle.dioc_terms.specs.Terms as term
 use Rattle.dioc_terms.specs.Terms.{Term, constructs, indexed, indexed_from, stamped}
-use Rattle.global_steps.specs.Follow.{Effect, State, affected, book_choice, follow_change, follow_role, opening_store, play_start, plays, shows, updated, updates_after}
+use Rattle.global_follower.proofs.PutLemmas.{put_effect}
+use Rattle.global_follower.specs.KeptEffects.{is_put}
+use Rattle.global_steps.specs.Follow.{Effect, Leaves, State, affected, book_choice, follow_change, follow_role, opening_store, play_start, plays, shows, updated, updates_after}
 use Rattle.global_steps.specs.Running.{Running, started}
 
 module _ (b : Setting) (S : State) (r : Role) (e : Entry) where
@@ -43,6 +45,13 @@ module _ (b : Setting) (S : State) (r : Role) (e : Entry) where
       let does : Does effect G ≡ played_with S.stores =
       subst (λ (s : Role → Store). Does effect G ≡ played_with s) same is in
       rw (← does, becomes, more, one_more, same) refl
+
+  -- a put leaves the store of its role as it is
+  pub put_played : (stores : Role → Store) (effect : Effect) (G : Running)
+      → Does effect G ≡ played_with stores → is_put e ≡ true → effect ≡ Leaves
+  put_played stores effect G does put =
+      put_effect b.cast stores (λ head. book_choice b.rules S.book head (stores head.leader))
+      S.updates e S.running G effect does put
 
 module _ (b : Setting) (S : State) (e : Entry) (timed : Timed) where
   abbrev pub may_be_made : Bool

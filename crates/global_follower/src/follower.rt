@@ -109,7 +109,7 @@ impl<'a> Follower<'a> {
             (state_of self.old) role.now entry.now ≡ None }
         ensures same { OnErr result (state_of self.new ≡ state_of self.old) }
     {
-        self.stores.make_ready(alloc, role)?;
+        self.stores.make_ready_for(alloc, role, entry)?;
         let scene = Scene {
             rules: self.rules,
             stores: &self.stores,

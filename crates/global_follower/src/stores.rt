@@ -10,7 +10,7 @@ ghost use Rattle.global_follower.specs.StoreMaps.{places_in, stores_in, IsOpened
 ghost use Rattle.global_steps.specs.Follow.{affected, inputs_of};
 
 use crate::effects::Effect;
-use dioc_terms::{Items, Memory, Role, Store, Value, Values};
+use dioc_terms::{Entry, Items, Memory, Role, Store, Value, Values};
 use indexmap::IndexMap;
 use std::alloc::Global;
 
@@ -24,12 +24,12 @@ pub(crate) struct Stores {
 }
 
 impl Stores {
-    ghost use Rattle.std.specs.Prelude.{◌≡◌, IfOk, OnOk};
+    ghost use Rattle.std.specs.Prelude.{◌≡◌, ◌≢◌, false, IfOk, OnOk};
     ghost use Rattle.dioc_terms.specs.KeptStores.{store_of};
     ghost use Rattle.dioc_terms.specs.Stores.{fresh_store};
-    ghost use Rattle.global_follower.specs.KeptEffects.{effect_of};
+    ghost use Rattle.global_follower.specs.KeptEffects.{effect_of, is_put};
     ghost use Rattle.global_follower.specs.KeptStores.{stores_of, HasRoomFor};
-    ghost use Rattle.global_steps.specs.Follow.{affected, inputs_of, updated};
+    ghost use Rattle.global_steps.specs.Follow.{Leaves, affected, inputs_of, updated};
 
     /// The stores before the first entry: no variable is set, and each role has the inputs that are
     /// given for it, joined in their order.
@@ -66,10 +66,27 @@ impl Stores {
         }
     }
 
+    /// Makes room for one more variable in the store of the role, unless its entry is a put, which
+    /// writes none.
+    pub(crate) fn make_ready_for(
+        &mut self,
+        alloc: Global,
+        role: &Role,
+        entry: &Entry,
+    ) -> Result<(), Memory>
+        ensures same { stores_of self.new ≡ stores_of self.old }
+        ensures ready { OnOk result (is_put entry.now ≡ false → HasRoomFor role.now self.new) }
+    {
+        match entry {
+            Entry::Put { .. } => Ok(()),
+            _ => self.make_ready(alloc, role),
+        }
+    }
+
     /// Does to the store of the role what an entry does to it. It takes no memory.
     #[tactic(auto, using(crate::proofs::StoreLemmas::unaffected))]
     pub(crate) fn affect(&mut self, role: &Role, effect: Effect)
-        requires { HasRoomFor role.now self.old }
+        requires { effect_of effect ≢ Leaves → HasRoomFor role.now self.old }
         ensures { stores_of self.new ≡ updated role.now
             (affected (effect_of effect) (stores_of self.old role.now)) (stores_of self.old) }
     {
