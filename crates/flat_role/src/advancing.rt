@@ -146,8 +146,8 @@ fn do_own(
     requires has_room { 0 < room store.old }
     ensures as_long { length marks.new.items ≡ plan_len plan.now }
     ensures moved { (me : RoleName) (a : OneAct) (d : Deed) (y : Status) →
-        IsActingBy me plan.now marks.old.items place (store_of store.old) own.old (handed got.old) a d y →
-        ComesTo me plan.now marks.old.items marks.new.items place result y
+        IsActingBy me plan.now marks.old.items place (store_of store.old) own.old (handed got.old)
+        a d y → ComesTo me plan.now marks.old.items marks.new.items place result y
         × (store_of store.new ≡ with_written (write_of own.old.write)
         (handed_value (handed got.old))
         (store_of store.old)) }

@@ -54,6 +54,7 @@ pub(crate) fn take_value(got: &mut Got) -> Option<Value>
 
 /// Writes what the act writes, which is mostly nothing. There is room for one more variable, so it
 /// takes no memory.
+#[inline(always)]
 pub(crate) fn write_store(store: &mut Store, written: &mut Write, value: Option<Value>)
     requires { 0 < room store.old }
     ensures { store_of store.new ≡ with_written (write_of written.old) value (store_of store.old) }

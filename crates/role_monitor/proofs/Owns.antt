@@ -1,5 +1,5 @@
 -- Entries of the role that begin no scope: what the parts of the program do is what the state's own entry is.
-use Rattle.std.proofs.Common.{◌≡◌, ℕ, List, [], ◌∷◌, ◌++◌, Bool, true, false, not, Option, Some, None, if◌then◌else◌, refl, sym, ap, ap₂, ◌∙◌, subst, ⊎_elim}
+use Rattle.std.proofs.Common.{◌≡◌, ℕ, List, [], ◌∷◌, ◌++◌, Bool, true, false, not, Option, Some, None, IsSome, if◌then◌else◌, refl, sym, ap, ap₂, ◌∙◌, subst, ⊎_elim}
 use Rattle.std.specs.Map.{lookup}
 use Rattle.std.specs.Prelude.{is_some, option_map}
 use Rattle.std.proofs.lemmas.Bool.{cases_Bool, cond-true, cond-false, false≢true}
@@ -15,8 +15,9 @@ use Rattle.dioc_terms.specs.Messages.{act_of}
 use Rattle.dioc_terms.specs.Plain.{Setting}
 use Rattle.dioc_terms.specs.Processes.{Process, Load, load}
 use Rattle.dioc_terms.specs.Rules.{Book}
-use Rattle.dpoc_process.specs.declared.runs.Prepared.{Prepared}
-use Rattle.dpoc_process.specs.RoleSteps.{sent, IsPrepared, IsStep}
+use Rattle.dpoc_process.specs.declared.runs.Shown.{Shown}
+use Rattle.dpoc_process.specs.RoleSteps.{sent, IsShown, IsStep}
+use Rattle.dpoc_process.specs.Shows.{message_shown}
 use Rattle.dpoc_process.specs.LocalStates.{LocalState, offered, step_at}
 use Rattle.marked_laws.proofs.Equality.{key_same}
 use Rattle.marked_laws.proofs.Shapes.{some_same}
@@ -87,11 +88,11 @@ own_mail_by me (Chooses i r c) a pending is = ap (λ x. put_by me x None (taken_
 done_is : {D A : Type 0} (m : Attempt D A) (d : D) (x : A) → m ≡ Does d x → is_done m ≡ true
 done_is m d x h = ap is_done h
 
-module _ (laws : StepsShowTheirActs) (s : LocalState) (a : Act) (p : Prepared) (prepared : IsPrepared s a p) (plain : asks_scope a ≡ false) (e : Entry) where
+module _ (laws : StepsShowTheirActs) (s : LocalState) (a : Act) (p : Shown) (shown : IsShown s a p) (plain : asks_scope a ≡ false) (e : Entry) where
   -- what was shown before is the entry of the step
   shown_is : (given : Given) (d : Deed) (P : Process) → step_at s a given ≡ Does d P → is_entry p.entry e ≡ entry_eq e (entry_of d)
   shown_is given d P does =
-      ap (λ o. is_entry o e) (prepared.entry given d P does ∙ entry_known d a (laws s.role s.store s.process a given d P does) plain)
+      ap (λ o. is_entry o e) (shown.entry given d P does ∙ entry_known d a (laws s.role s.store s.process a given d P does) plain)
 
   -- an entry that wasn't shown isn't that of the step
   pub other_fails : (given : Given) → is_entry p.entry e ≡ false → FailsEntry s a given e
@@ -99,7 +100,7 @@ module _ (laws : StepsShowTheirActs) (s : LocalState) (a : Act) (p : Prepared) (
 
   -- the role that made its step
   pub makes : (given : Given) → is_entry p.entry e ≡ true → (s' : LocalState) → IsStep s a given s' → (me : Role) → s.role ≡ me → (old mid new : Mail) → TakenBy a old mid
-      → PutBy me a (option_map load p.payload) mid new → MakesEntry s a given e old s' new
+      → PutBy me a (message_shown p) mid new → MakesEntry s a given e old s' new
   makes given same s' stepped me mine old mid new taken put = record {
     deed = stepped.deed;
     left = stepped.left;
@@ -108,7 +109,7 @@ module _ (laws : StepsShowTheirActs) (s : LocalState) (a : Act) (p : Prepared) (
     becomes = stepped.becomes;
     mail = λ pending distinct held.
         subst (λ ms. HoldsMail ms new)
-        (ap (λ o. put_by me a o (taken_by a pending)) (prepared.payload given stepped.deed stepped.left stepped.does)
+        (ap (λ o. put_by me a o (taken_by a pending)) (shown.message given stepped.deed stepped.left stepped.does)
         ∙ own_mail_by me stepped.deed a pending (laws s.role s.store s.process a given stepped.deed stepped.left stepped.does)
         ∙ ap (λ r. own_mail r stepped.deed pending) (sym mine))
         (put.holds (taken_by a pending) (taken.holds pending distinct held));
@@ -117,6 +118,26 @@ module _ (laws : StepsShowTheirActs) (s : LocalState) (a : Act) (p : Prepared) (
 -- where nothing is done no step shows the entry
 pub undone_fails : (s : LocalState) (a : Act) (given : Given) (e : Entry) → is_done (step_at s a given) ≡ false → FailsEntry s a given e
 undone_fails s a given e undone = λ d P does. absurd (false≢true (sym undone ∙ done_is (step_at s a given) d P does))
+
+-- a put shows its message
+pub put_sends : OffersAreSteps → StepsShowTheirActs → (s : LocalState) (a : Act) (p : Shown) → IsShown s a p → (k : Key) → a ≡ act.Put k → IsSome (message_shown p)
+put_sends steps laws s a p shown k put =
+    let done : is_done (step_at s a Alone) ≡ true =
+    steps.exactly s.role s.store s.process a Alone (ap (λ b. given_fits b Alone) put) ∙ shown.can_act in
+    by_deed (step_at s a Alone) done refl
+  where
+    sends : (d : Deed) → act_of (entry_of d) ≡ Some (act.Put k) → IsSome (sent d)
+    sends (Puts j l) is = refl
+    sends (Takes j x l) is = cc
+    sends (Sets i r x v) is = cc
+    sends (Inputs i r x v) is = cc
+    sends (Picks i r t) is = cc
+    sends (Chooses i r c) is = cc
+
+    by_deed : (m : Attempt Deed Process) → is_done m ≡ true → step_at s a Alone ≡ m → IsSome (message_shown p)
+    by_deed Stuck done is = cc
+    by_deed (Does d P) done is =
+        subst IsSome (sym (shown.message Alone d P is)) (sends d (laws s.role s.store s.process a Alone d P is ∙ ap Some put))
 
 -- nothing is done by a take whose message isn't there or doesn't fit
 pub misfit_fails : (s : LocalState) (a : Act) (mail : Mail) (e : Entry) → asks_scope a ≡ false → MisfitsStay s a → given_fits a (mail_given a mail) ≡ false → FailsEntry s a (mail_given a mail) e

@@ -52,14 +52,14 @@ pub(crate) fn judge<R: Runs>(
     if let Err(fault) = mail.reserve(1) {
         return give_up(act, fault);
     }
-    match state.prepare(scene.alloc, &act) {
-        Ok(prepared) => {
+    match state.prepare_act(scene.alloc, &act) {
+        Ok(shown) => {
             if is_scope(&act) {
-                let kept = judge_scope(scene, updates, state, &act, prepared);
+                let kept = judge_scope(scene, updates, state, &act, shown);
                 drop(act);
                 return kept;
             }
-            Ok(judge_plain(scene.me, state, mail, scene.entry, act, prepared))
+            Ok(judge_plain(scene.me, state, mail, scene.entry, act, shown))
         }
         Err(PrepareFault::NoAct) => {
             drop(act);

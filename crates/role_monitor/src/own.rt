@@ -1,20 +1,22 @@
 //! Entries of the role itself that begin no scope.
 
-ghost use Rattle.std.specs.Prelude.{◌≡◌, ◌<◌, true, false, Option, None, Some, IfNone, IfSome, option_map};
+ghost use Rattle.std.specs.Prelude.{◌≡◌, ◌<◌, true, false, Option, None, Some, IfNone, IfSome, IsSome};
 ghost use Rattle.std.specs.Bool.{OnFalse, OnTrue};
 ghost use Rattle.dioc_terms.specs.declared.entries.Act.TheVariants as acts;
 ghost use Rattle.dioc_terms.specs.declared.names.Role.{Role as OneRole};
+ghost use Rattle.dioc_terms.specs.declared.processes.Key.{Key as OneKey};
 ghost use Rattle.dioc_terms.specs.Processes.{load};
 ghost use Rattle.dpoc_process.specs.Acting.{Lead};
 ghost use Rattle.dpoc_process.specs.Handed.{handed, given_like, StandsFor};
-ghost use Rattle.dpoc_process.specs.RoleSteps.{IsPrepared};
+ghost use Rattle.dpoc_process.specs.RoleSteps.{IsShown};
+ghost use Rattle.dpoc_process.specs.Shows.{message_shown};
 ghost use Rattle.process_steps.specs.Laws.{given_fits, load_fits};
 ghost use Rattle.role_mailbox.specs.Pending.{payload_at, room, ChangesOnly};
 ghost use Rattle.role_monitor.specs.Judging.{FailsEntry, MakesEntry, MisfitsStay, PutBy, SameMessages, TakenBy, is_entry, is_fitting, mail_given};
 ghost use Rattle.net_core.specs.Deeds.{asks_scope};
 
 use dioc_terms::{Act, Entry, Key, Payload, Role, Tag};
-use dpoc_process::{Got, Prepared, Runs};
+use dpoc_process::{Got, Runs, Shown};
 use role_mailbox::Mail;
 
 /// Judges an entry of the role that shows this act, for which the role is made ready; there is room
@@ -26,10 +28,10 @@ pub(crate) fn judge_plain<R: Runs>(
     mail: &mut Mail,
     entry: &Entry,
     act: Act,
-    prepared: Prepared,
+    shown: Shown,
 ) -> bool
     requires ready { R.is_ready state.old act }
-    requires shown { IsPrepared (R.local state.old) act prepared }
+    requires shown { IsShown (R.local state.old) act shown }
     requires plain { asks_scope act ≡ false }
     requires misfits { MisfitsStay (R.local state.old) act }
     requires me { (R.local state.old).role ≡ me.now }
@@ -43,24 +45,16 @@ pub(crate) fn judge_plain<R: Runs>(
 {
     process_steps::offers_are_steps();
     process_steps::steps_show_their_acts();
-    let Prepared {
-        act: own,
-        entry: shown,
-        head,
-        payload,
-    } = prepared;
-    drop((own, head));
-    if !is_entry(&shown, entry) {
-        drop((act, (shown, payload)));
+    if !is_entry(&shown.entry, entry) {
+        drop((act, shown));
         return false;
     }
-    drop(shown);
     let Some((act, got)) = taken(mail, act) else {
-        drop(payload);
+        drop(shown);
         return false;
     };
     state.advance(&act, got);
-    keep_own(me, mail, act, payload);
+    keep_own(me, mail, act, shown);
     true
 }
 
@@ -135,27 +129,27 @@ fn fits(tag: &Tag, payload: &Payload) -> bool
     }
 }
 
-/// Keeps a message of the role to itself, unless one of its key is there already. There is room for
-/// one.
-fn keep_own(me: &Role, mail: &mut Mail, act: Act, payload: Option<Payload>)
-    requires { 0 < room mail.old }
-    ensures { PutBy me.now act (option_map load payload) mail.old mail.new }
+/// Keeps the message that an act shows to the role itself, unless one of its key is there already.
+/// There is room for one.
+fn keep_own(me: &Role, mail: &mut Mail, act: Act, shown: Shown)
+    requires room { 0 < room mail.old }
+    requires sends { (k : OneKey) → act ≡ acts.Put k → IsSome (message_shown shown) }
+    ensures { PutBy me.now act (message_shown shown) mail.old mail.new }
 {
     match act {
-        Act::Put(key) => keep_put(me, mail, key, payload),
-        act => drop((act, payload)),
+        Act::Put(key) => {
+            let (_, payload) = shown.into_put();
+            keep_put(me, mail, key, payload)
+        }
+        act => drop((act, shown)),
     }
 }
 
-fn keep_put(me: &Role, mail: &mut Mail, key: Key, payload: Option<Payload>)
+fn keep_put(me: &Role, mail: &mut Mail, key: Key, payload: Payload)
     requires { 0 < room mail.old }
-    ensures { PutBy me.now (acts.Put key) (option_map load payload) mail.old mail.new }
+    ensures { PutBy me.now (acts.Put key) (Some (load payload)) mail.old mail.new }
 {
     marked_laws::mail_is_a_map();
-    let Some(payload) = payload else {
-        drop(key);
-        return;
-    };
     if key.to != *me {
         drop((key, payload));
         return;

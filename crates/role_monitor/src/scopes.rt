@@ -11,7 +11,7 @@ ghost use Rattle.dioc_terms.specs.Plain.{plain, setting};
 ghost use Rattle.dioc_terms.specs.Terms.{is_in, term};
 ghost use Rattle.dpoc_process.specs.Acting.{Lead, acting_lead};
 ghost use Rattle.dpoc_process.specs.Handed.{IsEnabled, Kept};
-ghost use Rattle.dpoc_process.specs.RoleSteps.{IsPrepared, IsStep};
+ghost use Rattle.dpoc_process.specs.RoleSteps.{IsShown, IsStep};
 ghost use Rattle.limits.specs.Limits.{top_level};
 ghost use Rattle.marked_laws.specs.Laws.{IsSound};
 ghost use Rattle.process_steps.specs.Steps.{Decision, FromBook, Keeps, Replaces};
@@ -24,7 +24,7 @@ ghost use Rattle.scope_leader.specs.Plans.{part_of};
 use crate::scenes::Scene;
 use crate::updates::Update;
 use dioc_terms::{Act, Bundle, Chosen, Entry, Memory, Name, Rule, ScopeHead, give_up};
-use dpoc_process::{Got, Prepared, Runs};
+use dpoc_process::{Got, Runs, Shown};
 use scope_leader::plan_update;
 
 /// Judges an entry of the role that shows the begin of a scope, for which the role is made ready.
@@ -35,10 +35,10 @@ pub(crate) fn judge_scope<R: Runs>(
     updates: &mut Vec<Update>,
     state: &mut R,
     act: &Act,
-    prepared: Prepared,
+    shown: Shown,
 ) -> Result<bool, Memory>
     requires ready { R.is_ready state.old act.now }
-    requires shown { IsPrepared (R.local state.old) act.now prepared }
+    requires shown { IsShown (R.local state.old) act.now shown }
     requires scope { asks_scope act.now ≡ true }
     requires sound { IsSound (plain scene.now.bundle.now) }
     requires book { IsBookOf (plain scene.now.bundle.now).rules scene.now.book.now }
@@ -60,7 +60,7 @@ pub(crate) fn judge_scope<R: Runs>(
     process_steps::steps_show_their_acts();
     dioc_terms::choices_go_on();
     dioc_terms::mentions_are_roles();
-    let head = prepared.into_head();
+    let head = shown.into_head();
     match scene.book.choose(&head, state.store()) {
         None => {
             let kept = keep(state, scene.entry, act, &head);

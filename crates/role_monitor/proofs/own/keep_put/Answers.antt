@@ -1,31 +1,21 @@
--- The message is there, where it is the role's to itself.
-use Rattle.std.proofs.Common.{sym, ◌∙◌, subst}
-use Rattle.std.specs.Prelude.{option_map}
+-- The message is kept where it is the role's to itself, and none of its key is there.
+use Rattle.std.proofs.Common.{sym, ◌∙◌}
 use Rattle.std.proofs.lemmas.Bool.{not-true}
-use Rattle.dioc_terms.specs.declared.entries.Act.TheVariants as act
 use Rattle.dioc_terms.specs.Equality.{role_eq}
 use Rattle.dioc_terms.specs.Processes.{load}
 use Rattle.role_monitor.proofs.Owns.{appended_holds, put_to_me, put_to_other, there_holds, true_of}
-use Rattle.role_monitor.specs.Judging.{PutBy}
 use Rattle.role_monitor.proofs.own.keep_put.Goals as goal
-
-pub returns-in_default : goal.returns-in_default
-returns-in_default c =
-    subst (λ o. PutBy c.args.me.now (act.Put c.args.key) (option_map load o) c.args.mail.now c.args.mail.now) (sym c.in_default.is) (record { holds = λ pending held. held })
 
 pub returns-then-ne : goal.returns-then-ne
 returns-then-ne c =
-    subst (λ o. PutBy c.args.me.now (act.Put c.args.key) (option_map load o) c.args.mail.now c.args.mail.now) (sym c.in-Some.is)
-    (put_to_other c.args.me.now c.args.mail.now c.args.key (load c.in-Some.payload) (not-true (role_eq c.args.key.to c.args.me.now) (sym c.ne.ensures ∙ c.if-ne.true)))
+    put_to_other c.args.me.now c.args.mail.now c.args.key (load c.args.payload) (not-true (role_eq c.args.key.to c.args.me.now) (sym c.ne.ensures ∙ c.if-ne.true))
 
 pub returns-then-holds : goal.returns-then-holds
 returns-then-holds c =
-    subst (λ o. PutBy c.args.me.now (act.Put c.args.key) (option_map load o) c.args.mail.now c.args.mail.now) (sym c.in-Some.is)
-    (put_to_me c.args.me.now c.args.mail.now c.args.mail.now c.args.key (load c.in-Some.payload) (true_of (role_eq c.args.key.to c.args.me.now) (sym c.ne.ensures ∙ c.if-ne.false))
-    (λ pending held. there_holds pending c.args.mail.now c.args.key (load c.in-Some.payload) held (sym c.holds.ensures.holds ∙ c.if-holds.true)))
+    put_to_me c.args.me.now c.args.mail.now c.args.mail.now c.args.key (load c.args.payload) (true_of (role_eq c.args.key.to c.args.me.now) (sym c.ne.ensures ∙ c.if-ne.false))
+    (λ pending held. there_holds pending c.args.mail.now c.args.key (load c.args.payload) held (sym c.holds.ensures.holds ∙ c.if-holds.true))
 
 pub returns : goal.returns
 returns c =
-    subst (λ o. PutBy c.args.me.now (act.Put c.args.key) (option_map load o) c.args.mail.now c.put.new.self) (sym c.in-Some.is)
-    (put_to_me c.args.me.now c.args.mail.now c.put.new.self c.args.key (load c.in-Some.payload) (true_of (role_eq c.args.key.to c.args.me.now) (sym c.ne.ensures ∙ c.if-ne.false))
-    (λ pending held. appended_holds c.mail_is_a_map.ensures pending c.args.mail.now c.put.new.self c.args.key (load c.in-Some.payload) held c.if-holds.ensures.free c.put.ensures.put))
+    put_to_me c.args.me.now c.args.mail.now c.put.new.self c.args.key (load c.args.payload) (true_of (role_eq c.args.key.to c.args.me.now) (sym c.ne.ensures ∙ c.if-ne.false))
+    (λ pending held. appended_holds c.mail_is_a_map.ensures pending c.args.mail.now c.put.new.self c.args.key (load c.args.payload) held c.if-holds.ensures.free c.put.ensures.put)
