@@ -7,14 +7,14 @@ ghost use Rattle.trace_syntax.specs.Reading.{first_flag, first_done, first_paylo
 use crate::parts::{
     index_at, key_at, name_at, number_at, short_number_at, symbol_at, truth_at, value_at, word_at,
 };
-use crate::words::{Line, LineFault, LineWord, Setting, find_line_word};
+use crate::words::{Line, LineFault, LineWord, ReadPart, Setting, find_line_word};
 use aioc_tokens::{Lexed, Punctuator, Sort, Word};
 use dioc_terms::{Chosen, Entry, Last, Note, Role, Tag};
 use expr_syntax::GREATEST;
 use std::alloc::Global;
 
 #[tactic(auto, unfolding(crate::specs::Reading::first_flag))]
-fn flag_at(text: &Lexed<'_>, at: usize) -> Result<(Note, usize), LineFault>
+fn flag_at(text: &Lexed<'_>, at: usize) -> ReadPart<Note>
     ensures { ReadsAt first_flag text.now at result }
 {
     let (flag, at) = truth_at(text, at)?;
@@ -22,7 +22,7 @@ fn flag_at(text: &Lexed<'_>, at: usize) -> Result<(Note, usize), LineFault>
 }
 
 #[tactic(auto, unfolding(crate::specs::Reading::first_done))]
-fn done_at(text: &Lexed<'_>, at: usize) -> Result<(Note, usize), LineFault>
+fn done_at(text: &Lexed<'_>, at: usize) -> ReadPart<Note>
     ensures { ReadsAt first_done text.now at result }
 {
     let at = word_at(text, at, b"done")?;
@@ -30,7 +30,7 @@ fn done_at(text: &Lexed<'_>, at: usize) -> Result<(Note, usize), LineFault>
 }
 
 #[tactic(auto, unfolding(crate::specs::Reading::first_payload))]
-fn payload_at(alloc: Global, text: &Lexed<'_>, at: usize) -> Result<(Note, usize), LineFault>
+fn payload_at(alloc: Global, text: &Lexed<'_>, at: usize) -> ReadPart<Note>
     ensures { ReadsAt first_payload text.now at result }
 {
     let (value, at) = value_at(alloc, text, at)?;
@@ -38,7 +38,7 @@ fn payload_at(alloc: Global, text: &Lexed<'_>, at: usize) -> Result<(Note, usize
 }
 
 #[tactic(auto, unfolding(crate::specs::Reading::first_keep))]
-fn keep_at(text: &Lexed<'_>, at: usize) -> Result<(Note, usize), LineFault>
+fn keep_at(text: &Lexed<'_>, at: usize) -> ReadPart<Note>
     ensures { ReadsAt first_keep text.now at result }
 {
     let at = word_at(text, at, b"keep")?;
@@ -47,7 +47,7 @@ fn keep_at(text: &Lexed<'_>, at: usize) -> Result<(Note, usize), LineFault>
 
 /// As `part 1`.
 #[tactic(auto, unfolding(crate::specs::Reading::first_part))]
-fn part_at(text: &Lexed<'_>, at: usize) -> Result<(Note, usize), LineFault>
+fn part_at(text: &Lexed<'_>, at: usize) -> ReadPart<Note>
     ensures { ReadsAt first_part text.now at result }
 {
     let at = word_at(text, at, b"part")?;
@@ -57,7 +57,7 @@ fn part_at(text: &Lexed<'_>, at: usize) -> Result<(Note, usize), LineFault>
 
 /// As `keep` or `part 1`.
 #[tactic(auto, unfolding(crate::specs::Reading::first_begin))]
-fn begin_at(text: &Lexed<'_>, at: usize) -> Result<(Note, usize), LineFault>
+fn begin_at(text: &Lexed<'_>, at: usize) -> ReadPart<Note>
     ensures { ReadsAt first_begin text.now at result }
 {
     match keep_at(text, at) {
@@ -69,12 +69,7 @@ fn begin_at(text: &Lexed<'_>, at: usize) -> Result<(Note, usize), LineFault>
 
 /// The payload of a message with this tag.
 #[tactic(auto, unfolding(crate::specs::Reading::first_note))]
-fn note_at(
-    alloc: Global,
-    text: &Lexed<'_>,
-    tag: &Tag,
-    at: usize,
-) -> Result<(Note, usize), LineFault>
+fn note_at(alloc: Global, text: &Lexed<'_>, tag: &Tag, at: usize) -> ReadPart<Note>
     ensures { ReadsAt (first_note tag.now) text.now at result }
 {
     match tag {
@@ -90,7 +85,7 @@ fn note_at(
 
 /// As `x@a #0.3 = 5`.
 #[tactic(auto, unfolding(crate::specs::Reading::first_setting))]
-fn setting_at(alloc: Global, text: &Lexed<'_>, at: usize) -> Result<(Setting, usize), LineFault>
+fn setting_at(alloc: Global, text: &Lexed<'_>, at: usize) -> ReadPart<Setting>
     ensures { ReadsAt first_setting text.now at result }
 {
     let (var, at) = name_at(alloc, text, at)?;
@@ -110,7 +105,7 @@ fn setting_at(alloc: Global, text: &Lexed<'_>, at: usize) -> Result<(Setting, us
 
 /// Behind the word `rule`, as `cheap as 1`.
 #[tactic(auto, unfolding(crate::specs::Reading::first_rule))]
-fn rule_at(alloc: Global, text: &Lexed<'_>, at: usize) -> Result<(Chosen, usize), LineFault>
+fn rule_at(alloc: Global, text: &Lexed<'_>, at: usize) -> ReadPart<Chosen>
     ensures { ReadsAt first_rule text.now at result }
 {
     let (name, at) = name_at(alloc, text, at)?;
@@ -120,7 +115,7 @@ fn rule_at(alloc: Global, text: &Lexed<'_>, at: usize) -> Result<(Chosen, usize)
 }
 
 #[tactic(auto, unfolding(crate::specs::Reading::first_kept))]
-fn kept_at(text: &Lexed<'_>, at: usize) -> Result<(Chosen, usize), LineFault>
+fn kept_at(text: &Lexed<'_>, at: usize) -> ReadPart<Chosen>
     ensures { ReadsAt first_kept text.now at result }
 {
     let at = word_at(text, at, b"keep")?;
@@ -128,7 +123,7 @@ fn kept_at(text: &Lexed<'_>, at: usize) -> Result<(Chosen, usize), LineFault>
 }
 
 /// As `keep` or `rule cheap as 1`.
-fn choice_at(alloc: Global, text: &Lexed<'_>, at: usize) -> Result<(Chosen, usize), LineFault>
+fn choice_at(alloc: Global, text: &Lexed<'_>, at: usize) -> ReadPart<Chosen>
     ensures { ReadsAt first_choice text.now at result }
 {
     if text.has(at, Sort::Reserved(Word::Rule)) {
@@ -145,7 +140,7 @@ fn is_operation(tag: &Tag) -> bool
 
 /// Behind the word `put`, as `a -> b o#0.3 = 5`.
 #[tactic(auto, unfolding(crate::specs::Reading::first_put))]
-fn put_at(alloc: Global, text: &Lexed<'_>, at: usize) -> Result<(Line, usize), LineFault>
+fn put_at(alloc: Global, text: &Lexed<'_>, at: usize) -> ReadPart<Line>
     ensures { ReadsAt first_put text.now at result }
 {
     let (key, at) = key_at(alloc, text, at)?;
@@ -156,7 +151,7 @@ fn put_at(alloc: Global, text: &Lexed<'_>, at: usize) -> Result<(Line, usize), L
 
 /// Behind the word `take`, as `a -> b o#0.3 x`.
 #[tactic(auto, unfolding(crate::specs::Reading::first_take, crate::specs::Reading::first_variable))]
-fn take_at(alloc: Global, text: &Lexed<'_>, at: usize) -> Result<(Line, usize), LineFault>
+fn take_at(alloc: Global, text: &Lexed<'_>, at: usize) -> ReadPart<Line>
     ensures { ReadsAt first_take text.now at result }
 {
     let (key, at) = key_at(alloc, text, at)?;
@@ -169,7 +164,7 @@ fn take_at(alloc: Global, text: &Lexed<'_>, at: usize) -> Result<(Line, usize), 
 }
 
 #[tactic(auto, unfolding(crate::specs::Reading::first_set))]
-fn set_at(alloc: Global, text: &Lexed<'_>, at: usize) -> Result<(Line, usize), LineFault>
+fn set_at(alloc: Global, text: &Lexed<'_>, at: usize) -> ReadPart<Line>
     ensures { ReadsAt first_set text.now at result }
 {
     let (setting, at) = setting_at(alloc, text, at)?;
@@ -183,7 +178,7 @@ fn set_at(alloc: Global, text: &Lexed<'_>, at: usize) -> Result<(Line, usize), L
 }
 
 #[tactic(auto, unfolding(crate::specs::Reading::first_input))]
-fn input_at(alloc: Global, text: &Lexed<'_>, at: usize) -> Result<(Line, usize), LineFault>
+fn input_at(alloc: Global, text: &Lexed<'_>, at: usize) -> ReadPart<Line>
     ensures { ReadsAt first_input text.now at result }
 {
     let (setting, at) = setting_at(alloc, text, at)?;
@@ -198,7 +193,7 @@ fn input_at(alloc: Global, text: &Lexed<'_>, at: usize) -> Result<(Line, usize),
 
 /// Behind the word `pick`, as `a #0.4 true`.
 #[tactic(auto, unfolding(crate::specs::Reading::first_pick))]
-fn pick_at(alloc: Global, text: &Lexed<'_>, at: usize) -> Result<(Line, usize), LineFault>
+fn pick_at(alloc: Global, text: &Lexed<'_>, at: usize) -> ReadPart<Line>
     ensures { ReadsAt first_pick text.now at result }
 {
     let (name, at) = name_at(alloc, text, at)?;
@@ -210,7 +205,7 @@ fn pick_at(alloc: Global, text: &Lexed<'_>, at: usize) -> Result<(Line, usize), 
 
 /// Behind the word `scope`, as `s #0.6 keep`.
 #[tactic(auto, unfolding(crate::specs::Reading::first_scope))]
-fn scope_at(alloc: Global, text: &Lexed<'_>, at: usize) -> Result<(Line, usize), LineFault>
+fn scope_at(alloc: Global, text: &Lexed<'_>, at: usize) -> ReadPart<Line>
     ensures { ReadsAt first_scope text.now at result }
 {
     let (name, at) = name_at(alloc, text, at)?;
@@ -225,7 +220,7 @@ fn scope_at(alloc: Global, text: &Lexed<'_>, at: usize) -> Result<(Line, usize),
 }
 
 #[tactic(auto, unfolding(crate::specs::Reading::first_add))]
-fn add_at(alloc: Global, text: &Lexed<'_>, at: usize) -> Result<(Line, usize), LineFault>
+fn add_at(alloc: Global, text: &Lexed<'_>, at: usize) -> ReadPart<Line>
     ensures { ReadsAt first_add text.now at result }
 {
     let (name, at) = name_at(alloc, text, at)?;
@@ -233,7 +228,7 @@ fn add_at(alloc: Global, text: &Lexed<'_>, at: usize) -> Result<(Line, usize), L
 }
 
 #[tactic(auto, unfolding(crate::specs::Reading::first_drop))]
-fn drop_at(alloc: Global, text: &Lexed<'_>, at: usize) -> Result<(Line, usize), LineFault>
+fn drop_at(alloc: Global, text: &Lexed<'_>, at: usize) -> ReadPart<Line>
     ensures { ReadsAt first_drop text.now at result }
 {
     let (name, at) = name_at(alloc, text, at)?;
@@ -242,7 +237,7 @@ fn drop_at(alloc: Global, text: &Lexed<'_>, at: usize) -> Result<(Line, usize), 
 
 /// Behind the word `env`, as `k = 5`.
 #[tactic(auto, unfolding(crate::specs::Reading::first_env))]
-fn env_at(alloc: Global, text: &Lexed<'_>, at: usize) -> Result<(Line, usize), LineFault>
+fn env_at(alloc: Global, text: &Lexed<'_>, at: usize) -> ReadPart<Line>
     ensures { ReadsAt first_env text.now at result }
 {
     let (key, at) = name_at(alloc, text, at)?;
@@ -252,7 +247,7 @@ fn env_at(alloc: Global, text: &Lexed<'_>, at: usize) -> Result<(Line, usize), L
 }
 
 #[tactic(auto, unfolding(crate::specs::Reading::first_ended))]
-fn ended_at(text: &Lexed<'_>, at: usize) -> Result<(Line, usize), LineFault>
+fn ended_at(text: &Lexed<'_>, at: usize) -> ReadPart<Line>
     ensures { ReadsAt first_ended text.now at result }
 {
     let (count, at) = number_at(text, at, GREATEST)?;
@@ -260,7 +255,7 @@ fn ended_at(text: &Lexed<'_>, at: usize) -> Result<(Line, usize), LineFault>
 }
 
 #[tactic(auto, unfolding(crate::specs::Reading::first_stopped))]
-fn stopped_at(text: &Lexed<'_>, at: usize) -> Result<(Line, usize), LineFault>
+fn stopped_at(text: &Lexed<'_>, at: usize) -> ReadPart<Line>
     ensures { ReadsAt first_stopped text.now at result }
 {
     let (count, at) = number_at(text, at, GREATEST)?;
@@ -269,12 +264,7 @@ fn stopped_at(text: &Lexed<'_>, at: usize) -> Result<(Line, usize), LineFault>
 
 /// What stands behind the word that begins a line.
 #[tactic(auto, unfolding(crate::specs::Reading::line_behind))]
-fn line_behind(
-    alloc: Global,
-    text: &Lexed<'_>,
-    word: LineWord,
-    at: usize,
-) -> Result<(Line, usize), LineFault>
+fn line_behind(alloc: Global, text: &Lexed<'_>, word: LineWord, at: usize) -> ReadPart<Line>
     ensures { ReadsAt (line_behind word) text.now at result }
 {
     match word {
@@ -291,7 +281,7 @@ fn line_behind(
 }
 
 /// The line at a place of the text, and the place behind it.
-pub fn line_at(alloc: Global, text: &Lexed<'_>, at: usize) -> Result<(Line, usize), LineFault>
+pub fn line_at(alloc: Global, text: &Lexed<'_>, at: usize) -> ReadPart<Line>
     ensures { ReadsAt first_line text.now at result }
 {
     if text.has(at, Sort::Name) {

@@ -6,7 +6,7 @@ ghost use Rattle.expr_syntax.specs.Constants.{constant};
 ghost use Rattle.limits.specs.Limits.{greatest_place};
 ghost use Rattle.trace_syntax.specs.Reading.{behind_symbol, behind_word, first_name, first_number, first_truth, first_index, first_auxiliary, first_tag, first_key, ReadsAt, PassesAt};
 
-use crate::words::{LineFault, find_auxiliary};
+use crate::words::{LineFault, ReadPart, find_auxiliary};
 use aioc_tokens::{Lexed, Punctuator, Sort, Word};
 use dioc_terms::{Index, Key, Name, Role, Tag, Value};
 use std::alloc::Global;
@@ -38,7 +38,7 @@ pub fn word_at(text: &Lexed<'_>, at: usize, word: &[u8]) -> Result<usize, LineFa
     }
 }
 
-pub fn name_at(alloc: Global, text: &Lexed<'_>, at: usize) -> Result<(Name, usize), LineFault>
+pub fn name_at(alloc: Global, text: &Lexed<'_>, at: usize) -> ReadPart<Name>
     ensures { ReadsAt first_name text.now at result }
 {
     if !text.has(at, Sort::Name) {
@@ -49,7 +49,7 @@ pub fn name_at(alloc: Global, text: &Lexed<'_>, at: usize) -> Result<(Name, usiz
 }
 
 /// A number that is at most `most`.
-pub fn number_at(text: &Lexed<'_>, at: usize, most: u64) -> Result<(u64, usize), LineFault>
+pub fn number_at(text: &Lexed<'_>, at: usize, most: u64) -> ReadPart<u64>
     ensures value { ReadsAt (first_number most) text.now at result }
     ensures small { IfOk result (λ read. read.0 ≤ most) }
 {
@@ -63,7 +63,7 @@ pub fn number_at(text: &Lexed<'_>, at: usize, most: u64) -> Result<(u64, usize),
 }
 
 /// An epoch or a place.
-pub fn short_number_at(text: &Lexed<'_>, at: usize) -> Result<(u32, usize), LineFault>
+pub fn short_number_at(text: &Lexed<'_>, at: usize) -> ReadPart<u32>
     ensures { ReadsAt (first_number greatest_place) text.now at result }
 {
     let (number, next) = number_at(text, at, GREATEST_PLACE)?;
@@ -72,7 +72,7 @@ pub fn short_number_at(text: &Lexed<'_>, at: usize) -> Result<(u32, usize), Line
 
 /// `true` or `false`.
 #[tactic(auto, unfolding(crate::specs::Reading::first_truth))]
-pub fn truth_at(text: &Lexed<'_>, at: usize) -> Result<(bool, usize), LineFault>
+pub fn truth_at(text: &Lexed<'_>, at: usize) -> ReadPart<bool>
     ensures { ReadsAt first_truth text.now at result }
 {
     match text.sort(at) {
@@ -82,7 +82,7 @@ pub fn truth_at(text: &Lexed<'_>, at: usize) -> Result<(bool, usize), LineFault>
     }
 }
 
-pub fn value_at(alloc: Global, text: &Lexed<'_>, at: usize) -> Result<(Value, usize), LineFault>
+pub fn value_at(alloc: Global, text: &Lexed<'_>, at: usize) -> ReadPart<Value>
     ensures { ReadsAt constant text.now at result }
 {
     match expr_syntax::constant_at(alloc, text, at)? {
@@ -93,7 +93,7 @@ pub fn value_at(alloc: Global, text: &Lexed<'_>, at: usize) -> Result<(Value, us
 
 /// As `#0.3`.
 #[tactic(auto, unfolding(crate::specs::Reading::first_index))]
-pub fn index_at(text: &Lexed<'_>, at: usize) -> Result<(Index, usize), LineFault>
+pub fn index_at(text: &Lexed<'_>, at: usize) -> ReadPart<Index>
     ensures { ReadsAt first_index text.now at result }
 {
     let at = symbol_at(text, at, Punctuator::Hash)?;
@@ -105,7 +105,7 @@ pub fn index_at(text: &Lexed<'_>, at: usize) -> Result<(Index, usize), LineFault
 
 /// As `o` or `!choice`.
 #[tactic(auto, unfolding(crate::specs::Reading::first_tag))]
-pub fn tag_at(alloc: Global, text: &Lexed<'_>, at: usize) -> Result<(Tag, usize), LineFault>
+pub fn tag_at(alloc: Global, text: &Lexed<'_>, at: usize) -> ReadPart<Tag>
     ensures { ReadsAt first_tag text.now at result }
 {
     match text.sort(at) {
@@ -120,7 +120,7 @@ pub fn tag_at(alloc: Global, text: &Lexed<'_>, at: usize) -> Result<(Tag, usize)
 
 /// The auxiliary tag of a word.
 #[tactic(auto, unfolding(crate::specs::Reading::first_auxiliary))]
-fn auxiliary_at(text: &Lexed<'_>, at: usize) -> Result<(Tag, usize), LineFault>
+fn auxiliary_at(text: &Lexed<'_>, at: usize) -> ReadPart<Tag>
     ensures { ReadsAt first_auxiliary text.now at result }
 {
     if !text.has(at, Sort::Name) {
@@ -134,7 +134,7 @@ fn auxiliary_at(text: &Lexed<'_>, at: usize) -> Result<(Tag, usize), LineFault>
 
 /// As `a -> b o#0.3`.
 #[tactic(auto, unfolding(crate::specs::Reading::first_key))]
-pub fn key_at(alloc: Global, text: &Lexed<'_>, at: usize) -> Result<(Key, usize), LineFault>
+pub fn key_at(alloc: Global, text: &Lexed<'_>, at: usize) -> ReadPart<Key>
     ensures { ReadsAt first_key text.now at result }
 {
     let (from, at) = name_at(alloc, text, at)?;

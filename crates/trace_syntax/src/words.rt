@@ -39,6 +39,9 @@ pub enum LineFault {
     Memory,
 }
 
+/// A part of a line that was read with the place behind it, or why it isn't read.
+pub type ReadPart<T> = Result<(T, usize), LineFault>;
+
 /// What a line says that sets a variable.
 #[derive(Drop)]
 pub struct Setting {
