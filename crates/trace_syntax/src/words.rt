@@ -6,7 +6,7 @@ ghost use Rattle.trace_syntax.specs.declared.words.LineFault.TheVariants.{Memory
 ghost use Rattle.trace_syntax.specs.declared.words.TraceFault.TheVariants.{Memory as trace_memory};
 
 use dioc_terms::{Entry, Index, Last, Memory, Name, Role, Tag, Value};
-use std::alloc::{AllocError, AllocFailed};
+use std::alloc::AllocFailed;
 use thiserror::Error;
 
 /// A line of a trace.
@@ -120,14 +120,6 @@ impl From<Memory> for LineFault {
 
     fn from(_error: Memory) -> LineFault {
         LineFault::Memory
-    }
-}
-
-impl From<AllocError> for TraceFault {
-    ghost from_gives = { λ _ fault. fault ≡ trace_memory };
-
-    fn from(_error: AllocError) -> TraceFault {
-        TraceFault::Memory
     }
 }
 
