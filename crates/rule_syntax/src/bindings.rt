@@ -4,8 +4,9 @@ ghost use Rattle.std.specs.Prelude.{◌≤◌, length, IfOk};
 ghost use Rattle.limits.specs.Limits.{greatest_place};
 ghost use Rattle.rule_syntax.specs.Readers.{BindingAt};
 
+use crate::parts::ReadPart;
 use aioc_tokens::{Lexed, Punctuator, Sort};
-use dioc_terms::{Memory, Name, Value};
+use dioc_terms::{Name, Value};
 use expr_syntax::{constant_at, name_at};
 use std::alloc::Global;
 
@@ -18,11 +19,7 @@ const BINDING: [Sort; 2] = [Sort::Name, Sort::Symbol(Punctuator::Equal)];
 /// ```text
 /// bind = name "=" value
 /// ```
-pub fn binding_at(
-    alloc: Global,
-    text: &Lexed<'_>,
-    at: usize,
-) -> Result<Option<((Name, Value), usize)>, Memory>
+pub fn binding_at(alloc: Global, text: &Lexed<'_>, at: usize) -> ReadPart<(Name, Value)>
     requires { length text.now ≤ greatest_place }
     ensures { IfOk result (λ found. BindingAt text.now at found) }
 {

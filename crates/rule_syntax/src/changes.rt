@@ -12,9 +12,10 @@ ghost use Rattle.rule_syntax.specs.Grammar.{plain_change, IsChange};
 ghost use Rattle.rule_syntax.specs.Readers.{StandsAt, ChangeAt, change_seen};
 
 use crate::bindings::binding_at;
+use crate::parts::ReadPart;
 use crate::rules::rule_at;
 use aioc_tokens::{Lexed, Sort, Token, place};
-use dioc_terms::{Memory, Name, Rule, SyntaxFault, Value};
+use dioc_terms::{Name, Rule, SyntaxFault, Value};
 use expr_syntax::name_at;
 use limits::MOST_BRACKETS;
 use std::alloc::Global;
@@ -42,7 +43,7 @@ pub fn change_at(
     version: u32,
     room: usize,
     at: usize,
-) -> Result<Option<(ReadChange, usize)>, Memory>
+) -> ReadPart<ReadChange>
     requires { length text.now ≤ greatest_place }
     ensures { IfOk result (λ found.
         ChangeAt version room text.now at (option_map change_seen found)) }

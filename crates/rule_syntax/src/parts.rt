@@ -4,25 +4,21 @@ ghost use Rattle.std.specs.Prelude.{◌≡◌, ◌≤◌, length, None, IfOk};
 ghost use Rattle.limits.specs.Limits.{greatest_place};
 ghost use Rattle.rule_syntax.specs.Readers.{ConditionAt, BodyAt};
 
-use aioc_tokens::{Punctuator, Sort, Word};
+use aioc_tokens::Punctuator::{LeftBrace, RightBrace};
+use aioc_tokens::Sort::{self, Reserved, Symbol};
+use aioc_tokens::Word;
 use dioc_syntax::{Place, Reader, choreo_at};
 use dioc_terms::{Choreo, Expr, Memory};
 use expr_syntax::{ExprKind, expr_at};
 
 /// `} do {`
-const DOING: [Sort; 3] = [
-    Sort::Symbol(Punctuator::RightBrace),
-    Sort::Reserved(Word::Do),
-    Sort::Symbol(Punctuator::LeftBrace),
-];
+const DOING: [Sort; 3] = [Symbol(RightBrace), Reserved(Word::Do), Symbol(LeftBrace)];
 
 /// `} }`
-const CLOSING: [Sort; 2] = [
-    Sort::Symbol(Punctuator::RightBrace),
-    Sort::Symbol(Punctuator::RightBrace),
-];
+const CLOSING: [Sort; 2] = [Symbol(RightBrace), Symbol(RightBrace)];
 
-/// A part of a rule that was read with the place behind it, or `None` where it doesn't stand there.
+/// What was read with the place behind it, or `None` where it doesn't stand there. The error says
+/// that memory ran out.
 pub type ReadPart<T> = Result<Option<(T, usize)>, Memory>;
 
 /// Lets go of what turned out to be no part of a rule.

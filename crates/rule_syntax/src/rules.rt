@@ -12,24 +12,22 @@ ghost use Rattle.limits.specs.Limits.{greatest_place};
 ghost use Rattle.rule_syntax.specs.Grammar.{IsRule};
 ghost use Rattle.rule_syntax.specs.Readers.{StandsAt, RuleAt, HeadAt, rule_seen};
 
-use crate::parts::{body_at, condition_at, no_part};
+use crate::parts::{ReadPart, body_at, condition_at, no_part};
 use crate::priorities::priority_at;
-use aioc_tokens::{Lexed, Punctuator, Sort, Token, Word, place};
+use aioc_tokens::Punctuator::LeftBrace;
+use aioc_tokens::Sort::{self, Reserved, Symbol};
+use aioc_tokens::{Lexed, Token, Word, place};
 use dioc_syntax::Reader;
-use dioc_terms::{Memory, Rule, SyntaxFault, give_up};
+use dioc_terms::{Rule, SyntaxFault, give_up};
 use expr_syntax::name_at;
 use limits::MOST_BRACKETS;
 use std::alloc::Global;
 
 /// `rule r`
-const HEAD: [Sort; 2] = [Sort::Reserved(Word::Rule), Sort::Name];
+const HEAD: [Sort; 2] = [Reserved(Word::Rule), Sort::Name];
 
 /// `{ on {`
-const OPENING: [Sort; 3] = [
-    Sort::Symbol(Punctuator::LeftBrace),
-    Sort::Reserved(Word::On),
-    Sort::Symbol(Punctuator::LeftBrace),
-];
+const OPENING: [Sort; 3] = [Symbol(LeftBrace), Reserved(Word::On), Symbol(LeftBrace)];
 
 /// The priority of the rule that begins at a place of the text, and the place behind the `{ on {`
 /// that follows.
@@ -62,7 +60,7 @@ pub fn rule_at(
     version: u32,
     room: usize,
     at: usize,
-) -> Result<Option<(Rule, usize)>, Memory>
+) -> ReadPart<Rule>
     requires { length text.now ≤ greatest_place }
     ensures { IfOk result (λ found.
         RuleAt version room text.now at (option_map rule_seen found)) }

@@ -24,8 +24,7 @@ pub fn write_rule(rule: &Rule, out: &mut Vec<u8>) -> Result<(), Memory>
     ensures memory { OnErr result (out.new.items ≡ out.old.items) }
 {
     let start = out.len();
-    let written = write_parts(rule, out);
-    cut_back(written, start, out)
+    cut_back(write_parts(rule, out), start, out)
 }
 
 fn write_parts(rule: &Rule, out: &mut Vec<u8>) -> Result<(), Memory>
