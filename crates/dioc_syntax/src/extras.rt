@@ -4,27 +4,21 @@ ghost use Rattle.std.specs.Prelude.{◌≡◌, [], ◌≤◌, ◌<◌, ◌^◌, 
 ghost use Rattle.dioc_syntax.specs.Readers.{NamesAt, RolesAt, PairAt, PairsAt, PropertiesAt};
 
 use crate::names::role_at;
-use aioc_tokens::{Lexed, Punctuator, Sort, Word};
+use aioc_tokens::Punctuator::{Comma, Dot, Equal, LeftBrace, RightBrace};
+use aioc_tokens::Sort::{self, Reserved, Symbol};
+use aioc_tokens::{Lexed, Word};
 use dioc_terms::{Bindings, Items, Memory, Name, Role, Roles, Value};
 use expr_syntax::{constant_at, name_at};
 use std::alloc::Global;
 
 /// `, r`
-const ANOTHER: [Sort; 2] = [Sort::Symbol(Punctuator::Comma), Sort::Name];
+const ANOTHER: [Sort; 2] = [Symbol(Comma), Sort::Name];
 
 /// `prop {`
-const PROPERTIES: [Sort; 2] = [
-    Sort::Reserved(Word::Prop),
-    Sort::Symbol(Punctuator::LeftBrace),
-];
+const PROPERTIES: [Sort; 2] = [Reserved(Word::Prop), Symbol(LeftBrace)];
 
 /// `N . k =`
-const PAIR: [Sort; 4] = [
-    Sort::Reserved(Word::N),
-    Sort::Symbol(Punctuator::Dot),
-    Sort::Name,
-    Sort::Symbol(Punctuator::Equal),
-];
+const PAIR: [Sort; 4] = [Reserved(Word::N), Symbol(Dot), Sort::Name, Symbol(Equal)];
 
 /// The further roles at a place of the text, and the place behind them. Version 2 alone has them:
 ///
@@ -44,14 +38,14 @@ pub fn roles_at(
     if version != 2 || !text.named(at, b"roles") {
         return Ok(none_at(alloc, at));
     }
-    if !text.has(at + 1, Sort::Symbol(Punctuator::LeftBrace)) {
+    if !text.has(at + 1, Symbol(LeftBrace)) {
         return Ok(none_at(alloc, at));
     }
     let (roles, next) = match names_at(alloc, text, at + 2)? {
         Some(read) => read,
         None => return Ok(none_at(alloc, at)),
     };
-    if !text.has(next, Sort::Symbol(Punctuator::RightBrace)) {
+    if !text.has(next, Symbol(RightBrace)) {
         return Ok(none_at(alloc, at));
     }
     Ok((roles, next + 1))
@@ -100,14 +94,14 @@ pub fn properties_at(
     if !text.begins(at, &PROPERTIES) {
         return Ok(none_at(alloc, at));
     }
-    if text.has(at + 2, Sort::Symbol(Punctuator::RightBrace)) {
+    if text.has(at + 2, Symbol(RightBrace)) {
         return Ok(none_at(alloc, at + 3));
     }
     let (props, next) = match pairs_at(alloc, text, at + 2)? {
         Some(read) => read,
         None => return Ok(none_at(alloc, at)),
     };
-    if !text.has(next, Sort::Symbol(Punctuator::RightBrace)) {
+    if !text.has(next, Symbol(RightBrace)) {
         return Ok(none_at(alloc, at));
     }
     Ok((props, next + 1))
@@ -125,7 +119,7 @@ fn pairs_at(alloc: Global, text: &Lexed<'_>, at: usize) -> Result<Option<(Bindin
     };
     let mut props = Vec::new(alloc);
     props.push(first)?;
-    while text.has(next, Sort::Symbol(Punctuator::Comma)) {
+    while text.has(next, Symbol(Comma)) {
         match pair_at(alloc, text, next + 1)? {
             Some((pair, behind)) => {
                 props.push(pair)?;
