@@ -13,6 +13,7 @@ use crate::bundles::bundle_of;
 use crate::sections::sections_at;
 use crate::stops::{Stop, refusal};
 use aioc_tokens::{Lexed, Packed, TokenFault, packed_tokens};
+use dioc_syntax::Reader;
 use dioc_terms::{Bundle, SyntaxFault};
 use expr_syntax::number_at;
 use limits::MOST_BYTES;
@@ -77,7 +78,12 @@ fn bundle_at(alloc: Global, text: &Lexed<'_>) -> Result<Bundle, Stop>
         EndsAt text.now (place_in stop)) }
 {
     let (version, at) = version_at(text, 0);
-    let parts = sections_at(alloc, text, version, at)?;
+    let reader = Reader {
+        alloc,
+        text,
+        version,
+    };
+    let parts = sections_at(&reader, at)?;
     bundle_of(alloc, version, parts, text.len())
 }
 

@@ -14,7 +14,6 @@ use crate::stops::{Stop, fill, lost};
 use aioc_tokens::{Lexed, Punctuator, Sort, Word};
 use dioc_syntax::{Place, Reader, choreo_at};
 use dioc_terms::{Choreo, Trace};
-use limits::MOST_DEPTH;
 use std::alloc::Global;
 use trace_syntax::{TraceFault, trace_at};
 
@@ -25,33 +24,21 @@ const CHOREOGRAPHY: [Sort; 2] = [
 ];
 
 /// The choreography at a place of the text up to a `}`, and the place behind that.
-fn choreography_at(
-    alloc: Global,
-    text: &Lexed<'_>,
-    version: u32,
-    at: usize,
-) -> Result<(Choreo, usize), Stop>
-    requires { length text.now ≤ greatest_place }
-    ensures found { IfOk result (λ read. ChoreographyTaken version text.now at read.0 read.1) }
+fn choreography_at(reader: &Reader<'_>, at: usize) -> Result<(Choreo, usize), Stop>
+    requires { length reader.now.text.now ≤ greatest_place }
+    ensures found { IfOk result (λ read.
+        ChoreographyTaken reader.now.version reader.now.text.now at read.0 read.1) }
     ensures stopped { IfErr result (λ stop. stop ≢ Stop.Memory →
-        EndsInChoreography version text.now at (place_in stop)) }
+        EndsInChoreography reader.now.version reader.now.text.now at (place_in stop)) }
 {
-    let reader = Reader {
-        alloc,
-        text,
-        version,
-    };
-    let place = Place {
-        at,
-        room: INSIDE_LIMIT,
-        deep: MOST_DEPTH,
-        earlier: 0,
-    };
-    let found = match choreo_at(&reader, place)? {
+    let found = match choreo_at(reader, Place::front(at, INSIDE_LIMIT))? {
         Some(found) => found,
         None => return Err(Stop::At(at)),
     };
-    if !text.has(found.at, Sort::Symbol(Punctuator::RightBrace)) {
+    if !reader
+        .text
+        .has(found.at, Sort::Symbol(Punctuator::RightBrace))
+    {
         let stop = Stop::At(found.at);
         return lost(found, stop);
     }
@@ -69,25 +56,21 @@ fn choreography_at(
 ///         | "script" "{" { "after" number change } "}"
 ///         | "trace" "{" { line } [ last ] "}"
 /// ```
-pub fn section_at(
-    alloc: Global,
-    text: &Lexed<'_>,
-    version: u32,
-    at: usize,
-    parts: &mut Parts,
-) -> Result<usize, Stop>
-    requires few { length text.now ≤ greatest_place }
-    requires within { at < length text.now }
-    ensures found { IfOk result (λ next.
-        TakesSection version text.now at (found_in parts.old) (found_in parts.new) next) }
+pub fn section_at(reader: &Reader<'_>, at: usize, parts: &mut Parts) -> Result<usize, Stop>
+    requires few { length reader.now.text.now ≤ greatest_place }
+    requires within { at < length reader.now.text.now }
+    ensures found { IfOk result (λ next. TakesSection reader.now.version reader.now.text.now at
+        (found_in parts.old) (found_in parts.new) next) }
     ensures stopped { IfErr result (λ stop. stop ≢ Stop.Memory →
-        EndsInSection version text.now at (found_in parts.old) (place_in stop)) }
+        EndsInSection reader.now.version reader.now.text.now at (found_in parts.old)
+        (place_in stop)) }
 {
+    let (alloc, text) = (reader.alloc, reader.text);
     if text.begins(at, &CHOREOGRAPHY) {
         if parts.choreo.is_some() {
             return Err(Stop::At(at));
         }
-        return match choreography_at(alloc, text, version, at + 2) {
+        return match choreography_at(reader, at + 2) {
             Ok((choreo, next)) => {
                 fill(&mut parts.choreo, choreo);
                 Ok(next)
@@ -99,13 +82,13 @@ pub fn section_at(
         return Err(Stop::At(at));
     }
     if text.named(at, b"rules") {
-        rules_at(alloc, text, version, at + 2, &mut parts.rules)
+        rules_at(alloc, text, reader.version, at + 2, &mut parts.rules)
     } else if text.named(at, b"env") {
         environment_at(alloc, text, at + 2, &mut parts.env)
     } else if text.named(at, b"inputs") {
         inputs_at(alloc, text, at + 2, &mut parts.inputs)
     } else if text.named(at, b"script") {
-        script_at(alloc, text, version, at + 2, &mut parts.script)
+        script_at(alloc, text, reader.version, at + 2, &mut parts.script)
     } else if text.named(at, b"trace") {
         trace_section_at(alloc, text, at, parts)
     } else {
@@ -156,17 +139,17 @@ fn trace_section_at(
 }
 
 /// The sections from a place of the text up to its end, joined.
-pub fn sections_at(alloc: Global, text: &Lexed<'_>, version: u32, at: usize) -> Result<Parts, Stop>
-    requires { length text.now ≤ greatest_place }
+pub fn sections_at(reader: &Reader<'_>, at: usize) -> Result<Parts, Stop>
+    requires { length reader.now.text.now ≤ greatest_place }
     ensures found { IfOk result (λ parts.
-        TakesSections version (drop at text.now) (found_in parts)) }
+        TakesSections reader.now.version (drop at reader.now.text.now) (found_in parts)) }
     ensures stopped { IfErr result (λ stop. stop ≢ Stop.Memory →
-        EndsAmongSections version text.now at (place_in stop)) }
+        EndsAmongSections reader.now.version reader.now.text.now at (place_in stop)) }
 {
-    let mut parts = Parts::new(alloc);
+    let mut parts = Parts::new(reader.alloc);
     let mut next = at;
-    while next < text.len() {
-        match section_at(alloc, text, version, next, &mut parts) {
+    while next < reader.text.len() {
+        match section_at(reader, next, &mut parts) {
             Ok(behind) => next = behind,
             Err(stop) => return lost(parts, stop),
         }

@@ -16,6 +16,7 @@ use crate::reader::version_at;
 use crate::sections::section_at;
 use crate::stops::{Stop, lost, refusal};
 use aioc_tokens::{Lexed, Punctuator, Sort, TokenFault, packed_tokens};
+use dioc_syntax::Reader;
 use dioc_terms::{Bundle, SyntaxFault};
 use limits::{MOST_BYTES, MOST_SESSIONS};
 use std::alloc::Global;
@@ -104,51 +105,47 @@ pub fn session_at(alloc: Global, text: &Lexed<'_>, at: usize) -> Result<(Bundle,
         return Err(Stop::At(at));
     }
     let (version, skipped) = version_at(text, at + 2);
-    bundle_up_to_close(alloc, text, version, at + 2 + skipped)
+    let reader = Reader {
+        alloc,
+        text,
+        version,
+    };
+    bundle_up_to_close(&reader, at + 2 + skipped)
 }
 
 /// The bundle of that version whose sections stand from a place of the text up to a `}`, and the
 /// place behind that.
-fn bundle_up_to_close(
-    alloc: Global,
-    text: &Lexed<'_>,
-    version: u32,
-    at: usize,
-) -> Result<(Bundle, usize), Stop>
-    requires few { length text.now ≤ greatest_place }
-    requires within { at ≤ length text.now }
-    ensures found { IfOk result (λ read. TakesBundle version text.now at (plain read.0) read.1) }
+fn bundle_up_to_close(reader: &Reader<'_>, at: usize) -> Result<(Bundle, usize), Stop>
+    requires few { length reader.now.text.now ≤ greatest_place }
+    requires within { at ≤ length reader.now.text.now }
+    ensures found { IfOk result (λ read.
+        TakesBundle reader.now.version reader.now.text.now at (plain read.0) read.1) }
     ensures stopped { IfErr result (λ stop. stop ≢ Stop.Memory →
-        EndsInBrackets version text.now at (place_in stop)) }
+        EndsInBrackets reader.now.version reader.now.text.now at (place_in stop)) }
 {
-    let (parts, closes) = sections_up_to_close(alloc, text, version, at)?;
-    match bundle_of(alloc, version, parts, closes) {
+    let (parts, closes) = sections_up_to_close(reader, at)?;
+    match bundle_of(reader.alloc, reader.version, parts, closes) {
         Ok(bundle) => Ok((bundle, closes + 1)),
         Err(stop) => Err(stop),
     }
 }
 
 /// The sections from a place of the text up to a `}`, joined, and the place of that.
-fn sections_up_to_close(
-    alloc: Global,
-    text: &Lexed<'_>,
-    version: u32,
-    at: usize,
-) -> Result<(Parts, usize), Stop>
-    requires few { length text.now ≤ greatest_place }
-    requires within { at ≤ length text.now }
+fn sections_up_to_close(reader: &Reader<'_>, at: usize) -> Result<(Parts, usize), Stop>
+    requires few { length reader.now.text.now ≤ greatest_place }
+    requires within { at ≤ length reader.now.text.now }
     ensures found { IfOk result (λ read.
-        TakesClosed version text.now at (found_in read.0) read.1) }
+        TakesClosed reader.now.version reader.now.text.now at (found_in read.0) read.1) }
     ensures stopped { IfErr result (λ stop. stop ≢ Stop.Memory →
-        EndsBeforeClose version text.now at (place_in stop)) }
+        EndsBeforeClose reader.now.version reader.now.text.now at (place_in stop)) }
 {
-    let mut parts = Parts::new(alloc);
+    let mut parts = Parts::new(reader.alloc);
     let mut next = at;
-    'sections: while !text.has(next, CLOSING) {
-        if next >= text.len() {
+    'sections: while !reader.text.has(next, CLOSING) {
+        if next >= reader.text.len() {
             return lost(parts, Stop::At(next));
         }
-        match section_at(alloc, text, version, next, &mut parts) {
+        match section_at(reader, next, &mut parts) {
             Ok(behind) => next = behind,
             Err(stop) => return lost(parts, stop),
         }

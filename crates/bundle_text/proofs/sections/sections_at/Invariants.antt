@@ -5,7 +5,7 @@ use Rattle.bundle_text.proofs.SectionSteps.{SectionsSoFar}
 use Rattle.bundle_text.proofs.sections.sections_at.Given as goal
 
 abbrev pub invariant-loop-next : goal.invariant-loop-next
-invariant-loop-next l = SectionsSoFar l.version l.text l.at (found_in l.parts) l.next
+invariant-loop-next l = SectionsSoFar l.reader.version l.reader.text.now l.at (found_in l.parts) l.next
 
 abbrev pub decreases-loop-next : goal.decreases-loop-next
-decreases-loop-next l = length l.text - l.next
+decreases-loop-next l = length l.reader.text.now - l.next

@@ -5,7 +5,7 @@ use Rattle.bundle_text.proofs.SectionSteps.{SectionsSoFar}
 use Rattle.bundle_text.proofs.sessions.sections_up_to_close.Given as goal
 
 abbrev pub invariant-sections : goal.invariant-sections
-invariant-sections l = SectionsSoFar l.version l.text l.at (found_in l.parts) l.next × (l.at ≤ l.next) × (l.next ≤ length l.text)
+invariant-sections l = SectionsSoFar l.reader.version l.reader.text.now l.at (found_in l.parts) l.next × (l.at ≤ l.next) × (l.next ≤ length l.reader.text.now)
 
 abbrev pub decreases-sections : goal.decreases-sections
-decreases-sections l = length l.text - l.next
+decreases-sections l = length l.reader.text.now - l.next
