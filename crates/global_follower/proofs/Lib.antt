@@ -1,6 +1,7 @@
 pub mod BookLemmas
 pub mod FollowLemmas
 pub mod PlayLemmas
+pub mod Played
 pub mod PutLemmas
 pub mod RuleLemmas
 pub mod ScopeLemmas

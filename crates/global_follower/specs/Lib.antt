@@ -4,6 +4,7 @@ pub mod KeptEffects
 pub mod KeptPlays
 pub mod KeptRunning
 pub mod KeptStores
+pub mod Passing
 pub mod Playing
 pub mod Scopes
 pub mod Shown

@@ -10,6 +10,7 @@ use crate::running::{Marks, Running, is_ended};
 use crate::shown::{shows, updates_after};
 use crate::stores::Stores;
 use dioc_terms::{Bundle, Entry, Memory, Role};
+use global_steps::plays_go_on;
 use std::alloc::Global;
 use thiserror::Error;
 
@@ -22,17 +23,6 @@ pub enum FollowFault {
     /// Memory ran out.
     #[error("out of memory")]
     Memory,
-}
-
-impl From<Memory> for FollowFault {
-    ghost use Rattle.std.specs.Prelude.{◌≡◌};
-    ghost use Rattle.global_follower.specs.declared.follower.FollowFault.TheVariants.{Memory as no_memory};
-
-    ghost from_gives = { λ _ fault. fault ≡ no_memory };
-
-    fn from(_error: Memory) -> FollowFault {
-        FollowFault::Memory
-    }
 }
 
 /// A choreography in the middle of a trace: what is left of it, the stores, the book, and how many
@@ -51,11 +41,13 @@ pub struct Follower<'a> {
 }
 
 impl<'a> Follower<'a> {
-    ghost use Rattle.std.specs.Prelude.{◌≡◌, ◌<◌, None, Some, IfOk, IsErrOf, OnErr, OnOk};
+    ghost use Rattle.std.specs.Prelude.{◌≡◌, ◌<◌, ◌≤◌, length, None, Some, IfOk, IsErrOf, OnErr, OnOk};
     ghost use Rattle.dioc_terms.specs.Bundles.{IsFormed};
+    ghost use Rattle.dioc_terms.specs.Messages.{visible};
     ghost use Rattle.dioc_terms.specs.Plain.{plain, setting};
     ghost use Rattle.global_follower.specs.KeptPlays.{setting_of, state_of};
-    ghost use Rattle.global_steps.specs.Follow.{follow, follow_change, follow_role, play_start};
+    ghost use Rattle.global_follower.specs.Passing.{GoesTo, PlaysOn};
+    ghost use Rattle.global_steps.specs.Follow.{follow, follow_change, follow_role, play_from, play_start, stray_from};
     ghost use Rattle.global_steps.specs.Running.{ended};
 
     /// The choreography of a formed bundle before the first entry: the opening rules are in the
@@ -93,20 +85,72 @@ impl<'a> Follower<'a> {
             (state_of self.old) entry.now ≡ None }
         ensures same { OnErr result (state_of self.new ≡ state_of self.old) }
     {
-        match entry.doer() {
-            Some(role) => self.follow_role(alloc, role, entry),
-            None => self.follow_change(alloc, entry),
+        match self.plays(alloc, entry) {
+            Ok(true) => Ok(()),
+            Ok(false) => Err(FollowFault::Stray),
+            Err(Memory) => Err(FollowFault::Memory),
         }
     }
 
-    /// Follows an entry of a role.
-    fn follow_role(&mut self, alloc: Global, role: &Role, entry: &Entry) -> Result<(), FollowFault>
+    /// Follows an entry of the trace, and says whether the choreography plays it there; where it
+    /// doesn't, and after want of memory, the follower is as it was.
+    pub fn plays(&mut self, alloc: Global, entry: &Entry) -> Result<bool, Memory>
         requires { (state_of self.old).entries < 18446744073709551615 }
         ensures setting { setting_of self.new ≡ setting_of self.old }
-        ensures followed { OnOk result (follow_role (setting_of self.old) (state_of self.old)
-            role.now entry.now ≡ Some (state_of self.new)) }
-        ensures stray { IsErrOf result FollowFault.Stray → follow_role (setting_of self.old)
-            (state_of self.old) role.now entry.now ≡ None }
+        ensures goes { IfOk result (GoesTo (state_of self.old) (state_of self.new)
+            (follow (setting_of self.old) (state_of self.old) entry.now)) }
+        ensures same { OnErr result (state_of self.new ≡ state_of self.old) }
+    {
+        match entry.doer() {
+            Some(role) => self.plays_act(alloc, role, entry),
+            None => self.plays_change(alloc, entry),
+        }
+    }
+
+    /// Follows the entries up to the first that isn't played, and gives its number, counted from 1.
+    /// Auxiliary entries are passed over, and have numbers all the same.
+    pub fn first_stray(&mut self, alloc: Global, entries: &[Entry]) -> Result<Option<u64>, Memory>
+        requires { (state_of self.old).entries ≡ 0 }
+        ensures setting { setting_of self.new ≡ setting_of self.old }
+        ensures stray { IfOk result (λ stray. stray
+            ≡ stray_from (setting_of self.old) (state_of self.old) 1 entries.now) }
+        ensures whole { IfOk result (λ stray. stray ≡ None
+            → play_from (setting_of self.old) (state_of self.old) (visible entries.now)
+            ≡ Some (state_of self.new)) }
+        ensures few { IfOk result (λ stray. stray ≡ None
+            → (state_of self.new).entries ≤ length entries.now) }
+    {
+        plays_go_on();
+        let mut number: u64 = 0;
+        for entry in entries {
+            number += 1;
+            if !self.plays_on(alloc, entry)? {
+                return Ok(Some(number));
+            }
+        }
+        Ok(None)
+    }
+
+    /// Follows an entry that is visible, and says whether it is played; the others are passed over.
+    #[tactic(auto, using(crate::proofs::Played::passed_on))]
+    fn plays_on(&mut self, alloc: Global, entry: &Entry) -> Result<bool, Memory>
+        requires { (state_of self.old).entries < 18446744073709551615 }
+        ensures setting { setting_of self.new ≡ setting_of self.old }
+        ensures plays { IfOk result (PlaysOn (setting_of self.old) (state_of self.old) entry.now
+            (state_of self.new)) }
+    {
+        if entry.is_aux() {
+            return Ok(true);
+        }
+        self.plays(alloc, entry)
+    }
+
+    /// Follows an entry of a role, as `plays` does.
+    fn plays_act(&mut self, alloc: Global, role: &Role, entry: &Entry) -> Result<bool, Memory>
+        requires { (state_of self.old).entries < 18446744073709551615 }
+        ensures setting { setting_of self.new ≡ setting_of self.old }
+        ensures goes { IfOk result (GoesTo (state_of self.old) (state_of self.new)
+            (follow_role (setting_of self.old) (state_of self.old) role.now entry.now)) }
         ensures same { OnErr result (state_of self.new ≡ state_of self.old) }
     {
         self.stores.make_ready_for(alloc, role, entry)?;
@@ -119,36 +163,34 @@ impl<'a> Follower<'a> {
         };
         let mut effect = Effect::Leaves;
         if !play(alloc, &mut self.running, &scene, &mut effect)? {
-            return Err(FollowFault::Stray);
+            return Ok(false);
         }
         self.stores.affect(role, effect);
         self.updates = updates_after(entry, self.updates);
         self.entries += 1;
-        Ok(())
+        Ok(true)
     }
 
     /// Follows the script's next change, which may stand once its stated number of entries is
-    /// there.
-    fn follow_change(&mut self, alloc: Global, entry: &Entry) -> Result<(), FollowFault>
+    /// there, as `plays` does.
+    fn plays_change(&mut self, alloc: Global, entry: &Entry) -> Result<bool, Memory>
         requires { (state_of self.old).entries < 18446744073709551615 }
         ensures setting { setting_of self.new ≡ setting_of self.old }
-        ensures followed { OnOk result (follow_change (setting_of self.old) (state_of self.old)
-            entry.now ≡ Some (state_of self.new)) }
-        ensures stray { IsErrOf result FollowFault.Stray → follow_change (setting_of self.old)
-            (state_of self.old) entry.now ≡ None }
+        ensures goes { IfOk result (GoesTo (state_of self.old) (state_of self.new)
+            (follow_change (setting_of self.old) (state_of self.old) entry.now)) }
         ensures same { OnErr result (state_of self.new ≡ state_of self.old) }
     {
         let bundle = self.rules.bundle;
         match bundle.script.as_slice().get(self.changes as usize) {
-            None => Err(FollowFault::Stray),
+            None => Ok(false),
             Some(timed) => {
                 if !shows(self.rules, entry, &timed.change) || self.entries < timed.after {
-                    return Err(FollowFault::Stray);
+                    return Ok(false);
                 }
                 self.book.apply(alloc, self.rules, &timed.change)?;
                 self.changes += 1;
                 self.entries += 1;
-                Ok(())
+                Ok(true)
             }
         }
     }

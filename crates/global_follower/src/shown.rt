@@ -38,10 +38,7 @@ pub(crate) fn put_value(
         (eval (expression expr.now) (store_of store.now))) }
 {
     match entry {
-        Entry::Put { key, note } => {
-            if !is_key_of(key, message) {
-                return Ok(None);
-            }
+        Entry::Put { key, note } if is_key_of(key, message) => {
             let value = eval(alloc, expr, store)?;
             Ok(where_true(is_value(note, &value), value))
         }
@@ -79,10 +76,7 @@ pub(crate) fn set_value(
             role: doer,
             var: place,
             value: shown,
-        } => {
-            if *at != index || doer != role || place != var {
-                return Ok(None);
-            }
+        } if *at == index && doer == role && place == var => {
             let value = eval(alloc, expr, store)?;
             Ok(where_true(*shown == value, value))
         }
@@ -109,10 +103,7 @@ pub(crate) fn input_value(
             role: doer,
             var: place,
             value: shown,
-        } => {
-            if *at != index || doer != role || place != var {
-                return Ok(None);
-            }
+        } if *at == index && doer == role && place == var => {
             let value = store.copy_of_next_input(alloc)?;
             Ok(where_true(*shown == value, value))
         }
@@ -138,10 +129,7 @@ pub(crate) fn picked(
             index: at,
             role: doer,
             flag: shown,
-        } => {
-            if *at != index || doer != leader {
-                return Ok(None);
-            }
+        } if *at == index && doer == leader => {
             let flag = is_true(&eval(alloc, guard, store)?);
             Ok(if *shown == flag { Some(flag) } else { None })
         }
@@ -159,12 +147,7 @@ pub(crate) fn choice<'e>(entry: &'e Entry, index: Index, leader: &Role) -> Optio
             index: at,
             role: doer,
             chosen,
-        } => {
-            if *at == index && doer == leader {
-                return Some(chosen);
-            }
-            None
-        }
+        } if *at == index && doer == leader => Some(chosen),
         _ => None,
     }
 }
