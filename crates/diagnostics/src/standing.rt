@@ -240,17 +240,10 @@ impl<'a> Candidates<'a> {
     /// Adds what a construct makes itself, without its parts.
     fn add_own(&mut self, construct: &Choreo, epoch: u32) -> Result<(), Memory> {
         match construct {
-            Choreo::Com {
-                index,
-                op,
-                from,
-                expr,
-                to,
-                var,
-            } => {
-                let key = key_of(self.alloc, at(epoch, index), op, from, to)?;
-                self.add_message(key, expr, var)
-            }
+            Choreo::Com { expr, var, .. } => match key_of(self.alloc, construct, epoch)? {
+                Some(key) => self.add_message(key, expr, var),
+                None => Ok(()),
+            },
             Choreo::Set {
                 index,
                 var,
@@ -383,14 +376,23 @@ impl<'a> Candidates<'a> {
     }
 }
 
-/// The key of a message of this operation.
-fn key_of(alloc: Global, index: Index, op: &Name, from: &Role, to: &Role) -> Result<Key, Memory> {
-    Ok(Key {
-        from: from.copy(alloc)?,
-        to: to.copy(alloc)?,
-        index,
-        tag: Tag::Op(op.copy(alloc)?),
-    })
+/// The key of the message of an interaction.
+fn key_of(alloc: Global, construct: &Choreo, epoch: u32) -> Result<Option<Key>, Memory> {
+    match construct {
+        Choreo::Com {
+            index,
+            op,
+            from,
+            to,
+            ..
+        } => Ok(Some(Key {
+            from: from.copy(alloc)?,
+            to: to.copy(alloc)?,
+            index: at(epoch, index),
+            tag: Tag::Op(op.copy(alloc)?),
+        })),
+        _ => Ok(None),
+    }
 }
 
 /// The index of a construct in the choreography, or in a body that replaced a scope.
