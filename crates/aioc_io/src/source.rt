@@ -3,7 +3,7 @@
 ghost use Rattle.std.specs.Prelude.{◌≡◌, ◌⊎◌, ℕ, ◌+◌, ◌<◌, ◌≤◌, List, length, drop, Option, Some, vec_len, IfSome, IfOk, OnOk, OnErr, IsErrOf};
 ghost use Rattle.std.specs.Io.{ReadsAtMost};
 ghost use Rattle.std.specs.Io.KnownBytes.{IsAtEnd, ReadConsumes};
-ghost use Rattle.aioc_io.specs.declared.source.ReadAllFault.TheVariants.{Fault, Memory};
+ghost use Rattle.aioc_io.specs.declared.source.ReadAllFault.TheVariants.{Memory};
 ghost use Rattle.aioc_io.specs.Faults.{Rose};
 ghost use Rattle.aioc_io.specs.Source.{GivesAtMost, SourceState};
 
@@ -52,14 +52,6 @@ impl fmt::Display for ReadAllFault {
 
 impl Error for ReadAllFault {}
 
-impl From<Failed> for ReadAllFault {
-    ghost from_gives = { λ _ fault. fault ≡ Fault };
-
-    fn from(_: Failed) -> Self {
-        ReadAllFault::Fault
-    }
-}
-
 impl From<AllocError> for ReadAllFault {
     ghost from_gives = { λ _ fault. fault ≡ Memory };
 
@@ -100,7 +92,9 @@ pub fn read_all<S: Source>(
     let mut piece = [0; PIECE];
     loop {
         let room = limit - bytes.len();
-        let count = source.read(&mut piece[..room.min(PIECE - 1) + 1])?;
+        let Ok(count) = source.read(&mut piece[..room.min(PIECE - 1) + 1]) else {
+            return Err(ReadAllFault::Fault);
+        };
         if count == 0 {
             return Ok(bytes);
         }
