@@ -1,6 +1,7 @@
 -- What a worker has before it works, and what it leaves.
-use Rattle.std.specs.Prelude.{◌≡◌, ◌≤◌, ℕ, List, [], ◌∷◌, ◌++◌, length, map, Some, slice_get}
+use Rattle.std.specs.Prelude.{◌≡◌, All, ◌≤◌, ℕ, List, [], ◌∷◌, ◌++◌, length, map, Some, slice_get}
 use Rattle.std.specs.List.{AllByRecursion}
+use Rattle.dioc_terms.specs.Bundles.{IsFormed}
 use Rattle.dioc_terms.specs.Plain.{plain}
 use Rattle.ticket_table.specs.declared.tickets.Tickets.{Tickets}
 use Rattle.ticket_table.specs.Views.{holding}
@@ -9,6 +10,13 @@ use Rattle.session_pool.specs.declared.jobs.Job.{Job}
 use Rattle.session_pool.specs.declared.jobs.Numbered.{Numbered}
 use Rattle.session_pool.specs.declared.jobs.Order.{Order}
 use Rattle.session_pool.specs.Answers.{PlainAnswer, answers_of, numbered}
+
+-- an order that may be run: its bundles are formed and at most 1,000, and a run has less than 2^32
+-- entries
+pub record MayRun (order : Order) : Type 0 where
+  pub formed : All (λ b. IsFormed (plain b)) order.bundles.now
+  pub few : length order.bundles.now ≤ 1000
+  pub limit : order.limit ≤ 4294967295
 
 -- what is to be made of the answers of all sessions of an order
 abbrev pub expected : {V : Type 0} → (ℕ → PlainAnswer → V) → Order → List V

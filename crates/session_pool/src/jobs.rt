@@ -7,7 +7,7 @@ ghost use Rattle.dioc_terms.specs.Bundles.{IsFormed};
 ghost use Rattle.dioc_terms.specs.Plain.{plain};
 ghost use Rattle.ticket_table.specs.Views.{holding};
 ghost use Rattle.ticket_table.specs.Words.{IsDrawerOf, drawn_by, parts_of, view};
-ghost use Rattle.session_pool.specs.Jobs.{HasWorked, IsWorkDone, HasClaimedNothing, expected};
+ghost use Rattle.session_pool.specs.Jobs.{IsWorkDone, HasClaimedNothing, MayRun, expected};
 
 use crate::answers::answer_session;
 use crate::made::Made;
@@ -21,8 +21,11 @@ use ticket_table::{Drawer, Tickets};
 /// What is run: the bundles of the sessions, from which seed, and to how many entries each.
 #[derive(Clone, Copy)]
 pub struct Order<'a> {
+    /// The bundles, one for each session.
     pub bundles: &'a [Bundle],
+    /// The seed of each schedule, where it has one.
     pub seed: Option<u64>,
+    /// How many entries each run has at most.
     pub limit: u64,
 }
 
@@ -51,9 +54,7 @@ pub fn work_all<T: Made, W: Watch + Sync, R: Threads + Wait + Sync>(
     tickets: &Tickets,
     mut jobs: Vec<Job<T>>,
 ) -> Vec<Job<T>>
-    requires formed { All (λ b. IsFormed (plain b)) order.now.bundles.now }
-    requires few { length order.now.bundles.now ≤ 1000 }
-    requires limit { order.now.limit ≤ 4294967295 }
+    requires order { MayRun order.now }
     requires some { 0 < length jobs.items }
     requires ready { All (HasClaimedNothing tickets.now) jobs.items }
     ensures same { length result.items ≡ length jobs.items }
@@ -62,69 +63,30 @@ pub fn work_all<T: Made, W: Watch + Sync, R: Threads + Wait + Sync>(
 {
     let count = jobs.len();
     let one = |_: usize, job: &mut Job<T>|
-        requires { HasClaimedNothing tickets.now job.now
-            × All (λ b. IsFormed (plain b)) order.now.bundles.now
-            × (length order.now.bundles.now ≤ 1000)
-            × (order.now.limit ≤ 4294967295) }
+        requires { HasClaimedNothing tickets.now job.now × MayRun order.now }
         ensures { job.exit.now.done ≡ true → IsWorkDone T.seen tickets.entry.now
             (expected T.made_of order.entry.now) job.exit.now }
-    { work(rt, alloc, order, watch, tickets, job) };
+    { job.done = answer_all(rt, alloc, order, watch, tickets, job).is_ok() };
     thread::for_each_mut(rt, jobs.as_mut_slice(), count, &one);
     jobs
 }
 
-/// Claims sessions and answers them, until a claim is past the last one or memory runs out.
-fn work<T: Made, W: Watch, R: Wait>(
-    rt: &R,
-    alloc: Global,
-    order: &Order<'_>,
-    watch: &W,
-    tickets: &Tickets,
-    job: &mut Job<T>,
-)
-    requires formed { All (λ b. IsFormed (plain b)) order.now.bundles.now }
-    requires few { length order.now.bundles.now ≤ 1000 }
-    requires limit { order.now.limit ≤ 4294967295 }
-    requires ready { HasClaimedNothing tickets.now job.old }
-    ensures { job.new.done ≡ true
-        → IsWorkDone T.seen tickets.now (expected T.made_of order.now) job.new }
-{
-    let worked = answer_all(
-        rt,
-        alloc,
-        order,
-        watch,
-        tickets,
-        &mut job.drawer,
-        &mut job.made,
-    );
-    job.done = worked.is_ok();
-}
-
 /// Claims sessions, and adds what is made of their answers to what the worker has made, until a
-/// claim is past the last session.
+/// claim is past the last session or memory runs out.
 fn answer_all<T: Made, W: Watch, R: Wait>(
     rt: &R,
     alloc: Global,
     order: &Order<'_>,
     watch: &W,
     tickets: &Tickets,
-    drawer: &mut Drawer,
-    made: &mut Vec<Numbered<T>>,
+    job: &mut Job<T>,
 ) -> Result<(), Memory>
-    requires formed { All (λ b. IsFormed (plain b)) order.now.bundles.now }
-    requires few { length order.now.bundles.now ≤ 1000 }
-    requires limit { order.now.limit ≤ 4294967295 }
-    requires of { IsDrawerOf tickets.now drawer.old }
-    requires view { view drawer.old ≡ holding 1 [] }
-    requires none { made.old.items ≡ [] }
-    ensures of { OnOk result (IsDrawerOf tickets.now drawer.new) }
-    ensures one { OnOk result (parts_of drawer.new ≡ 1) }
-    ensures worked { OnOk result (HasWorked T.seen (expected T.made_of order.now)
-        (drawn_by drawer.new) made.new.items) }
+    requires order { MayRun order.now }
+    requires ready { HasClaimedNothing tickets.now job.old }
+    ensures { OnOk result (IsWorkDone T.seen tickets.now (expected T.made_of order.now) job.new) }
 {
     'sessions: loop {
-        let ticket = tickets.draw(drawer);
+        let ticket = tickets.draw(&mut job.drawer);
         if ticket >= order.bundles.len() as u64 {
             return Ok(());
         }
@@ -133,7 +95,7 @@ fn answer_all<T: Made, W: Watch, R: Wait>(
         let bundle = &order.bundles[number as usize];
         let answer = answer_session(alloc, bundle, order.seed, order.limit)?;
         let one = T::make(alloc, number, answer)?;
-        made.push(Numbered { number, made: one })?;
+        job.made.push(Numbered { number, made: one })?;
     }
 }
 

@@ -9,6 +9,7 @@ mod sessions;
 mod watch;
 
 pub use answers::Answer;
+pub use jobs::Order;
 pub use made::Made;
 pub use sessions::{run_sessions, run_sessions_as};
 pub use watch::{OpenWatch, Watch};

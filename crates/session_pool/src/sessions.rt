@@ -7,7 +7,7 @@ ghost use Rattle.dioc_terms.specs.Plain.{plain};
 ghost use Rattle.ticket_table.specs.Views.{holding};
 ghost use Rattle.ticket_table.specs.Words.{IsDrawerOf, all_parts, view};
 ghost use Rattle.session_pool.specs.Answers.{answer_seen, answers_of, numbered};
-ghost use Rattle.session_pool.specs.Jobs.{IsWorkDone, HasClaimedNothing, expected};
+ghost use Rattle.session_pool.specs.Jobs.{IsWorkDone, HasClaimedNothing, MayRun, expected};
 
 use crate::answers::Answer;
 use crate::jobs::{Job, Order, all_done, work_all};
@@ -43,7 +43,12 @@ pub fn run_sessions<W: Watch + Sync, R: Threads + Wait + Sync>(
     ensures answers { IfOk result (λ answers.
         map answer_seen answers.items ≡ answers_of seed limit (map plain bundles.now)) }
 {
-    run_sessions_as(rt, alloc, bundles, workers, seed, limit, watch)
+    let order = Order {
+        bundles,
+        seed,
+        limit,
+    };
+    run_sessions_as(rt, alloc, &order, workers, watch)
 }
 
 /// The same, but gives what is made of each answer. The worker that ran a session makes it at once,
@@ -51,33 +56,23 @@ pub fn run_sessions<W: Watch + Sync, R: Threads + Wait + Sync>(
 pub fn run_sessions_as<T: Made, W: Watch + Sync, R: Threads + Wait + Sync>(
     rt: &R,
     alloc: Global,
-    bundles: &[Bundle],
+    order: &Order<'_>,
     workers: u32,
-    seed: Option<u64>,
-    limit: u64,
     watch: &W,
 ) -> Result<Vec<T>, Memory>
-    requires formed { All (λ b. IsFormed (plain b)) bundles.now }
-    requires few { length bundles.now ≤ 1000 }
+    requires order { MayRun order.now }
     requires workers { 0 < workers }
-    requires limit { limit ≤ 4294967295 }
-    ensures made { IfOk result (λ made. map T.seen made.items
-        ≡ numbered T.made_of 0 (answers_of seed limit (map plain bundles.now))) }
+    ensures made { IfOk result (λ made. map T.seen made.items ≡ expected T.made_of order.now) }
 {
-    let order = Order {
-        bundles,
-        seed,
-        limit,
-    };
     let Ok((tickets, mut first)) = Tickets::new(alloc, u64::from(workers) + 1) else {
         return Err(Memory);
     };
     let jobs = ready_jobs(alloc, &tickets, &mut first, workers as usize)?;
-    let jobs = work_all(rt, alloc, &order, watch, &tickets, jobs);
+    let jobs = work_all(rt, alloc, order, watch, &tickets, jobs);
     if !all_done(jobs.as_slice()) {
         return Err(Memory);
     }
-    collect(alloc, &order, tickets, first, jobs)
+    collect(alloc, order, tickets, first, jobs)
 }
 
 /// So many workers, each with a right to claim that is cut off the first.

@@ -7,8 +7,8 @@ use Rattle.session_pool.proofs.jobs.answer_all.Given as goal
 
 abbrev pub invariant-sessions : goal.invariant-sessions
 invariant-sessions g l =
-    IsDrawerOf l.tickets l.drawer × (parts_of l.drawer ≡ 1) × (drawn_by l.drawer ≡ numbers_of l.made.items)
-    × (length l.made.items ≤ length l.order.bundles.now) × AllByRecursion (IsRight g.T.Made.seen (expected g.T.Made.made_of l.order)) l.made.items
+    IsDrawerOf l.tickets l.job.drawer × (parts_of l.job.drawer ≡ 1) × (drawn_by l.job.drawer ≡ numbers_of l.job.made.items)
+    × (length l.job.made.items ≤ length l.order.bundles.now) × AllByRecursion (IsRight g.T.Made.seen (expected g.T.Made.made_of l.order)) l.job.made.items
 
 abbrev pub decreases-sessions : goal.decreases-sessions
-decreases-sessions g l = length l.order.bundles.now - length l.made.items
+decreases-sessions g l = length l.order.bundles.now - length l.job.made.items
