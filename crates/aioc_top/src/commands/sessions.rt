@@ -13,7 +13,7 @@ use crate::faults::make_refusal_line;
 use crate::replies::{End, Written, last_line};
 use command_words::Options;
 use dioc_terms::{Bundle, Memory, give_up};
-use session_pool::{Answer, Made, OpenWatch, run_sessions_as};
+use session_pool::{Answer, Made, OpenWatch, Order, run_sessions_as};
 use std::alloc::Global;
 use std::sync::Wait;
 use std::thread::Threads;
@@ -36,15 +36,12 @@ pub fn sessions<R: Threads + Wait + Sync>(
     ensures { IfOk result (λ written. reply_of written
         ≡ sessions_reply options.now (map plain bundles.now)) }
 {
-    let texts = run_sessions_as(
-        rt,
-        alloc,
+    let order = Order {
         bundles,
-        options.workers,
-        options.seed,
-        options.steps,
-        &OpenWatch,
-    )?;
+        seed: options.seed,
+        limit: options.steps,
+    };
+    let texts = run_sessions_as(rt, alloc, &order, options.workers, &OpenWatch)?;
     let text = join_texts(alloc, texts)?;
     Ok(Written {
         end: End::Done,
