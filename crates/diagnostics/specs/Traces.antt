@@ -7,7 +7,7 @@ use Rattle.aioc_tokens.specs.Lexing.{Lexes, place_of}
 use Rattle.dioc_terms.specs.declared.bundles.Last.{Last}
 use Rattle.dioc_terms.specs.declared.bundles.Last.TheVariants as last
 use Rattle.dioc_terms.specs.declared.entries.Entry.{Entry}
-use Rattle.dioc_terms.specs.Messages.{is_aux, visible}
+use Rattle.dioc_terms.specs.Messages.{visible}
 use Rattle.dioc_terms.specs.Plain.{PlainBundle, Setting, setting}
 use Rattle.bundle_text.specs.Grammar.{Spells}
 use Rattle.global_steps.specs.Follow.{State, follow, play, stray}
@@ -60,20 +60,6 @@ pub record MayCome (b : PlainBundle) (before : List Entry) (entry : Entry) : Typ
   pub played : play b (visible before) ≡ Some state
   pub next : State
   pub follows : follow (setting b) state entry ≡ Some next
-
--- the answer says whether the entry is played, and this is the state then
-abbrev pub Follows : Setting → State → Entry → State → Bool → Type 0
-Follows b state entry next true = follow b state entry ≡ Some next
-Follows b state entry next false = (follow b state entry ≡ None) × (next ≡ state)
-
--- the answer says whether the entry is played, or passed over as auxiliary, and where it is this is
--- the state behind it
-abbrev pub passed : Setting → State → Entry → Option State
-passed b state entry = if is_aux entry then Some state else follow b state entry
-
-abbrev pub PlaysOn : Setting → State → Entry → State → Bool → Type 0
-PlaysOn b state entry next true = passed b state entry ≡ Some next
-PlaysOn b state entry next false = passed b state entry ≡ None
 
 -- at the place begin the lines of as many entries as these, up to the `}` behind them
 pub record IsLineAt (text : List Lexeme) (left place : ℕ) : Type 0 where

@@ -10,7 +10,7 @@ ghost use Rattle.dioc_terms.specs.Plain.{plain};
 ghost use Rattle.global_follower.specs.KeptPlays.{setting_of, state_of};
 ghost use Rattle.global_steps.specs.Follow.{play_from, stray_from};
 ghost use Rattle.text_places.specs.Laws.{HasTokens};
-ghost use Rattle.diagnostics.specs.Traces.{IsPlayed, IsJudged, IsBehind, MayCome, Follows, PlaysOn, IsShownAt, IsToldAt, is_cut_short};
+ghost use Rattle.diagnostics.specs.Traces.{IsPlayed, IsJudged, IsBehind, MayCome, IsShownAt, IsToldAt, is_cut_short};
 
 use crate::diagnostic::{Code, Diagnostic, Span};
 use crate::lines::find_line;
@@ -18,10 +18,8 @@ use crate::places::span_at;
 use crate::standing::Standing;
 use crate::wording::{Piece, line_of};
 use aioc_tokens::{Lexed, Token, sorts};
-use aux_messages::is_aux;
 use dioc_terms::{Bundle, Entry, Last, Memory, give_up};
-use global_follower::{FollowFault, Follower};
-use global_steps::plays_go_on;
+use global_follower::Follower;
 use std::alloc::Global;
 use text_pieces::write_bytes;
 use text_places::tokens_of;
@@ -41,61 +39,6 @@ enum Judgement {
     Short,
 }
 
-/// Follows an entry, and says whether it is played.
-fn follows(alloc: Global, follower: &mut Follower<'_>, entry: &Entry) -> Result<bool, Memory>
-    requires { (state_of follower.old).entries < 18446744073709551615 }
-    ensures setting { setting_of follower.new ≡ setting_of follower.old }
-    ensures follows { IfOk result (Follows (setting_of follower.old) (state_of follower.old)
-        entry.now (state_of follower.new)) }
-{
-    match follower.follow(alloc, entry) {
-        Ok(()) => Ok(true),
-        Err(FollowFault::Stray) => Ok(false),
-        Err(FollowFault::Memory) => Err(Memory),
-    }
-}
-
-/// Follows an entry that is visible, and says whether it is played; the others are passed over.
-#[tactic(auto, using(crate::proofs::Played::passed_on))]
-fn plays_on(alloc: Global, follower: &mut Follower<'_>, entry: &Entry) -> Result<bool, Memory>
-    requires { (state_of follower.old).entries < 18446744073709551615 }
-    ensures setting { setting_of follower.new ≡ setting_of follower.old }
-    ensures plays { IfOk result (PlaysOn (setting_of follower.old) (state_of follower.old) entry.now
-        (state_of follower.new)) }
-{
-    if is_aux(entry) {
-        return Ok(true);
-    }
-    follows(alloc, follower, entry)
-}
-
-/// Follows the entries up to the first that isn't played, and gives its number, counted from 1.
-fn first_stray(
-    alloc: Global,
-    follower: &mut Follower<'_>,
-    entries: &[Entry],
-) -> Result<Option<u64>, Memory>
-    requires { (state_of follower.old).entries ≡ 0 }
-    ensures setting { setting_of follower.new ≡ setting_of follower.old }
-    ensures stray { IfOk result (λ stray. stray
-        ≡ stray_from (setting_of follower.old) (state_of follower.old) 1 entries.now) }
-    ensures whole { IfOk result (λ stray. stray ≡ None
-        → play_from (setting_of follower.old) (state_of follower.old) (visible entries.now)
-        ≡ Some (state_of follower.new)) }
-    ensures few { IfOk result (λ stray. stray ≡ None
-        → (state_of follower.new).entries ≤ length entries.now) }
-{
-    plays_go_on();
-    let mut number: u64 = 0;
-    for entry in entries {
-        number += 1;
-        if !plays_on(alloc, follower, entry)? {
-            return Ok(Some(number));
-        }
-    }
-    Ok(None)
-}
-
 /// Whether the section says that the run has ended, and it has not.
 fn is_cut_short(last: &Option<Last>, is_over: bool) -> bool
     ensures { result ≡ is_cut_short last.now is_over }
@@ -112,7 +55,7 @@ fn judged(alloc: Global, bundle: &Bundle) -> Result<Judgement, Memory>
     ensures { IfOk result (IsJudged (plain bundle.now)) }
 {
     let mut follower = Follower::new(alloc, bundle)?;
-    let stray = first_stray(alloc, &mut follower, bundle.trace.entries.as_slice())?;
+    let stray = follower.first_stray(alloc, bundle.trace.entries.as_slice())?;
     let is_over = follower.is_ended();
     match stray {
         Some(number) => Ok(Judgement::Stray(number)),
@@ -132,7 +75,7 @@ fn follower_behind<'a>(
         (setting_of follower) (state_of follower))) }
 {
     let mut follower = Follower::new(alloc, bundle)?;
-    match first_stray(alloc, &mut follower, before)? {
+    match follower.first_stray(alloc, before)? {
         Some(_) => Ok(None),
         None => Ok(Some(follower)),
     }
@@ -155,7 +98,7 @@ fn tried<'a>(
     ensures stands { IfOk result (λ tried. IfSome tried.1 (λ follower. IsBehind (plain bundle.now)
         before.now (setting_of follower) (state_of follower))) }
 {
-    if follows(alloc, &mut follower, entry)? {
+    if follower.plays(alloc, entry)? {
         Ok((true, follower_behind(alloc, bundle, before)?))
     } else {
         Ok((false, Some(follower)))

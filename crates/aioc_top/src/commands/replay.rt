@@ -7,14 +7,13 @@ ghost use Rattle.dioc_terms.specs.Plain.{plain};
 ghost use Rattle.global_follower.specs.KeptPlays.{setting_of, state_of};
 ghost use Rattle.global_steps.specs.Follow.{play_from, stray_from};
 ghost use Rattle.global_steps.specs.Running.{ended};
-ghost use Rattle.aioc_top.specs.Judging.{PlaysOn, is_cut_short};
+ghost use Rattle.aioc_top.specs.Judging.{is_cut_short};
 ghost use Rattle.aioc_top.specs.Replies.{replay_reply, reply_of, yes, no};
 
 use crate::replies::{Written, say_no, say_yes};
 use aux_messages::is_aux;
 use dioc_terms::{Bundle, Entry, Last, Memory};
-use global_follower::{FollowFault, Follower};
-use global_steps::plays_go_on;
+use global_follower::Follower;
 use std::alloc::Global;
 
 /// The judgement of the entries of the trace section by the choreography: `yes` with how many were
@@ -27,7 +26,7 @@ pub fn replay(alloc: Global, bundle: &Bundle) -> Result<Written, Memory>
 {
     let entries = bundle.trace.entries.as_slice();
     let mut follower = Follower::new(alloc, bundle)?;
-    let stray = first_stray(alloc, &mut follower, entries);
+    let stray = follower.first_stray(alloc, entries);
     let is_over = follower.is_ended();
     drop(follower);
     match stray? {
@@ -62,47 +61,6 @@ pub fn is_cut_short(last: &Option<Last>, is_over: bool) -> bool
     match last {
         Some(Last::Ended(_)) => !is_over,
         _ => false,
-    }
-}
-
-// Follows the entries up to the first that isn't played, and gives its number.
-fn first_stray(
-    alloc: Global,
-    follower: &mut Follower<'_>,
-    entries: &[Entry],
-) -> Result<Option<u64>, Memory>
-    requires { (state_of follower.old).entries ≡ 0 }
-    ensures stray { IfOk result (λ stray. stray
-        ≡ stray_from (setting_of follower.old) (state_of follower.old) 1 entries.now) }
-    ensures whole { IfOk result (λ stray. stray ≡ None
-        → play_from (setting_of follower.old) (state_of follower.old) (visible entries.now)
-        ≡ Some (state_of follower.new)) }
-{
-    plays_go_on();
-    let mut number: u64 = 0;
-    for entry in entries {
-        number += 1;
-        if !plays_on(alloc, follower, entry)? {
-            return Ok(Some(number));
-        }
-    }
-    Ok(None)
-}
-
-// Follows an entry that is visible, and says whether it is played; the others are passed over.
-fn plays_on(alloc: Global, follower: &mut Follower<'_>, entry: &Entry) -> Result<bool, Memory>
-    requires { (state_of follower.old).entries < 18446744073709551615 }
-    ensures setting { setting_of follower.new ≡ setting_of follower.old }
-    ensures plays { IfOk result (PlaysOn (setting_of follower.old) (state_of follower.old) entry.now
-        (state_of follower.new)) }
-{
-    if is_aux(entry) {
-        return Ok(true);
-    }
-    match follower.follow(alloc, entry) {
-        Ok(()) => Ok(true),
-        Err(FollowFault::Stray) => Ok(false),
-        Err(FollowFault::Memory) => Err(Memory),
     }
 }
 

@@ -2,15 +2,15 @@
 use Rattle.std.proofs.Common.{◌≡◌, Some, subst}
 use Rattle.global_follower.specs.KeptPlays.{state_of}
 use Rattle.global_steps.specs.Follow.{follow}
-use Rattle.diagnostics.specs.Traces.{Follows}
+use Rattle.global_follower.specs.Passing.{GoesTo}
 use Rattle.diagnostics.proofs.traces.tried.Goals as goal
 
 pub returns-then-branch-clause-comes : goal.returns-then-branch-clause-comes
 returns-then-branch-clause-comes c = λ _.
     let S = state_of c.args.follower in
-    let T = state_of c.follows.new.follower in
+    let T = state_of c.plays.new.self in
     let here = c.requires.stands in
-    let followed = subst (Follows _ S c.args.entry.now T) c.if-branch.true c.in_ok-follows.ensures.follows in
+    let followed = subst (GoesTo S T _) c.if-branch.true c.in_ok-plays.ensures.goes in
     record {
       state = S;
       played = here.played;

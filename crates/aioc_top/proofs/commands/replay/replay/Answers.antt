@@ -15,9 +15,9 @@ returns-in-None c =
     let entries = c.as_slice-entries.ensures in
     let none : stray b b.trace.entries ≡ None =
     (λ j. stray_from (sym began.setting j) (sym began.start j) 1 (sym entries j)) ∙ sym judged.stray ∙ c.in-None.is in
-    let plays : play b (visible b.trace.entries) ≡ Some (state_of c.first_stray-stray.new.follower) =
+    let plays : play b (visible b.trace.entries) ≡ Some (state_of c.first_stray-stray.new.self) =
     (λ j. play_from (sym began.setting j) (sym began.start j) (visible (sym entries j))) ∙ judged.whole c.in-None.is in
-    told_whole b c.say_whole.result c.as_slice-entries.result.now entries (state_of c.first_stray-stray.new.follower) c.is_ended-is_over.result none plays c.is_ended-is_over.ensures
+    told_whole b c.say_whole.result c.as_slice-entries.result.now entries (state_of c.first_stray-stray.new.self) c.is_ended-is_over.result none plays c.is_ended-is_over.ensures
     c.say_whole.ensures.short c.say_whole.ensures.whole
 
 pub returns-in-Some : goal.returns-in-Some
