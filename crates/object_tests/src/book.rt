@@ -105,9 +105,7 @@ fn run(alloc: Global, bundle: &Bundle) -> Result<Vec<State>, Fail>
 /// The states of the book of the bundle.
 fn found_states(alloc: Global) -> Result<Vec<State>, Fail> {
     let bundle = read_bundle(alloc, BUNDLE)?;
-    let states = run(alloc, &bundle);
-    drop(bundle);
-    states
+    run(alloc, &bundle)
 }
 
 #[test]

@@ -8,11 +8,7 @@ use text_pieces::write_bytes;
 /// Appends `a name` or `none`.
 pub fn answer_name(alloc: Global, case: &Case, out: &mut Vec<u8>) -> Result<(), Problem> {
     match Name::read(alloc, &case.text) {
-        Ok(name) => {
-            let is_same = name.bytes() == case.text.as_slice();
-            drop(name);
-            Ok(write_read(b"a name", is_same, out)?)
-        }
+        Ok(name) => Ok(write_read(b"a name", name.bytes(), case, out)?),
         Err(NameFault::NotAName) => Ok(write_bytes(b"none", out)?),
         Err(NameFault::Memory) => Err(Problem::Memory),
     }
@@ -21,18 +17,15 @@ pub fn answer_name(alloc: Global, case: &Case, out: &mut Vec<u8>) -> Result<(), 
 /// Appends `a text` or `none`.
 pub fn answer_text(alloc: Global, case: &Case, out: &mut Vec<u8>) -> Result<(), Problem> {
     match Text::read(alloc, &case.text) {
-        Ok(text) => {
-            let is_same = text.bytes() == case.text.as_slice();
-            drop(text);
-            Ok(write_read(b"a text", is_same, out)?)
-        }
+        Ok(text) => Ok(write_read(b"a text", text.bytes(), case, out)?),
         Err(TextFault::NotText) => Ok(write_bytes(b"none", out)?),
         Err(TextFault::Memory) => Err(Problem::Memory),
     }
 }
 
 // What was read, and whether it has the bytes that it was read from.
-fn write_read(what: &[u8], is_same: bool, out: &mut Vec<u8>) -> Result<(), Memory> {
+fn write_read(what: &[u8], read: &[u8], case: &Case, out: &mut Vec<u8>) -> Result<(), Memory> {
+    let is_same = read == case.text.as_slice();
     write_bytes(what, out)?;
     write_bytes(if is_same { b"" } else { b" of other bytes" }, out)
 }

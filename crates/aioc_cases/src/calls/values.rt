@@ -8,12 +8,8 @@ use std::alloc::Global;
 /// Appends the value as it is written.
 pub fn answer(alloc: Global, case: &Case, out: &mut Vec<u8>) -> Result<(), Problem> {
     let expr = whole_expr(alloc, case)?;
-    let found = value_of(alloc, &expr);
-    drop(expr);
-    let value = found?;
-    let written = write_value(&value, out);
-    drop(value);
-    Ok(written?)
+    let value = value_of(alloc, &expr)?;
+    Ok(write_value(&value, out)?)
 }
 
 fn value_of(alloc: Global, expr: &Expr) -> Result<Value, Memory> {
