@@ -1,9 +1,9 @@
 //! What a command wrote, and how it ended.
 
-ghost use Rattle.std.specs.Prelude.{◌≡◌, if◌then◌else◌, IfOk};
+ghost use Rattle.std.specs.Prelude.{◌≡◌, ◌++◌, decimal, if◌then◌else◌, IfOk};
 ghost use Rattle.dioc_terms.specs.Plain.{plain};
 ghost use Rattle.bundle_text.specs.Writing.{bundle_text};
-ghost use Rattle.aioc_top.specs.Replies.{ended_reply, last_of, no, reply_of, yes};
+ghost use Rattle.aioc_top.specs.Replies.{ended_reply, last_of, line_of_text, no, reply_of, yes};
 ghost use Rattle.aioc_top.specs.Verdicts.{status_of_end};
 
 use crate::status::Status;
@@ -65,25 +65,26 @@ pub fn bundle_written(alloc: Global, bundle: &Bundle) -> Result<Written, Memory>
 pub fn say_yes(alloc: Global, count: u64) -> Result<Written, Memory>
     ensures { IfOk result (λ written. reply_of written ≡ yes count) }
 {
-    let mut text = Vec::new(alloc);
-    write_bytes(b"yes ", &mut text)?;
-    write_number(count, &mut text)?;
-    write_bytes(b"\n", &mut text)?;
-    Ok(Written {
-        end: End::Done,
-        text,
-    })
+    say(alloc, End::Done, b"yes ", count)
 }
 
 /// `no` and the number of an entry, counted from 1.
 pub fn say_no(alloc: Global, number: u64) -> Result<Written, Memory>
     ensures { IfOk result (λ written. reply_of written ≡ no number) }
 {
+    say(alloc, End::No, b"no ", number)
+}
+
+/// A line of a word with the space behind it, and a number.
+fn say(alloc: Global, end: End, word: &[u8], number: u64) -> Result<Written, Memory>
+    ensures { IfOk result (λ written. reply_of written
+        ≡ record { end = end; text = line_of_text (word.now ++ decimal number) }) }
+{
     let mut text = Vec::new(alloc);
-    write_bytes(b"no ", &mut text)?;
+    write_bytes(word, &mut text)?;
     write_number(number, &mut text)?;
     write_bytes(b"\n", &mut text)?;
-    Ok(Written { end: End::No, text })
+    Ok(Written { end, text })
 }
 
 /// The last line of a run: whether it has ended, and how many entries it has.
