@@ -134,21 +134,16 @@ fn operator_bytes(oper: Oper) -> &'static [u8]
     }
 }
 
-/// What stands between two operands: the operator between two spaces, and the brackets beside it.
-fn write_between(
-    left_compound: bool,
-    oper: Oper,
-    right_compound: bool,
-    out: &mut Vec<u8>,
-) -> Result<(), Memory>
-    ensures ok { OnOk result (out.new.items ≡ out.old.items ++ (closing_text left_compound
-        ++ codes " " ++ spelling (operator_lexeme oper) ++ codes " "
-        ++ opening_text right_compound)) }
+/// What stands between two operands: the operator between two spaces, and the brackets beside
+/// it where the left and the right one have them.
+fn write_between(left: bool, oper: Oper, right: bool, out: &mut Vec<u8>) -> Result<(), Memory>
+    ensures ok { OnOk result (out.new.items ≡ out.old.items ++ (closing_text left
+        ++ codes " " ++ spelling (operator_lexeme oper) ++ codes " " ++ opening_text right)) }
     ensures memory { OnErr result (KeepsFront out.old.items out.new.items) }
 {
-    write_where(left_compound, b" )", out)?;
+    write_where(left, b" )", out)?;
     write_bytes(b" ", out)?;
     write_bytes(operator_bytes(oper), out)?;
     write_bytes(b" ", out)?;
-    write_where(right_compound, b"( ", out)
+    write_where(right, b"( ", out)
 }
