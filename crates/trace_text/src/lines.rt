@@ -6,7 +6,8 @@ ghost use Rattle.text_pieces.specs.Pieces.{KeepsFront};
 ghost use Rattle.trace_text.specs.Lines.{line, last_line, index_text, value_text};
 
 use crate::pieces::{
-    write_choice, write_index, write_indexed, write_key, write_note, write_three, write_variable,
+    Written, write_choice, write_index, write_indexed, write_key, write_note, write_three,
+    write_variable,
 };
 use dioc_terms::{Chosen, Entry, Index, Key, Last, Memory, Name, Note, Role, Value};
 use text_pieces::{Minus, cut_back, write_bytes, write_number, write_truth, write_value};
@@ -35,7 +36,7 @@ pub fn write_plain_last(last: &Last, out: &mut Vec<u8>) -> Result<(), Memory>
     cut_back(written, start, out)
 }
 
-fn write_entry(entry: &Entry, out: &mut Vec<u8>) -> Result<(), Memory>
+fn write_entry(entry: &Entry, out: &mut Vec<u8>) -> Written
     ensures ok { OnOk result (out.new.items ≡ out.old.items ++ line entry.now) }
     ensures memory { OnErr result (KeepsFront out.old.items out.new.items) }
 {
@@ -72,7 +73,7 @@ fn write_entry(entry: &Entry, out: &mut Vec<u8>) -> Result<(), Memory>
     }
 }
 
-fn write_put(key: &Key, note: &Note, out: &mut Vec<u8>) -> Result<(), Memory>
+fn write_put(key: &Key, note: &Note, out: &mut Vec<u8>) -> Written
     ensures ok { OnOk result (out.new.items ≡ out.old.items ++ line (entry.Put key.now note.now)) }
     ensures memory { OnErr result (KeepsFront out.old.items out.new.items) }
 {
@@ -82,7 +83,7 @@ fn write_put(key: &Key, note: &Note, out: &mut Vec<u8>) -> Result<(), Memory>
     write_note(note, out)
 }
 
-fn write_take(key: &Key, variable: &Option<Name>, out: &mut Vec<u8>) -> Result<(), Memory>
+fn write_take(key: &Key, variable: &Option<Name>, out: &mut Vec<u8>) -> Written
     ensures ok { OnOk result (out.new.items ≡ out.old.items ++
         line (entry.Take key.now variable.now)) }
     ensures memory { OnErr result (KeepsFront out.old.items out.new.items) }
@@ -93,7 +94,7 @@ fn write_take(key: &Key, variable: &Option<Name>, out: &mut Vec<u8>) -> Result<(
 }
 
 /// A word and a name.
-fn write_named(word: &[u8], name: &Name, out: &mut Vec<u8>) -> Result<(), Memory>
+fn write_named(word: &[u8], name: &Name, out: &mut Vec<u8>) -> Written
     ensures ok { OnOk result (out.new.items ≡ out.old.items ++ (word.now ++ name.now)) }
     ensures memory { OnErr result (KeepsFront out.old.items out.new.items) }
 {
@@ -102,13 +103,7 @@ fn write_named(word: &[u8], name: &Name, out: &mut Vec<u8>) -> Result<(), Memory
 }
 
 /// What stands behind the word `set` or `input`, as `x@a #0.3 = 5`.
-fn write_setting(
-    index: Index,
-    role: &Role,
-    var: &Name,
-    value: &Value,
-    out: &mut Vec<u8>,
-) -> Result<(), Memory>
+fn write_setting(index: Index, role: &Role, var: &Name, value: &Value, out: &mut Vec<u8>) -> Written
     ensures ok { OnOk result (out.new.items ≡ out.old.items ++ (var.now ++ codes "@" ++ role.now.0
         ++ codes " " ++ index_text index ++ codes " = " ++ value_text value.now)) }
     ensures memory { OnErr result (KeepsFront out.old.items out.new.items) }
@@ -119,7 +114,7 @@ fn write_setting(
     write_value(value, Minus::Close, out)
 }
 
-fn write_pick(index: Index, role: &Role, flag: bool, out: &mut Vec<u8>) -> Result<(), Memory>
+fn write_pick(index: Index, role: &Role, flag: bool, out: &mut Vec<u8>) -> Written
     ensures ok { OnOk result (out.new.items ≡ out.old.items ++
         line (entry.Pick index role.now flag)) }
     ensures memory { OnErr result (KeepsFront out.old.items out.new.items) }
@@ -130,7 +125,7 @@ fn write_pick(index: Index, role: &Role, flag: bool, out: &mut Vec<u8>) -> Resul
     write_truth(flag, out)
 }
 
-fn write_scope(index: Index, role: &Role, chosen: &Chosen, out: &mut Vec<u8>) -> Result<(), Memory>
+fn write_scope(index: Index, role: &Role, chosen: &Chosen, out: &mut Vec<u8>) -> Written
     ensures ok { OnOk result (out.new.items ≡ out.old.items ++
         line (entry.Scope index role.now chosen.now)) }
     ensures memory { OnErr result (KeepsFront out.old.items out.new.items) }
@@ -141,7 +136,7 @@ fn write_scope(index: Index, role: &Role, chosen: &Chosen, out: &mut Vec<u8>) ->
     write_choice(chosen, out)
 }
 
-fn write_environment(key: &Name, value: &Value, out: &mut Vec<u8>) -> Result<(), Memory>
+fn write_environment(key: &Name, value: &Value, out: &mut Vec<u8>) -> Written
     ensures ok { OnOk result (out.new.items ≡ out.old.items ++ line (entry.Env key.now value.now)) }
     ensures memory { OnErr result (KeepsFront out.old.items out.new.items) }
 {
@@ -149,7 +144,7 @@ fn write_environment(key: &Name, value: &Value, out: &mut Vec<u8>) -> Result<(),
     write_value(value, Minus::Close, out)
 }
 
-fn write_end(last: &Last, out: &mut Vec<u8>) -> Result<(), Memory>
+fn write_end(last: &Last, out: &mut Vec<u8>) -> Written
     ensures ok { OnOk result (out.new.items ≡ out.old.items ++ last_line last.now) }
     ensures memory { OnErr result (KeepsFront out.old.items out.new.items) }
 {

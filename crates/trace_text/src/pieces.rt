@@ -9,13 +9,11 @@ ghost use Rattle.trace_text.specs.Lines.{index_text, tag_text, note_text, key_te
 use dioc_terms::{Chosen, Index, Key, Memory, Name, Note, Tag};
 use text_pieces::{Minus, write_bytes, write_number, write_truth, write_value};
 
+/// What a writer of a piece answers.
+pub type Written = Result<(), Memory>;
+
 /// Three texts in a row.
-pub fn write_three(
-    first: &[u8],
-    second: &[u8],
-    third: &[u8],
-    out: &mut Vec<u8>,
-) -> Result<(), Memory>
+pub fn write_three(first: &[u8], second: &[u8], third: &[u8], out: &mut Vec<u8>) -> Written
     ensures ok { OnOk result (out.new.items ≡ out.old.items ++
         (first.now ++ second.now ++ third.now)) }
     ensures memory { OnErr result (KeepsFront out.old.items out.new.items) }
@@ -37,7 +35,7 @@ pub fn write_index(index: Index, out: &mut Vec<u8>) -> Result<(), Memory>
 }
 
 /// A word and an index.
-pub fn write_indexed(word: &[u8], index: Index, out: &mut Vec<u8>) -> Result<(), Memory>
+pub fn write_indexed(word: &[u8], index: Index, out: &mut Vec<u8>) -> Written
     ensures ok { OnOk result (out.new.items ≡ out.old.items ++ (word.now ++ index_text index)) }
     ensures memory { OnErr result (KeepsFront out.old.items out.new.items) }
 {
@@ -79,7 +77,7 @@ pub fn write_note(note: &Note, out: &mut Vec<u8>) -> Result<(), Memory>
 }
 
 /// As `a -> b o#0.3`.
-pub fn write_key(key: &Key, out: &mut Vec<u8>) -> Result<(), Memory>
+pub fn write_key(key: &Key, out: &mut Vec<u8>) -> Written
     ensures ok { OnOk result (out.new.items ≡ out.old.items ++ key_text key.now) }
     ensures memory { OnErr result (KeepsFront out.old.items out.new.items) }
 {
@@ -90,7 +88,7 @@ pub fn write_key(key: &Key, out: &mut Vec<u8>) -> Result<(), Memory>
 }
 
 /// The variable of a take, behind a space.
-pub fn write_variable(variable: &Option<Name>, out: &mut Vec<u8>) -> Result<(), Memory>
+pub fn write_variable(variable: &Option<Name>, out: &mut Vec<u8>) -> Written
     ensures ok { OnOk result (out.new.items ≡ out.old.items ++ variable_text variable.now) }
     ensures memory { OnErr result (KeepsFront out.old.items out.new.items) }
 {

@@ -7,7 +7,7 @@ ghost use Rattle.text_pieces.specs.Pieces.{KeepsFront};
 ghost use Rattle.trace_text.specs.Lines.{index_text};
 ghost use Rattle.trace_text.specs.Process.{has_text, expression_text, next_role_text, roles_text, property_text, next_property_text, properties_text, tell_text, from_text, head_text, process_text};
 
-use crate::pieces::{write_indexed, write_three};
+use crate::pieces::{Written, write_indexed, write_three};
 use dioc_terms::{Expr, Index, Memory, Name, Proc, Role, ScopeHead, Value};
 use text_pieces::{Minus, cut_back, write_bytes, write_value};
 
@@ -27,7 +27,7 @@ pub fn write_process(proc: &Proc, out: &mut Vec<u8>) -> Result<(), Memory>
 }
 
 #[cycle(part)]
-fn write_part(proc: &Proc, out: &mut Vec<u8>) -> Result<(), Memory>
+fn write_part(proc: &Proc, out: &mut Vec<u8>) -> Written
     requires { has_text (process proc.now) ≡ true }
     ensures ok { OnOk result (out.new.items ≡ out.old.items ++ process_text (process proc.now)) }
     ensures memory { OnErr result (KeepsFront out.old.items out.new.items) }
@@ -60,7 +60,7 @@ fn write_part(proc: &Proc, out: &mut Vec<u8>) -> Result<(), Memory>
 
 /// A part of a process, and the sign behind it.
 #[cycle(part)]
-fn write_before(part: &Proc, sign: &[u8], out: &mut Vec<u8>) -> Result<(), Memory>
+fn write_before(part: &Proc, sign: &[u8], out: &mut Vec<u8>) -> Written
     requires { has_text (process part.now) ≡ true }
     ensures ok { OnOk result (out.new.items ≡ out.old.items ++
         (process_text (process part.now) ++ sign.now)) }
@@ -71,7 +71,7 @@ fn write_before(part: &Proc, sign: &[u8], out: &mut Vec<u8>) -> Result<(), Memor
 }
 
 /// What stands before the parts of a process; of a step, its text.
-fn write_head(proc: &Proc, out: &mut Vec<u8>) -> Result<(), Memory>
+fn write_head(proc: &Proc, out: &mut Vec<u8>) -> Written
     ensures ok { OnOk result (out.new.items ≡ out.old.items ++ head_text (process proc.now)) }
     ensures memory { OnErr result (KeepsFront out.old.items out.new.items) }
 {
@@ -112,13 +112,7 @@ fn write_head(proc: &Proc, out: &mut Vec<u8>) -> Result<(), Memory>
     }
 }
 
-fn write_send(
-    index: Index,
-    op: &Name,
-    to: &Role,
-    expr: &Expr,
-    out: &mut Vec<u8>,
-) -> Result<(), Memory>
+fn write_send(index: Index, op: &Name, to: &Role, expr: &Expr, out: &mut Vec<u8>) -> Written
     ensures ok { OnOk result (out.new.items ≡ out.old.items ++ (op.now ++ index_text index ++
         codes "(" ++ expression_text (expression expr.now) ++ codes ") to " ++ to.now.0)) }
     ensures memory { OnErr result (KeepsFront out.old.items out.new.items) }
@@ -130,13 +124,7 @@ fn write_send(
     write_bytes(to.0.bytes(), out)
 }
 
-fn write_receive(
-    index: Index,
-    op: &Name,
-    from: &Role,
-    var: &Name,
-    out: &mut Vec<u8>,
-) -> Result<(), Memory>
+fn write_receive(index: Index, op: &Name, from: &Role, var: &Name, out: &mut Vec<u8>) -> Written
     ensures ok { OnOk result (out.new.items ≡ out.old.items ++ (op.now ++ index_text index ++
         codes "(" ++ var.now ++ codes ")" ++ from_text from.now)) }
     ensures memory { OnErr result (KeepsFront out.old.items out.new.items) }
@@ -146,7 +134,7 @@ fn write_receive(
     write_from(from, out)
 }
 
-fn write_assignment(index: Index, var: &Name, expr: &Expr, out: &mut Vec<u8>) -> Result<(), Memory>
+fn write_assignment(index: Index, var: &Name, expr: &Expr, out: &mut Vec<u8>) -> Written
     ensures ok { OnOk result (out.new.items ≡ out.old.items ++ (var.now ++ index_text index ++
         codes " = " ++ expression_text (expression expr.now))) }
     ensures memory { OnErr result (KeepsFront out.old.items out.new.items) }
@@ -156,7 +144,7 @@ fn write_assignment(index: Index, var: &Name, expr: &Expr, out: &mut Vec<u8>) ->
     write_expression(expr, out)
 }
 
-fn write_input(index: Index, var: &Name, out: &mut Vec<u8>) -> Result<(), Memory>
+fn write_input(index: Index, var: &Name, out: &mut Vec<u8>) -> Written
     ensures ok { OnOk result (out.new.items ≡ out.old.items ++ (var.now ++ index_text index ++
         codes " = input()")) }
     ensures memory { OnErr result (KeepsFront out.old.items out.new.items) }
@@ -172,7 +160,7 @@ fn write_leading(
     guard: &Expr,
     others: &[Role],
     out: &mut Vec<u8>,
-) -> Result<(), Memory>
+) -> Written
     ensures ok { OnOk result (out.new.items ≡ out.old.items ++ (word.now ++ index_text index ++
         codes " " ++ expression_text (expression guard.now) ++ tell_text others.now)) }
     ensures memory { OnErr result (KeepsFront out.old.items out.new.items) }
@@ -184,12 +172,7 @@ fn write_leading(
 }
 
 /// A construct that another role leads, by its word, up to its first part.
-fn write_following(
-    word: &[u8],
-    index: Index,
-    leader: &Role,
-    out: &mut Vec<u8>,
-) -> Result<(), Memory>
+fn write_following(word: &[u8], index: Index, leader: &Role, out: &mut Vec<u8>) -> Written
     ensures ok { OnOk result (out.new.items ≡ out.old.items ++ (word.now ++ index_text index ++
         from_text leader.now)) }
     ensures memory { OnErr result (KeepsFront out.old.items out.new.items) }
@@ -199,7 +182,7 @@ fn write_following(
 }
 
 /// A scope that the role leads, up to its body.
-fn write_scope(head: &ScopeHead, others: &[Role], out: &mut Vec<u8>) -> Result<(), Memory>
+fn write_scope(head: &ScopeHead, others: &[Role], out: &mut Vec<u8>) -> Written
     ensures ok { OnOk result (out.new.items ≡ out.old.items ++ (codes "scope" ++
         index_text head.now.index ++ tell_text others.now ++ codes " prop [" ++
         properties_text head.now.props ++ codes "]")) }
@@ -212,7 +195,7 @@ fn write_scope(head: &ScopeHead, others: &[Role], out: &mut Vec<u8>) -> Result<(
     write_bytes(b"]", out)
 }
 
-fn write_from(leader: &Role, out: &mut Vec<u8>) -> Result<(), Memory>
+fn write_from(leader: &Role, out: &mut Vec<u8>) -> Written
     ensures ok { OnOk result (out.new.items ≡ out.old.items ++ from_text leader.now) }
     ensures memory { OnErr result (KeepsFront out.old.items out.new.items) }
 {
@@ -220,7 +203,7 @@ fn write_from(leader: &Role, out: &mut Vec<u8>) -> Result<(), Memory>
     write_bytes(leader.0.bytes(), out)
 }
 
-fn write_tell(others: &[Role], out: &mut Vec<u8>) -> Result<(), Memory>
+fn write_tell(others: &[Role], out: &mut Vec<u8>) -> Written
     ensures ok { OnOk result (out.new.items ≡ out.old.items ++ tell_text others.now) }
     ensures memory { OnErr result (KeepsFront out.old.items out.new.items) }
 {
@@ -229,7 +212,7 @@ fn write_tell(others: &[Role], out: &mut Vec<u8>) -> Result<(), Memory>
     write_bytes(b"]", out)
 }
 
-fn write_roles(roles: &[Role], out: &mut Vec<u8>) -> Result<(), Memory>
+fn write_roles(roles: &[Role], out: &mut Vec<u8>) -> Written
     ensures ok { OnOk result (out.new.items ≡ out.old.items ++ roles_text roles.now) }
     ensures memory { OnErr result (KeepsFront out.old.items out.new.items) }
 {
@@ -243,7 +226,7 @@ fn write_roles(roles: &[Role], out: &mut Vec<u8>) -> Result<(), Memory>
 }
 
 #[tactic(auto, using(text_pieces::proofs::KeptFronts::front_of_front))]
-fn write_next_roles(rest: &[Role], out: &mut Vec<u8>) -> Result<(), Memory>
+fn write_next_roles(rest: &[Role], out: &mut Vec<u8>) -> Written
     ensures ok { OnOk result (out.new.items ≡ out.old.items ++ flat_map next_role_text rest.now) }
     ensures memory { OnErr result (KeepsFront out.old.items out.new.items) }
 {
@@ -253,7 +236,7 @@ fn write_next_roles(rest: &[Role], out: &mut Vec<u8>) -> Result<(), Memory>
     Ok(())
 }
 
-fn write_next_role(next: &Role, out: &mut Vec<u8>) -> Result<(), Memory>
+fn write_next_role(next: &Role, out: &mut Vec<u8>) -> Written
     ensures ok { OnOk result (out.new.items ≡ out.old.items ++ next_role_text next.now) }
     ensures memory { OnErr result (KeepsFront out.old.items out.new.items) }
 {
@@ -261,7 +244,7 @@ fn write_next_role(next: &Role, out: &mut Vec<u8>) -> Result<(), Memory>
     write_bytes(next.0.bytes(), out)
 }
 
-fn write_properties(props: &[(Name, Value)], out: &mut Vec<u8>) -> Result<(), Memory>
+fn write_properties(props: &[(Name, Value)], out: &mut Vec<u8>) -> Written
     ensures ok { OnOk result (out.new.items ≡ out.old.items ++ properties_text props.now) }
     ensures memory { OnErr result (KeepsFront out.old.items out.new.items) }
 {
@@ -275,7 +258,7 @@ fn write_properties(props: &[(Name, Value)], out: &mut Vec<u8>) -> Result<(), Me
 }
 
 #[tactic(auto, using(text_pieces::proofs::KeptFronts::front_of_front))]
-fn write_next_properties(rest: &[(Name, Value)], out: &mut Vec<u8>) -> Result<(), Memory>
+fn write_next_properties(rest: &[(Name, Value)], out: &mut Vec<u8>) -> Written
     ensures ok { OnOk result (out.new.items ≡ out.old.items ++
         flat_map next_property_text rest.now) }
     ensures memory { OnErr result (KeepsFront out.old.items out.new.items) }
@@ -286,7 +269,7 @@ fn write_next_properties(rest: &[(Name, Value)], out: &mut Vec<u8>) -> Result<()
     Ok(())
 }
 
-fn write_next_property(next: &(Name, Value), out: &mut Vec<u8>) -> Result<(), Memory>
+fn write_next_property(next: &(Name, Value), out: &mut Vec<u8>) -> Written
     ensures ok { OnOk result (out.new.items ≡ out.old.items ++ next_property_text next.now) }
     ensures memory { OnErr result (KeepsFront out.old.items out.new.items) }
 {
@@ -294,7 +277,7 @@ fn write_next_property(next: &(Name, Value), out: &mut Vec<u8>) -> Result<(), Me
     write_property(next, out)
 }
 
-fn write_property(property: &(Name, Value), out: &mut Vec<u8>) -> Result<(), Memory>
+fn write_property(property: &(Name, Value), out: &mut Vec<u8>) -> Written
     ensures ok { OnOk result (out.new.items ≡ out.old.items ++ property_text property.now) }
     ensures memory { OnErr result (KeepsFront out.old.items out.new.items) }
 {
@@ -303,7 +286,7 @@ fn write_property(property: &(Name, Value), out: &mut Vec<u8>) -> Result<(), Mem
     write_value(&property.1, Minus::Close, out)
 }
 
-fn write_expression(expr: &Expr, out: &mut Vec<u8>) -> Result<(), Memory>
+fn write_expression(expr: &Expr, out: &mut Vec<u8>) -> Written
     ensures ok { OnOk result (out.new.items ≡ out.old.items ++
         expression_text (expression expr.now)) }
     ensures memory { OnErr result (KeepsFront out.old.items out.new.items) }

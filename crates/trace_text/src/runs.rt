@@ -7,6 +7,7 @@ ghost use Rattle.trace_text.specs.Runs.{entry_line, end_line, run_text};
 
 use crate::json_lines::{write_json_last, write_json_line};
 use crate::lines::{write_line, write_plain_last};
+use crate::pieces::Written;
 use dioc_terms::{Entry, Last, Memory};
 use text_pieces::{cut_back, write_bytes};
 
@@ -46,13 +47,7 @@ pub fn write_text(
 }
 
 #[tactic(auto, using(text_pieces::proofs::KeptFronts::front_of_front))]
-fn write_run(
-    entries: &[Entry],
-    aux: bool,
-    last: &Last,
-    json: bool,
-    out: &mut Vec<u8>,
-) -> Result<(), Memory>
+fn write_run(entries: &[Entry], aux: bool, last: &Last, json: bool, out: &mut Vec<u8>) -> Written
     ensures ok { OnOk result (out.new.items ≡ out.old.items
         ++ run_text aux json entries.now last.now) }
     ensures memory { OnErr result (KeepsFront out.old.items out.new.items) }
@@ -68,7 +63,7 @@ fn write_run(
 
 /// Appends the line of an entry with its end.
 #[tactic(auto, using(text_pieces::proofs::KeptFronts::front_of_front))]
-fn write_whole_line(entry: &Entry, json: bool, out: &mut Vec<u8>) -> Result<(), Memory>
+fn write_whole_line(entry: &Entry, json: bool, out: &mut Vec<u8>) -> Written
     ensures ok { OnOk result (out.new.items ≡ out.old.items
         ++ (entry_line json entry.now ++ line_end ∷ [])) }
     ensures memory { OnErr result (KeepsFront out.old.items out.new.items) }
@@ -77,7 +72,7 @@ fn write_whole_line(entry: &Entry, json: bool, out: &mut Vec<u8>) -> Result<(), 
     write_bytes(b"\n", out)
 }
 
-fn write_any_line(entry: &Entry, json: bool, out: &mut Vec<u8>) -> Result<(), Memory>
+fn write_any_line(entry: &Entry, json: bool, out: &mut Vec<u8>) -> Written
     ensures ok { OnOk result (out.new.items ≡ out.old.items ++ entry_line json entry.now) }
     ensures memory { OnErr result (out.new.items ≡ out.old.items) }
 {
