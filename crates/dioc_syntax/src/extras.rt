@@ -41,14 +41,11 @@ pub fn roles_at(
     if !text.has(at + 1, Symbol(LeftBrace)) {
         return Ok(none_at(alloc, at));
     }
-    let (roles, next) = match names_at(alloc, text, at + 2)? {
-        Some(read) => read,
-        None => return Ok(none_at(alloc, at)),
-    };
-    if !text.has(next, Symbol(RightBrace)) {
-        return Ok(none_at(alloc, at));
+    match names_at(alloc, text, at + 2)? {
+        Some((roles, next)) if text.has(next, Symbol(RightBrace)) => Ok((roles, next + 1)),
+        Some(_) => Ok(none_at(alloc, at)),
+        None => Ok(none_at(alloc, at)),
     }
-    Ok((roles, next + 1))
 }
 
 /// Nothing, which ends where it begins.
@@ -97,14 +94,11 @@ pub fn properties_at(
     if text.has(at + 2, Symbol(RightBrace)) {
         return Ok(none_at(alloc, at + 3));
     }
-    let (props, next) = match pairs_at(alloc, text, at + 2)? {
-        Some(read) => read,
-        None => return Ok(none_at(alloc, at)),
-    };
-    if !text.has(next, Symbol(RightBrace)) {
-        return Ok(none_at(alloc, at));
+    match pairs_at(alloc, text, at + 2)? {
+        Some((props, next)) if text.has(next, Symbol(RightBrace)) => Ok((props, next + 1)),
+        Some(_) => Ok(none_at(alloc, at)),
+        None => Ok(none_at(alloc, at)),
     }
-    Ok((props, next + 1))
 }
 
 /// As many properties as stand at a place of the text with a `,` between two, and the place behind

@@ -16,18 +16,18 @@ returns-then-not-has c =
     roles_unopened c.args.version c.args.text.now c.args.at c.none_at-then-not-has.result (λ is. let found = c.has.ensures.value.1 is in let missed = c.if-not-has.true in cc) c.requires.within
     c.none_at-then-not-has.ensures.none c.none_at-then-not-has.ensures.at
 
+pub returns-in-Some : goal.returns-in-Some
+returns-in-Some c =
+    roles_found c.args.version c.args.text.now c.args.at (c.in-Some.roles, c.in-Some.next) c.if-version-ne2.false (c.named.ensures.0 cc) (c.has.ensures.value.0 cc)
+    (subst (NamesAt c.args.text.now (c.args.at + 2)) c.in-Some.is c.in_ok-next.ensures) (c.if-has.ensures.value.0 cc)
+
+pub returns-in-Some-2 : goal.returns-in-Some-2
+returns-in-Some-2 c =
+    roles_unclosed c.args.version c.args.text.now c.args.at c.none_at-in-Some-2.result (c.in-Some.roles, c.in-Some.next) (c.named.ensures.0 cc) (c.has.ensures.value.0 cc)
+    (subst (NamesAt c.args.text.now (c.args.at + 2)) c.in-Some.is c.in_ok-next.ensures) (λ is. let found = c.if-has.ensures.value.1 is in cc) c.requires.within
+    c.none_at-in-Some-2.ensures.none c.none_at-in-Some-2.ensures.at
+
 pub returns-in-None : goal.returns-in-None
 returns-in-None c =
-    roles_unread c.args.version c.args.text.now c.args.at c.none_at-in-None.result (c.named.ensures.0 cc) (c.has.ensures.value.0 cc) (subst (NamesAt c.args.text.now (c.args.at + 2)) c.in-None.is c.in_ok-read.ensures) c.requires.within
+    roles_unread c.args.version c.args.text.now c.args.at c.none_at-in-None.result (c.named.ensures.0 cc) (c.has.ensures.value.0 cc) (subst (NamesAt c.args.text.now (c.args.at + 2)) c.in-None.is c.in_ok-next.ensures) c.requires.within
     c.none_at-in-None.ensures.none c.none_at-in-None.ensures.at
-
-pub returns-then-not-has-2 : goal.returns-then-not-has-2
-returns-then-not-has-2 c =
-    roles_unclosed c.args.version c.args.text.now c.args.at c.none_at-then-not-has-2.result c.in-Some.read (c.named.ensures.0 cc) (c.has.ensures.value.0 cc)
-    (subst (NamesAt c.args.text.now (c.args.at + 2)) c.in-Some.is c.in_ok-read.ensures) (λ is. let found = c.has-2.ensures.value.1 is in let missed = c.if-not-has-2.true in cc) c.requires.within
-    c.none_at-then-not-has-2.ensures.none c.none_at-then-not-has-2.ensures.at
-
-pub returns : goal.returns
-returns c =
-    roles_found c.args.version c.args.text.now c.args.at c.in-Some.read c.if-version-ne2.false (c.named.ensures.0 cc) (c.has.ensures.value.0 cc)
-    (subst (NamesAt c.args.text.now (c.args.at + 2)) c.in-Some.is c.in_ok-read.ensures) (c.has-2.ensures.value.0 cc)
