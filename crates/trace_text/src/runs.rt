@@ -68,17 +68,10 @@ fn write_whole_line(entry: &Entry, json: bool, out: &mut Vec<u8>) -> Written
         ++ (entry_line json entry.now ++ line_end ∷ [])) }
     ensures memory { OnErr result (KeepsFront out.old.items out.new.items) }
 {
-    write_any_line(entry, json, out)?;
-    write_bytes(b"\n", out)
-}
-
-fn write_any_line(entry: &Entry, json: bool, out: &mut Vec<u8>) -> Written
-    ensures ok { OnOk result (out.new.items ≡ out.old.items ++ entry_line json entry.now) }
-    ensures memory { OnErr result (out.new.items ≡ out.old.items) }
-{
     if json {
-        write_json_line(entry, out)
+        write_json_line(entry, out)?;
     } else {
-        write_line(entry, out)
+        write_line(entry, out)?;
     }
+    write_bytes(b"\n", out)
 }
