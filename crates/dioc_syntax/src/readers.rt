@@ -136,8 +136,7 @@ fn nothing(alloc: Global, at: usize, earlier: u32) -> Result<FoundChoreo, Memory
 /// ```
 #[cycle(reading)]
 fn group_at(reader: &Reader<'_>, place: Place) -> Result<Option<FoundChoreo>, Memory>
-    requires sort { sort_of (drop place.at reader.now.text.now)
-        ≡ Sort.Symbol Punctuator.LeftParen }
+    requires sort { sort_of (drop place.at reader.now.text.now) ≡ Sort.Symbol Punctuator.LeftParen }
     requires within { place.at < length reader.now.text.now }
     requires small { length reader.now.text.now < 2 ^ 63 }
     requires few { place.earlier + (length reader.now.text.now - place.at) ≤ greatest_place }
