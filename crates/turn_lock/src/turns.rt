@@ -250,14 +250,8 @@ impl<H: Chronicle> Turns<H> {
         ensures met { items_of (H.owner (H.base turn.home)) (number (turn_view turn))
             (turn_view turn).seen ≡ mine (turn_view turn) }
     {
-        let Turn { home, hold } = turn;
-        let Hold {
-            mut token,
-            seen,
-            made,
-        } = hold;
-        self.bring_home(&mut token, home, seen);
-        Seat { token, seen, made }
+        let seen = turn.hold.seen;
+        self.bring_home(turn, seen)
     }
 
     /// Gives the turn back, with one item more, which is the seat's. The seat knows the mark as it
@@ -278,38 +272,40 @@ impl<H: Chronicle> Turns<H> {
         ensures met { items_of (H.owner (H.base turn.home)) (number (view result))
             (H.items turn.home) ≡ mine (view result) }
     {
+        let seen = turn.hold.seen + 1;
+        self.bring_home(turn, seen)
+    }
+
+    // Puts the value back, says in the word how many items it has, and wakes one that waits. The
+    // seat has seen so many.
+    fn bring_home(&self, turn: Turn<H>, seen: u64) -> Seat<H>
+        requires of { IsTurnOf self.now turn }
+        requires base { (turn_view turn).base ≡ Some (H.base turn.home) }
+        requires items { (more : List H.Item) × (H.items turn.home ≡ (turn_view turn).seen ++ more)
+            × IsAllOf (H.owner (H.base turn.home)) (number (turn_view turn)) more }
+        requires kept { (m : H.Mark) → (turn_known turn).found ≡ Some m
+            → H.grows m (H.at turn.home) }
+        requires count { (seen ≡ length (H.items turn.home)) × (seen < 2 ^ 63) }
+        ensures of { IsSeatOf self.now result }
+        ensures known { (more : List H.Item) → H.items turn.home ≡ (turn_view turn).seen ++ more
+            → known result ≡ left_with_known (turn_known turn) more (H.at turn.home) }
+        ensures met { (more : List H.Item) → H.items turn.home ≡ (turn_view turn).seen ++ more
+            → items_of (H.owner (H.base turn.home)) (number (turn_view turn)) (H.items turn.home)
+            ≡ mine (turn_view turn) ++ more }
+    {
         let Turn { home, hold } = turn;
         let Hold {
             mut token,
-            seen,
+            seen: _,
             made,
         } = hold;
-        let seen = seen + 1;
-        self.bring_home(&mut token, home, seen);
-        Seat { token, seen, made }
-    }
-
-    // Puts the value back, says in the word how many items it has, and wakes one that waits.
-    fn bring_home(&self, token: &mut Token<H>, home: H, count: u64)
-        requires of { token.old.table_id ≡ self.now.table.shared.table_id }
-        requires holds { (token.old.me.1 ≡ (0, None) ∷ []) × (token.old.me.0.view.holds ≡ true) }
-        requires single { IsSingle token.old.me.0.view }
-        requires base { token.old.me.0.view.base ≡ Some (H.base home) }
-        requires items { (more : List H.Item) × (H.items home ≡ token.old.me.0.view.seen ++ more)
-            × IsAllOf (H.owner (H.base home)) (number token.old.me.0.view) more }
-        requires kept { (m : H.Mark) → token.old.me.0.found ≡ Some m → H.grows m (H.at home) }
-        requires count { (count ≡ length (H.items home)) × (count < 2 ^ 63) }
-        ensures of { token.new.table_id ≡ token.old.table_id }
-        ensures view { (more : List H.Item) → H.items home ≡ token.old.me.0.view.seen ++ more
-            → token.new.me ≡ (left_with_known token.old.me.0 more (H.at home), []) }
-        ensures met { (more : List H.Item) → H.items home ≡ token.old.me.0.view.seen ++ more
-            → items_of (H.owner (H.base home)) (number token.old.me.0.view) (H.items home)
-            ≡ mine token.old.me.0.view ++ more }
-    {
-        let before = self.table.shared.exchange(token, 0, Some(home));
+        let before = self.table.shared.exchange(&mut token, 0, Some(home));
         let None = before else { unreachable!() };
-        self.table.shared.store::<EndsTurn<H>>(token, 0, 2 * count);
+        self.table
+            .shared
+            .store::<EndsTurn<H>>(&mut token, 0, 2 * seen);
         self.wake();
+        Seat { token, seen, made }
     }
 }
 

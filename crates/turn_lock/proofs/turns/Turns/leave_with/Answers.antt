@@ -4,6 +4,3 @@ use Rattle.turn_lock.proofs.turns.Turns.leave_with.Goals as goal
 
 pub bring_home-requires-clause-count : goal.bring_home-requires-clause-count
 bring_home-requires-clause-count g c = grind (arith, common_steps)
-
-pub invariant_of-result : goal.invariant_of-result
-invariant_of-result g c = grind (arith, common_steps)
