@@ -314,10 +314,6 @@ refused_try a fault_of v w s f is refused = record {
 pub scarce_try : (a : Act) (v : View Entry Base) (s t : LocalState) → t ≡ s → IsRefusedTry a v v s t fault.Memory
 scarce_try a v s t same = record { same = same; held = λ enough. absurd (enough refl) }
 
--- the same of the state before the act was prepared
-pub prepared_try : (a : Act) (v w : View Entry Base) (s t u : LocalState) (o : Tried) → t ≡ s → IfRefused o (IsRefusedTry a v w t u) → IfRefused o (IsRefusedTry a v w s u)
-prepared_try a v w s t u o same refused = subst (λ x. IfRefused o (IsRefusedTry a v w x u)) same refused
-
 -- a commit that was refused in a hold leaves the role as it was
 pub uncommitted : (bundle : PlainBundle) (q : Role) (v w : View Entry Base) (s : LocalState) (a : Act) (f : CommitFault) (fault_of : HomeState → Option CommitFault) → IsTied bundle q v s
     → ended s.process ≡ false → ((home : HomeState) → fault_of home ≡ Some fault.Full → nat_le home.limit (length home.history) ≡ true) → act_fault a ≡ fault_of

@@ -1,13 +1,7 @@
--- What a seat that was refused keeps of the hold, and what a turn tries.
-use Rattle.std.proofs.Common.{◌≡◌, ℕ, zero, suc, List, [], ◌∷◌, ◌++◌, true, Option, Some, slice_get, refl, sym, ap, ◌∙◌, subst, append-nil}
-use Rattle.std.proofs.lemmas.Bool.{or_left, or_right}
+-- What a seat that was refused keeps of the hold.
+use Rattle.std.proofs.Common.{[], ◌++◌, Option, refl, sym, ap, ◌∙◌, append-nil}
 use Rattle.std.proofs.lemmas.List.{append_assoc}
-use Rattle.dioc_terms.specs.declared.entries.Act.{Act}
 use Rattle.dioc_terms.specs.declared.entries.Entry.{Entry}
-use Rattle.dioc_terms.specs.Equality.{act_eq}
-use Rattle.marked_laws.proofs.Equality.{act_itself}
-use Rattle.marked_laws.proofs.Shapes.{none_some, some_same}
-use Rattle.process_steps.specs.Steps.{is_offered}
 use Rattle.role_runner.specs.Ties.{LeftFor, RefusedIn, WentOn}
 use Rattle.stage.specs.declared.faults.CommitFault.{CommitFault}
 use Rattle.stage.specs.Homes.{HomeState}
@@ -66,9 +60,3 @@ module _ (fault_of : HomeState → Option CommitFault) (u v w : View Entry Base)
 
   pub left_looked : (x : View Entry Base) → WentOn u v → RefusedFor fault_of v w f → LookedOn w x → LeftFor fault_of u x f
   left_looked x came refused then = record { before = v; after = w; came = came; refused = refused; left = then }
-
--- an act at a place of a list is offered by it
-pub offered_in : (acts : List Act) (i : ℕ) (a : Act) → slice_get acts i ≡ Some a → is_offered a acts ≡ true
-offered_in [] i a at = absurd (none_some at)
-offered_in (x ∷ xs) zero a at = or_left (act_eq a x) (is_offered a xs) (subst (λ y. act_eq a y ≡ true) (sym (some_same at)) (act_itself a))
-offered_in (x ∷ xs) (suc i) a at = or_right (act_eq a x) (is_offered a xs) (offered_in xs i a at)

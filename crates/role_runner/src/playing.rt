@@ -4,10 +4,8 @@ ghost use Rattle.std.specs.Prelude.{◌≡◌, ◌<◌, [], false, true, None, I
 ghost use Rattle.dioc_terms.specs.Equality.{member};
 ghost use Rattle.dioc_terms.specs.Plain.{plain};
 ghost use Rattle.dpoc_process.specs.LocalStates.{offered};
-ghost use Rattle.dpoc_process.specs.RoleSteps.{IsShown};
-ghost use Rattle.flat_role.specs.FlatStates.{local_of, IsReady};
+ghost use Rattle.flat_role.specs.FlatStates.{local_of};
 ghost use Rattle.marked_laws.specs.Laws.{IsSound};
-ghost use Rattle.process_steps.specs.Steps.{is_offered};
 ghost use Rattle.role_runner.specs.Plays.{AllNotYet, CanPlay, Left};
 ghost use Rattle.role_runner.specs.Ties.{IfRefused, IsRefusedTry, IsSeated, IsTied, WentOn, is_not_yet};
 ghost use Rattle.stage.specs.Owners.{cast_place};
@@ -20,7 +18,7 @@ use crate::actors::Actor;
 use crate::gates::{Gate, Place};
 use crate::scopes::begin;
 use dioc_terms::Act;
-use dpoc_process::{PrepareFault, Runs, Shown};
+use dpoc_process::{PrepareFault, Runs};
 use flat_role::FlatRole;
 use net_core::opening_state;
 use stage::{CommitFault, Home, Why};
@@ -133,8 +131,7 @@ fn take_turn<R: Wait, G: Gate>(
     try_offered(rt, actor, seat, state, acts.as_slice())
 }
 
-/// Goes once over the acts, which are all that the role's process offers. A single act, and one
-/// that takes no message, is tried at once.
+/// Goes once over the acts. A single act, and one that takes no message, is tried at once.
 fn try_offered<R: Wait, G: Gate>(
     rt: &R,
     actor: &Actor<'_, G>,
@@ -143,7 +140,6 @@ fn try_offered<R: Wait, G: Gate>(
     acts: &[Act],
 ) -> (Seat<Home>, Tried)
     requires can { CanPlay actor.now seat state.old }
-    requires all { acts.now ≡ offered (local_of state.old) }
     ensures left { Left actor.now seat result.0 result.1 state.new }
     ensures tried { is_not_yet result.1 ≡ true → AllNotYet acts.now seat result.0 }
 {
@@ -169,8 +165,8 @@ fn try_offered<R: Wait, G: Gate>(
 }
 
 /// Asks the stage for the first act that may come, and tries it, until one is done or refused for
-/// more than that it may not come yet, or none may come yet. The acts are all that the role's
-/// process offers. Where one is done those behind it follow.
+/// more than that it may not come yet, or none may come yet. Where one is done those behind it
+/// follow.
 fn try_first<R: Wait, G: Gate>(
     rt: &R,
     actor: &Actor<'_, G>,
@@ -179,7 +175,6 @@ fn try_first<R: Wait, G: Gate>(
     acts: &[Act],
 ) -> (Seat<Home>, Tried)
     requires can { CanPlay actor.now seat state.old }
-    requires all { acts.now ≡ offered (local_of state.old) }
     ensures left { Left actor.now seat result.0 result.1 state.new }
     ensures tried { is_not_yet result.1 ≡ true → AllNotYet acts.now seat result.0 }
 {
@@ -225,7 +220,7 @@ fn go_round<R: Wait, G: Gate>(
         let Some(at) = first else {
             return (seat, Tried::Done);
         };
-        let (next, tried) = try_listed(rt, actor, seat, state, &rest[at]);
+        let (next, tried) = try_act(rt, actor, seat, state, &rest[at]);
         seat = next;
         match tried {
             Tried::Done => {}
@@ -274,7 +269,7 @@ fn only_takes(acts: &[Act]) -> bool {
 }
 
 /// One try of an act: it is prepared outside the lock, committed inside it, and then done by the
-/// role's own state.
+/// role's own state. Nothing is done of one that isn't offered any more.
 fn try_act<R: Wait, G: Gate>(
     rt: &R,
     actor: &Actor<'_, G>,
@@ -283,57 +278,21 @@ fn try_act<R: Wait, G: Gate>(
     act: &Act,
 ) -> (Seat<Home>, Tried)
     requires can { CanPlay actor.now seat state.old }
-    requires offered { is_offered act.now (offered (local_of state.old)) ≡ true }
     ensures left { Left actor.now seat result.0 result.1 state.new }
     ensures refused { IfRefused result.1 (IsRefusedTry act.now (view seat) (view result.0)
         (local_of state.old) (local_of state.new)) }
 {
     match state.prepare_act(actor.alloc, act) {
-        Ok(shown) => try_prepared(rt, actor, seat, state, act, shown),
-        Err(PrepareFault::NoAct) => unreachable!(),
-        Err(PrepareFault::Memory) => (seat, Tried::Refused(CommitFault::Memory)),
-    }
-}
-
-/// A try of an act that was listed before. Nothing is done where it isn't offered any more.
-fn try_listed<R: Wait, G: Gate>(
-    rt: &R,
-    actor: &Actor<'_, G>,
-    seat: Seat<Home>,
-    state: &mut FlatRole,
-    act: &Act,
-) -> (Seat<Home>, Tried)
-    requires can { CanPlay actor.now seat state.old }
-    ensures left { Left actor.now seat result.0 result.1 state.new }
-{
-    match state.prepare_act(actor.alloc, act) {
-        Ok(shown) => try_prepared(rt, actor, seat, state, act, shown),
+        Ok(shown) => {
+            actor.gate.pass(rt, Place::BeforeStep(actor.role));
+            match act {
+                Act::Put(_) | Act::Take(_) | Act::Set(_) | Act::Input(_) | Act::Pick(_) => {
+                    commit(rt, actor, seat, state, act, shown)
+                }
+                Act::Scope(_) => begin(rt, actor, seat, state, act, shown),
+            }
+        }
         Err(PrepareFault::NoAct) => (seat, Tried::Done),
         Err(PrepareFault::Memory) => (seat, Tried::Refused(CommitFault::Memory)),
-    }
-}
-
-/// Commits an act for which the role is ready, and lets the role's own state do it.
-fn try_prepared<R: Wait, G: Gate>(
-    rt: &R,
-    actor: &Actor<'_, G>,
-    seat: Seat<Home>,
-    state: &mut FlatRole,
-    act: &Act,
-    shown: Shown,
-) -> (Seat<Home>, Tried)
-    requires can { CanPlay actor.now seat state.old }
-    requires shown { IsShown (local_of state.old) act.now shown }
-    requires ready { IsReady state.old act.now }
-    ensures left { Left actor.now seat result.0 result.1 state.new }
-    ensures refused { IfRefused result.1 (IsRefusedTry act.now (view seat) (view result.0)
-        (local_of state.old) (local_of state.new)) }
-{
-    actor.gate.pass(rt, Place::BeforeStep(actor.role));
-    match act {
-        Act::Put(_) | Act::Take(_) | Act::Set(_) | Act::Input(_) | Act::Pick(_) => {
-            commit(rt, actor, seat, state, act, shown)
-        }
-        Act::Scope(_) => begin(rt, actor, seat, state, act, shown),
     }
 }

@@ -13,7 +13,7 @@ returns-in_default-clause-left g c =
     let looked = c.next_to_try-next.ensures in
     looked_left c.args.actor.now c.loop.seat c.next_to_try-next.result.0 c.loop.state looked.of looked.looked c.loop.invariant.can c.args.seat tried.Done not_full c.loop.invariant.went
 
-pub try_listed-next-requires : goal.try_listed-next-requires
-try_listed-next-requires g c =
+pub try_act-next-requires : goal.try_act-next-requires
+try_act-next-requires g c =
     let looked = c.next_to_try-next.ensures in
     record { can = looked_can c.args.actor.now c.loop.seat c.next_to_try-next.result.0 c.loop.state looked.of looked.looked c.loop.invariant.can }

@@ -1,13 +1,10 @@
 -- A look finds an act to try, or that none may come yet. A try that may not come yet leaves the role tied to its seat.
-use Rattle.std.proofs.Common.{◌≡◌, ◌<◌, IfSome, Some, length, slice_get, refl, sym, ap, ◌∙◌, subst}
-use Rattle.std.proofs.lemmas.Option.{slice_get_read}
-use Rattle.dpoc_process.specs.LocalStates.{offered}
+use Rattle.std.proofs.Common.{◌≡◌, sym, ◌∙◌}
 use Rattle.flat_role.specs.FlatStates.{local_of}
-use Rattle.process_steps.specs.Steps.{is_offered}
 use Rattle.role_runner.proofs.EndLemmas.{all_by_place}
 use Rattle.role_runner.proofs.PlayLemmas.{looked_can, looked_left}
 use Rattle.role_runner.proofs.TieLemmas.{if_refused_at, not_yet_is, refused_not_behind, went_looked, went_nowhere}
-use Rattle.role_runner.proofs.TurnLemmas.{looked_nowhere, looked_through, offered_in, refused_here}
+use Rattle.role_runner.proofs.TurnLemmas.{looked_nowhere, looked_through, refused_here}
 use Rattle.role_runner.specs.declared.acting.Tried.TheVariants as tried
 use Rattle.role_runner.specs.Ties.{IsRefusedTry, RefusedIn}
 use Rattle.stage.proofs.FirstLemmas.{none_comes}
@@ -21,7 +18,7 @@ not_memory : fault.NotYet ≡ fault.Memory → ⊥
 not_memory is = cc
 
 pub loop-init : goal.loop-init
-loop-init g c = record { can = c.requires.can; looked = looked_nowhere (view c.args.seat) c.requires.can.tied.met; same = refl }
+loop-init g c = record { can = c.requires.can; looked = looked_nowhere (view c.args.seat) c.requires.can.tied.met }
 
 pub loop-preserved : goal.loop-preserved
 loop-preserved g c =
@@ -37,12 +34,12 @@ loop-preserved g c =
     record {
       can = record { sound = c.requires.can.sound; of = left.of; tied = left.leaves.tied (λ behind. refused_not_behind is behind) };
       looked = looked_through u x w (looked_through u v x c.loop.invariant.looked c.first_ready-next.ensures.first.looked) held.looked;
-      same = refused.same ∙ c.loop.invariant.same;
     }
 
-pub try_act-next-requires-clause-can : goal.try_act-next-requires-clause-can
-try_act-next-requires-clause-can g c =
-    looked_can c.args.actor.now c.loop.seat c.first_ready-next.result.0 c.loop.state c.first_ready-next.ensures.of c.first_ready-next.ensures.first.looked c.loop.invariant.can
+pub try_act-next-requires : goal.try_act-next-requires
+try_act-next-requires g c = record {
+  can = looked_can c.args.actor.now c.loop.seat c.first_ready-next.result.0 c.loop.state c.first_ready-next.ensures.of c.first_ready-next.ensures.first.looked c.loop.invariant.can;
+}
 
 not_full : tried.Refused fault.NotYet ≡ tried.Refused fault.Full → ⊥
 not_full is = cc
@@ -62,11 +59,3 @@ returns-in_default-clause-tried g c = λ _.
     let found = c.first_ready-next.ensures.first in
     all_by_place (λ a. RefusedIn (act_fault a) u x fault.NotYet) c.args.acts.now (λ i a at.
     refused_here (act_fault a) u v x fault.NotYet c.loop.invariant.looked (looked_met v x found.looked) (none_comes c.args.acts.now v x c.first_ready-next.result.1 found c.in_default.is i a at))
-
-pub try_act-next-requires-clause-offered : goal.try_act-next-requires-clause-offered
-try_act-next-requires-clause-offered g c =
-    let now = c.args.acts.now in
-    let act = c.index-acts-at.result in
-    let below = subst (λ o. IfSome o (λ at. at < length now)) c.in-Some-first.is c.first_ready-next.ensures.within in
-    let there : slice_get now c.in-Some-first.at ≡ Some act = slice_get_read now (length now) c.in-Some-first.at act refl below c.index-acts-at.is in
-    ap (λ l. is_offered act (offered l)) c.loop.invariant.same ∙ ap (is_offered act) (sym c.requires.all) ∙ offered_in now c.in-Some-first.at act there

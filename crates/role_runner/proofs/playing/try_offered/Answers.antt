@@ -1,12 +1,11 @@
--- The first act is offered. A single act that may not come yet is all that there is, and after a first act of several that may not come yet the seat has only looked on.
+-- A single act that may not come yet is all that there is, and after a first act of several that may not come yet the seat has only looked on.
 use Rattle.std.proofs.Common.{◌≡◌, Some, length, slice_get, slice_index_or, refl, sym, ap, ◌∙◌, subst, arith}
 use Rattle.std.proofs.lemmas.Option.{slice_get_read, slice_get_within}
 use Rattle.flat_role.specs.FlatStates.{local_of}
 use Rattle.marked_laws.proofs.Shapes.{some_same}
-use Rattle.process_steps.specs.Steps.{is_offered}
 use Rattle.role_runner.proofs.EndLemmas.{all_by_place}
 use Rattle.role_runner.proofs.TieLemmas.{if_refused_at, not_yet_is}
-use Rattle.role_runner.proofs.TurnLemmas.{looked_nowhere, offered_in, refused_from, refused_here}
+use Rattle.role_runner.proofs.TurnLemmas.{looked_nowhere, refused_from, refused_here}
 use Rattle.role_runner.specs.Ties.{IsRefusedTry, RefusedIn}
 use Rattle.stage.proofs.MetLemmas.{looked_met}
 use Rattle.stage.specs.declared.faults.CommitFault.TheVariants as fault
@@ -16,14 +15,6 @@ use Rattle.role_runner.proofs.playing.try_offered.Goals as goal
 
 not_memory : fault.NotYet ≡ fault.Memory → ⊥
 not_memory is = cc
-
-pub try_act-requires-clause-offered : goal.try_act-requires-clause-offered
-try_act-requires-clause-offered g c =
-    let now = c.args.acts.now in
-    let act = c.act-item.result in
-    let least = c.in-len1.len_at_least in
-    let there : slice_get now 0 ≡ Some act = slice_get_read now (length now) 0 act refl (omega (arith, least)) c.act-item.is in
-    ap (is_offered act) (sym c.requires.all) ∙ offered_in now 0 act there
 
 pub returns-in-len1-clause-tried : goal.returns-in-len1-clause-tried
 returns-in-len1-clause-tried g c = λ h.
