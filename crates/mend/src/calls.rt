@@ -63,11 +63,17 @@ pub fn mend_within(
     drops_to_input();
     mended_connected();
     if let Some(name) = first_taken(choreo) {
-        return Err(MendFault::NameTaken(name.copy(alloc)?));
+        return match name.copy(alloc) {
+            Ok(name) => Err(MendFault::NameTaken(name)),
+            Err(Memory) => Err(MendFault::Memory),
+        };
     }
     let mut left = most;
     match joined(alloc, &mut left, cast, choreo) {
-        Ok(made) => Ok(Some(finished(alloc, made)?)),
+        Ok(made) => match finished(alloc, made) {
+            Ok(made) => Ok(Some(made)),
+            Err(Memory) => Err(MendFault::Memory),
+        },
         Err(Stop::TooMany) => Ok(None),
         Err(Stop::Memory) => Err(MendFault::Memory),
     }

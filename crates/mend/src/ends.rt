@@ -40,13 +40,8 @@ fn is_starter(choreo: &Choreo, role: &Role) -> bool
         Choreo::Skip => false,
         Choreo::Com { from, .. } => role == from,
         Choreo::Set { role: owner, .. } | Choreo::Input { role: owner, .. } => role == owner,
-        Choreo::Seq(first, second) => {
-            if is_empty(first) {
-                is_starter(second, role)
-            } else {
-                is_starter(first, role)
-            }
-        }
+        Choreo::Seq(first, second) if is_empty(first) => is_starter(second, role),
+        Choreo::Seq(first, _) => is_starter(first, role),
         Choreo::Par(left, right) => is_starter(left, role) || is_starter(right, role),
         Choreo::If { leader, .. } | Choreo::While { leader, .. } | Choreo::Scope { leader, .. } => {
             role == leader
@@ -60,13 +55,8 @@ fn attends(choreo: &Choreo, role: &Role) -> bool
 {
     match choreo {
         Choreo::Skip => true,
-        Choreo::Seq(first, second) => {
-            if is_empty(second) {
-                attends(first, role)
-            } else {
-                attends(second, role)
-            }
-        }
+        Choreo::Seq(first, second) if is_empty(second) => attends(first, role),
+        Choreo::Seq(_, second) => attends(second, role),
         Choreo::Par(left, right) => attends(left, role) && attends(right, role),
         Choreo::If { yes, no, .. } => {
             let named = names_role(choreo, role);
@@ -94,13 +84,8 @@ fn are_attended(first: &Choreo, second: &Choreo) -> bool
         Choreo::Skip => true,
         Choreo::Com { from, .. } => attends(first, from),
         Choreo::Set { role, .. } | Choreo::Input { role, .. } => attends(first, role),
-        Choreo::Seq(earlier, later) => {
-            if is_empty(earlier) {
-                are_attended(first, later)
-            } else {
-                are_attended(first, earlier)
-            }
-        }
+        Choreo::Seq(earlier, later) if is_empty(earlier) => are_attended(first, later),
+        Choreo::Seq(earlier, _) => are_attended(first, earlier),
         Choreo::Par(left, right) => are_attended(first, left) && are_attended(first, right),
         Choreo::If { leader, .. } | Choreo::While { leader, .. } | Choreo::Scope { leader, .. } => {
             attends(first, leader)

@@ -1,7 +1,6 @@
 //! Why mending stops.
 
 ghost use Rattle.std.specs.Prelude.{◌≡◌, Err};
-ghost use Rattle.mend.specs.declared.faults.MendFault.TheVariants as fault;
 ghost use Rattle.mend.specs.declared.faults.Stop.TheVariants as stop;
 
 use dioc_terms::{Memory, Name};
@@ -33,14 +32,6 @@ pub(crate) fn stopped<T: Drop, U: Drop>(_value: T, why: Stop) -> Result<U, Stop>
     ensures { result ≡ Err why }
 {
     Err(why)
-}
-
-impl From<Memory> for MendFault {
-    ghost from_gives = { λ _ why. why ≡ fault.Memory };
-
-    fn from(_error: Memory) -> MendFault {
-        MendFault::Memory
-    }
 }
 
 impl From<Memory> for Stop {
