@@ -27,6 +27,8 @@ use Rattle.schedule.proofs.AgendaLemmas.{got_in, none_put, ready_long, stay_list
 use Rattle.schedule.proofs.RoleLemmas.{all_same, listed_at, one_place, one_set, roles_listed}
 use Rattle.schedule.specs.declared.roles.Listed.TheVariants as listed
 use Rattle.schedule.specs.declared.roles.ReadyRole.{ReadyRole}
+use Rattle.network_steps.specs.declared.moves.StepFault.{StepFault}
+use Rattle.schedule.specs.Turns.{CanMake, CanMakeListed, IsRefusedAs}
 use Rattle.schedule.specs.Agendas.{Acted, DidAt, DidIn, Follows, HasActed, IsListedAs, IsStale, IsStaleAt, Shown, WasListed, agenda_of, half, move_at, moves_of, puts_to, ready_in, ready_seen}
 
 -- what stands at a place of a list stands in it
@@ -95,6 +97,23 @@ pub listed_inside : (agenda : List ReadyRole) (doer place : ℕ) (m : Move) → 
 listed_inside agenda doer place m h =
     let found = listed_there (map ready_seen agenda) doer place m h in
     omega (arith, got_inside (map ready_seen agenda) doer found.0 found.1, length-map agenda ready_seen)
+
+-- what an agenda lists so is the act of a role
+pub listed_act : (agenda : List ReadyRole) (doer place : ℕ) (m : Move) → move_at (map ready_seen agenda) (listed.Act doer place) ≡ Some m
+    → (q : Role) × (a : Act) × (m ≡ move.Act q a)
+listed_act agenda doer place (move.Act q a) there = (q, a, refl)
+listed_act agenda doer place move.Change there =
+    let found = listed_there (map ready_seen agenda) doer place move.Change there in
+    absurd (no_change found.0.0 found.0.1 place found.2)
+
+-- an act that has no fault isn't refused
+pub unrefused : (net : NetState) (agenda : List ReadyRole) (doer place : ℕ) → CanMakeListed net (map ready_seen agenda) (listed.Act doer place)
+    → (f : StepFault) → IsRefusedAs net (map ready_seen agenda) (listed.Act doer place) f → ⊥
+unrefused net agenda doer place can f refused =
+    let act = listed_act agenda doer place can.move can.there in
+    none_some
+    (sym (subst (CanMake net) act.2 can.can)
+    ∙ refused act.0 act.1 (can.there ∙ ap Some act.2))
 
 -- the role at a place of a net's agenda is that of the cast
 -- and what is listed of it is what is to be

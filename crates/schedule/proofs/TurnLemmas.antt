@@ -17,7 +17,8 @@ use Rattle.network_steps.specs.declared.moves.Move.TheVariants as move
 use Rattle.network_steps.specs.Schedule.{move_step}
 use Rattle.net_core.specs.Changes.{IsChangeOf}
 use Rattle.net_core.specs.Nets.{NetState, network_of}
-use Rattle.net_core.specs.Steps.{IsStepOf}
+use Rattle.net_core.specs.Steps.{IsStepOf, fault_of}
+use Rattle.network_steps.specs.declared.moves.StepFault.{StepFault}
 use Rattle.schedule.specs.Turns.{Advances, IsMoveOf, IsScheduled}
 
 pub move_of_change : (old new : NetState) → IsChangeOf old new → IsMoveOf old move.Change new
@@ -25,6 +26,22 @@ move_of_change old new made = record { outcome = made.outcome; steps = made.step
 
 pub move_of_step : (old new : NetState) (q : Role) (a : Act) → IsStepOf old q a new → IsMoveOf old (move.Act q a) new
 move_of_step old new q a made = record { outcome = made.outcome; steps = made.steps; goes = made.goes }
+
+-- one act has one fault
+pub fault_as : (net : NetState) (r : Role) (x : Act) (q : Role) (a : Act) (f : StepFault) → move.Act r x ≡ move.Act q a → fault_of net r x ≡ Some f → fault_of net q a ≡ Some f
+fault_as net r x q a f same h = by_parts parts.0 parts.1
+  where
+    parts : (r ≡ q) × (x ≡ a)
+    parts = (role_is same, act_is same)
+      where
+        role_is : move.Act r x ≡ move.Act q a → r ≡ q
+        role_is e = cc
+
+        act_is : move.Act r x ≡ move.Act q a → x ≡ a
+        act_is e = cc
+
+    by_parts : r ≡ q → x ≡ a → fault_of net q a ≡ Some f
+    by_parts role act = sym (ap₂ (fault_of net) role act) ∙ h
 
 -- a move that is scheduled, once it is made, is what the schedule takes
 pub advances : (old new : NetState) (seed : Option ℕ) (m : Move) → IsScheduled old seed m → IsMoveOf old m new → Advances old seed new

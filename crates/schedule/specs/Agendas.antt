@@ -47,6 +47,11 @@ move_at agenda listed.Change = Some move.Change
 move_at agenda (listed.Act doer place) =
     option_and_then (λ ready. slice_get (moves_of ready) place) (slice_get agenda doer)
 
+-- an agenda lists a move there
+pub record IsListed (agenda : List Shown) (made : Listed) : Type 0 where
+  pub move : Move
+  pub there : move_at agenda made ≡ Some move
+
 -- it is the one of this number among these moves
 pub record IsListedAs (agenda : List Shown) (all : List Move) (number : ℕ) (made : Listed)
     : Type 0 where

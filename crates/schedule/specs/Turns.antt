@@ -1,8 +1,11 @@
 -- What a turn of a schedule is: a move that has no fault, and the net after it.
 use Rattle.std.specs.Prelude.{◌≡◌, ℕ, List, Bool, Option, Some, None, length, slice_get}
+use Rattle.dioc_terms.specs.declared.entries.Act.{Act}
+use Rattle.dioc_terms.specs.declared.names.Role.{Role}
 use Rattle.dioc_terms.specs.Plain.{setting}
 use Rattle.network_steps.specs.Network.{NextNetwork, network_ended}
 use Rattle.network_steps.specs.declared.moves.Move.{Move}
+use Rattle.network_steps.specs.declared.moves.StepFault.{StepFault}
 use Rattle.network_steps.specs.declared.moves.Move.TheVariants as move
 use Rattle.network_steps.specs.Schedule.{move_place, move_step, moves, scheduled}
 use Rattle.net_core.specs.Changes.{change_fault}
@@ -37,6 +40,11 @@ pub record CanMakeListed (net : NetState) (agenda : List Shown) (made : Listed) 
   pub move : Move
   pub there : move_at agenda made ≡ Some move
   pub can : CanMake net move
+
+-- the act that an agenda lists there has this fault
+abbrev pub IsRefusedAs : NetState → List Shown → Listed → StepFault → Type 0
+IsRefusedAs net agenda made fault = (q : Role) (a : Act) → move_at agenda made ≡ Some (move.Act q a)
+    → fault_of net q a ≡ Some fault
 
 -- the net has made this move
 pub record IsMoveOf (old : NetState) (m : Move) (new : NetState) : Type 0 where

@@ -45,8 +45,9 @@ pub(crate) fn keep_up<R: Runs>(
     }
 }
 
-/// Brings an agenda up to date after the move that it lists there.
-fn catch_up<R: Runs>(net: &Net<R>, made: Listed, agenda: &mut [ReadyRole]) -> Result<(), Memory>
+/// Brings an agenda up to date after the move that it lists there: it asks the net only for the acts
+/// that the role offers in place of the one that it did. After `Memory` the agenda may be half done.
+pub fn catch_up<R: Runs>(net: &Net<R>, made: Listed, agenda: &mut [ReadyRole]) -> Result<(), Memory>
     requires { IsStaleAt net.now made (map ready_seen agenda.old) }
     ensures { OnOk result (map ready_seen agenda.new ≡ agenda_of net.now) }
 {

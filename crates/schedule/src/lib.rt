@@ -8,6 +8,7 @@ mod roles;
 mod runs;
 mod turns;
 
-pub use agenda::{keep_up_with, list_ready};
-pub use roles::ReadyRole;
+pub use agenda::{catch_up, keep_up_with, list_ready};
+pub use roles::{Listed, ReadyRole};
 pub use runs::{Finish, run_seeded};
+pub use turns::step_listed;

@@ -7,7 +7,7 @@ use dioc_terms::{Act, Role};
 
 /// A move, by where an agenda lists it.
 #[derive(Clone, Copy)]
-pub(crate) enum Listed {
+pub enum Listed {
     /// The script's next change, which stands in no agenda.
     Change,
     /// An act: the place of its role in the agenda, and the place of the act among those that the

@@ -1,24 +1,19 @@
 //! One turn of a schedule: which move it takes, and how a net makes a move.
 
-ghost use Rattle.std.specs.Prelude.{◌≡◌, ◌<◌, ◌≤◌, ◌+◌, ◌∷◌, false, true, None, Some, IfOk, OnErr, OnOk, flat_map, length, map};
-ghost use Rattle.dioc_terms.specs.declared.names.Role.{Role as OneRole};
+ghost use Rattle.std.specs.Prelude.{◌≡◌, ◌≢◌, ◌<◌, ◌≤◌, ◌+◌, ◌∷◌, false, None, Some, IfErr, IfOk, OnErr, OnOk, flat_map, length, map};
 ghost use Rattle.dioc_terms.specs.Plain.{setting};
-ghost use Rattle.dpoc_process.specs.LocalStates.{IsNumbered};
-ghost use Rattle.marked_laws.specs.Offers.{distinct_acts};
 ghost use Rattle.network_steps.specs.Schedule.{move_place, moves};
 ghost use Rattle.net_core.specs.Changes.{change_fault};
 ghost use Rattle.net_core.specs.Nets.{IsSoundRun, network_of};
-ghost use Rattle.net_core.specs.Places.{offers_at, offers_of};
-ghost use Rattle.net_core.specs.Steps.{IsStepAt, fault_at};
 ghost use Rattle.network_steps.specs.declared.moves.Move.{Move as OneMove};
 ghost use Rattle.network_steps.specs.declared.moves.Move.TheVariants as move;
-ghost use Rattle.schedule.specs.Agendas.{IsBehind, IsListedAs, agenda_of, move_at, moves_of, ready_seen};
-ghost use Rattle.schedule.specs.Turns.{Advances, CanMakeListed, IsMoveOf, IsNext, has_ended};
+ghost use Rattle.schedule.specs.Agendas.{IsBehind, IsListed, IsListedAs, agenda_of, move_at, moves_of, ready_seen};
+ghost use Rattle.schedule.specs.Turns.{Advances, CanMakeListed, IsMoveOf, IsNext, IsRefusedAs, has_ended};
 
 use crate::agenda::{count_acts, find_number};
 use crate::numbers::move_place;
 use crate::roles::{Listed, ReadyRole};
-use dioc_terms::{Act, Memory};
+use dioc_terms::Memory;
 use dpoc_process::Runs;
 use net_core::{ChangeFault, Net};
 use network_steps::StepFault;
@@ -93,8 +88,8 @@ fn change_or_act(agenda: &[ReadyRole], place: u128) -> Listed
 
 /// Makes a move of the agenda that has no fault. After a refusal the net is unchanged.
 fn make<R: Runs>(net: &mut Net<R>, agenda: &[ReadyRole], next: Listed) -> Result<(), Memory>
+    requires run { IsSoundRun net.old }
     requires agenda { map ready_seen agenda.now ≡ agenda_of net.old }
-    requires once { (q : OneRole) → distinct_acts (offers_of (network_of net.old) q) ≡ true }
     requires can { CanMakeListed net.old (map ready_seen agenda.now) next }
     requires few { (network_of net.old).updates < 4294967295 }
     ensures made { OnOk result ((m : OneMove) → move_at (map ready_seen agenda.now) next ≡ Some m
@@ -103,12 +98,7 @@ fn make<R: Runs>(net: &mut Net<R>, agenda: &[ReadyRole], next: Listed) -> Result
 {
     match next {
         Listed::Change => make_change(net),
-        Listed::Act(doer, place) => {
-            let ready = &agenda[doer];
-            let number = ready.ready[place];
-            let act = &ready.acts[number];
-            make_step(net, doer, number, act)
-        }
+        Listed::Act(doer, place) => make_step(net, agenda, doer, place),
     }
 }
 
@@ -125,18 +115,59 @@ fn make_change<R: Runs>(net: &mut Net<R>) -> Result<(), Memory>
     }
 }
 
-/// Makes the step of the role at a place of the cast by the act of that number, which has no fault.
-fn make_step<R: Runs>(net: &mut Net<R>, doer: usize, number: usize, act: &Act) -> Result<(), Memory>
-    requires there { doer < length net.old.bundle.cast }
-    requires numbered { IsNumbered number act.now (offers_at net.old doer) }
-    requires can { fault_at net.old doer act.now ≡ None }
+/// Makes the step that the agenda lists there, which has no fault.
+fn make_step<R: Runs>(
+    net: &mut Net<R>,
+    agenda: &[ReadyRole],
+    doer: usize,
+    place: usize,
+) -> Result<(), Memory>
+    requires run { IsSoundRun net.old }
+    requires agenda { map ready_seen agenda.now ≡ agenda_of net.old }
+    requires can { CanMakeListed net.old (map ready_seen agenda.now) (Listed.Act doer place) }
     requires few { (network_of net.old).updates < 4294967295 }
-    ensures made { OnOk result (IsStepAt net.old doer act.now net.new) }
+    ensures made { OnOk result ((m : OneMove) → move_at (map ready_seen agenda.now)
+        (Listed.Act doer place) ≡ Some m → IsMoveOf net.old m net.new) }
     ensures err { OnErr result (net.new ≡ net.old) }
 {
-    match net.step_at(doer, number, act) {
+    match step_listed(net, agenda, doer, place) {
         Ok(()) => Ok(()),
-        Err(StepFault::Memory) => Err(Memory),
-        Err(_) => unreachable!(),
+        Err(fault) => Err(memory_of(fault)),
     }
+}
+
+/// The fault of a step that has no other.
+fn memory_of(fault: StepFault) -> Memory
+    requires { fault ≢ StepFault.Memory → ⊥ }
+{
+    match fault {
+        StepFault::Memory => Memory,
+        _ => unreachable!(),
+    }
+}
+
+/// Makes the step that an agenda of the net lists there: of the role at the place `doer` of the
+/// agenda, by the act at the place `place` of those that it can do, both counted from 0. The
+/// refusals are those of `Net::step`; after any of them the net is unchanged.
+pub fn step_listed<R: Runs>(
+    net: &mut Net<R>,
+    agenda: &[ReadyRole],
+    doer: usize,
+    place: usize,
+) -> Result<(), StepFault>
+    requires run { IsSoundRun net.old }
+    requires agenda { map ready_seen agenda.now ≡ agenda_of net.old }
+    requires listed { IsListed (map ready_seen agenda.now) (Listed.Act doer place) }
+    requires few { (network_of net.old).updates < 4294967295 }
+    ensures stepped { OnOk result ((m : OneMove) → move_at (map ready_seen agenda.now)
+        (Listed.Act doer place) ≡ Some m → IsMoveOf net.old m net.new) }
+    ensures refused { IfErr result (λ fault. fault ≢ StepFault.Memory
+        → IsRefusedAs net.old (map ready_seen agenda.now) (Listed.Act doer place) fault) }
+    ensures err { OnErr result (net.new ≡ net.old) }
+{
+    marked_laws::term_laws();
+    let ready = &agenda[doer];
+    let number = ready.ready[place];
+    let act = &ready.acts[number];
+    net.step_at(doer, number, act)
 }

@@ -4,7 +4,6 @@ use Rattle.std.specs.Prelude.{map}
 use Rattle.dioc_terms.specs.Plain.{setting}
 use Rattle.network_steps.specs.Schedule.{move_place, moves}
 use Rattle.net_core.specs.Nets.{network_of}
-use Rattle.marked_laws.proofs.Whole.{distinct_offers}
 use Rattle.schedule.proofs.AgendaLemmas.{stale_after}
 use Rattle.schedule.proofs.MoveLemmas.{can_make, some_move}
 use Rattle.schedule.proofs.TurnLemmas.{advances}
@@ -26,11 +25,6 @@ make-requires-clause-can g c =
       can = can_make c.args.net.now c.requires.goes c.requires.room
           (move_place c.args.seed (length (moves (setting c.args.net.now.bundle) (network_of c.args.net.now)))) next.move next.is;
     }
-
-pub make-requires-clause-once : goal.make-requires-clause-once
-make-requires-clause-once g c =
-    let net = c.args.net.now in
-    λ q. distinct_offers c.term_laws.ensures net.bundle net.history (network_of net) c.requires.run.sound c.requires.run.runs q
 
 pub make-requires-clause-few : goal.make-requires-clause-few
 make-requires-clause-few g c = few_updates c.args.net.now c.requires.run c.requires.room c.requires.limit
