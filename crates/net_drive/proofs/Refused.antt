@@ -26,9 +26,12 @@ use Rattle.marked_laws.proofs.Shapes.{none_some, some_same}
 use Rattle.network_steps.specs.declared.moves.StepFault.{StepFault}
 use Rattle.network_steps.specs.declared.moves.StepFault.TheVariants as why
 use Rattle.dioc_terms.specs.declared.faults.Memory.{Memory}
-use Rattle.net_drive.specs.Making.{Makes}
+use Rattle.net_drive.specs.Making.{Makes, MakesListed}
 use Rattle.net_laws.specs.Net.{first_fault, is_offered_by}
-use Rattle.network_steps.specs.Schedule.{is_ready}
+use Rattle.network_steps.specs.declared.moves.Move.{Move}
+use Rattle.network_steps.specs.Schedule.{is_ready, move_step}
+use Rattle.schedule.specs.declared.roles.Listed.{Listed}
+use Rattle.schedule.specs.Agendas.{Shown, move_at}
 use Rattle.net_core.specs.Nets.{IsSoundRun, NetState, network_of}
 use Rattle.net_core.specs.Steps.{fault_of}
 
@@ -189,3 +192,12 @@ pub none_made : (old new : NetState) (step : Option NextNetwork) (fault : StepFa
     → IfOk r (λ is_made. (is_made ≡ false) × (fault ≢ why.Memory)) → (fault ≢ why.Memory → step ≡ None) → new ≡ old → IfOk r (Makes step old new)
 none_made old new step fault (Ok is_made) h none same = subst (Makes step old new) (sym h.0) (none h.1, same)
 none_made old new step fault (Err refusal) h none same = tt
+
+-- and no listed one
+pub none_listed : (old new : NetState) (agenda : List Shown) (made : Listed) (fault : StepFault) (r : Result Bool Memory)
+    → IfOk r (λ is_made. (is_made ≡ false) × (fault ≢ why.Memory))
+    → (fault ≢ why.Memory → (m : Move) → move_at agenda made ≡ Some m → move_step (setting old.bundle) (network_of old) m ≡ None)
+    → new ≡ old → IfOk r (MakesListed old agenda made new)
+none_listed old new agenda made fault (Ok is_made) h none same =
+    λ m there. subst (Makes (move_step (setting old.bundle) (network_of old) m) old new) (sym h.0) (none h.1 m there, same)
+none_listed old new agenda made fault (Err refusal) h none same = tt

@@ -1,17 +1,22 @@
 -- What it is to drive a net through a trace: a turn towards an entry, the way to it, the whole.
-use Rattle.std.specs.Prelude.{◌≡◌, ◌⊎◌, ◌≤◌, ◌<◌, ◌+◌, ℕ, List, [], ◌∷◌, ◌++◌, length, Bool, true, false, Option, Some, None}
+use Rattle.std.specs.Prelude.{◌≡◌, ◌⊎◌, ◌≤◌, ◌<◌, ◌+◌, ℕ, List, [], ◌∷◌, ◌++◌, length, Bool, true, false, Option, Some, None, flat_map, slice_get}
+use Rattle.std.specs.List.{find}
+use Rattle.dioc_terms.specs.declared.entries.Act.{Act}
 use Rattle.dioc_terms.specs.declared.entries.Entry.{Entry}
 use Rattle.dioc_terms.specs.Messages.{visible}
 use Rattle.dioc_terms.specs.Plain.{setting}
+use Rattle.drive_laws.specs.Laws.{is_aux_act}
 use Rattle.network_steps.specs.Network.{Network, network_run, network_step}
 use Rattle.network_steps.specs.declared.moves.Move.{Move}
 use Rattle.network_steps.specs.declared.moves.Move.TheVariants as move
 use Rattle.net_drive.specs.declared.entries.Tried.{Tried}
 use Rattle.net_drive.specs.declared.entries.Tried.TheVariants as tried
-use Rattle.net_drive.specs.Driven.{driven, driven_from, first_auxiliary, may_come, put_before}
+use Rattle.net_drive.specs.Driven.{driven, driven_from, first_auxiliary, is_aux_move, may_come, put_before}
 use Rattle.net_drive.specs.Making.{shown_move}
 use Rattle.net_drive.specs.Strays.{IsDriveStray}
 use Rattle.net_core.specs.Nets.{NetState, network_of}
+use Rattle.schedule.specs.declared.roles.Listed.{Listed}
+use Rattle.schedule.specs.Agendas.{Shown, move_at, moves_of}
 use Rattle.schedule.specs.Turns.{IsMoveOf}
 
 -- there is room for all that it takes to drive a trace of at most so many entries
@@ -19,6 +24,20 @@ pub record HasRoom (net : NetState) : Type 0 where
   pub roles : length net.bundle.cast ≤ 32
   pub entries : length (visible net.history) ≤ 1000000
   pub limit : net.limit ≡ 18446744073709551615
+
+-- ---- the first auxiliary move
+
+-- the first auxiliary act of these stands at this place
+pub record IsFirstActAt (acts : List Act) (place : ℕ) : Type 0 where
+  pub act : Act
+  pub there : slice_get acts place ≡ Some act
+  pub first : find is_aux_act acts ≡ Some act
+
+-- the first auxiliary move of an agenda is listed there
+pub record IsFirstListed (agenda : List Shown) (made : Listed) : Type 0 where
+  pub move : Move
+  pub there : move_at agenda made ≡ Some move
+  pub first : find is_aux_move (flat_map moves_of agenda) ≡ Some move
 
 -- ---- an entry that is tried
 

@@ -1,26 +1,25 @@
 //! A net driven towards an entry of a visible trace, and the auxiliary moves that it makes on the
 //! way.
 
-ghost use Rattle.std.specs.Prelude.{◌≡◌, ◌≢◌, ◌<◌, false, Some, IfOk, OnOk, flat_map, length, map};
+ghost use Rattle.std.specs.Prelude.{◌≡◌, ◌≢◌, ◌<◌, false, None, Some, IfOk, IfSome, OnOk, flat_map, length, map};
 ghost use Rattle.std.specs.List.{find};
-ghost use Rattle.std.specs.Option.{option_copied};
 ghost use Rattle.dioc_terms.specs.Messages.{is_aux};
 ghost use Rattle.dioc_terms.specs.Plain.{setting};
 ghost use Rattle.drive_laws.specs.Laws.{is_aux_act};
 ghost use Rattle.network_steps.specs.Schedule.{move_step};
 ghost use Rattle.net_drive.specs.Driven.{first_auxiliary, is_aux_move};
-ghost use Rattle.net_drive.specs.Driving.{HasRoom, IsTried, IsTurn, judged};
-ghost use Rattle.net_drive.specs.Making.{Makes, shown_move};
+ghost use Rattle.net_drive.specs.Driving.{HasRoom, IsFirstActAt, IsFirstListed, IsTried, IsTurn, judged};
+ghost use Rattle.net_drive.specs.Making.{Makes, MakesListed, shown_move};
 ghost use Rattle.net_core.specs.Nets.{IsSoundRun, network_of};
-ghost use Rattle.schedule.specs.Agendas.{IsStale, agenda_of, moves_of, ready_seen};
+ghost use Rattle.schedule.specs.Agendas.{IsListed, IsStale, agenda_of, moves_of, ready_seen};
 
 use crate::laws::known;
-use crate::steps::{is_noted, make, move_by};
+use crate::steps::{is_noted, make, make_listed};
 use dioc_terms::{Act, Entry, Memory};
 use dpoc_process::Runs;
 use net_core::Net;
 use network_steps::Move;
-use schedule::{ReadyRole, keep_up_with};
+use schedule::{Listed, ReadyRole, catch_up, keep_up_with};
 use std::alloc::Global;
 use std::mem;
 
@@ -111,37 +110,35 @@ pub(crate) fn take_auxiliary<R: Runs>(
         (network_of net.old)) net.old net.new) }
     ensures agenda { OnOk result (map ready_seen agenda.new.items ≡ agenda_of net.new) }
 {
-    match find_auxiliary(net.allocator(), agenda.as_slice())? {
-        Some(next) => {
-            let is_made = make_on(net, agenda, &next);
-            drop(next);
-            is_made
-        }
+    match find_auxiliary(agenda.as_slice()) {
+        Some((doer, place)) => make_on(net, agenda, doer, place),
         None => Ok(false),
     }
 }
 
-// Makes the move, where it can be made, and brings the agenda up to date. Where it can't, the net
-// is unchanged.
+// Makes the step that the agenda lists there, where it can be made, and brings the agenda up to
+// date. Where it can't, the net is unchanged.
 fn make_on<R: Runs>(
     net: &mut Net<R>,
     agenda: &mut Vec<ReadyRole>,
-    next: &Move,
+    doer: usize,
+    place: usize,
 ) -> Result<bool, Memory>
     requires run { IsSoundRun net.old }
     requires room { length net.old.history < net.old.limit }
     requires few { (network_of net.old).updates < 4294967295 }
     requires agenda { map ready_seen agenda.old.items ≡ agenda_of net.old }
-    ensures makes { IfOk result (Makes (move_step (setting net.old.bundle) (network_of net.old)
-        next.now) net.old net.new) }
+    requires listed { IsListed (map ready_seen agenda.old.items) (Listed.Act doer place) }
+    ensures makes { IfOk result (MakesListed net.old (map ready_seen agenda.old.items)
+        (Listed.Act doer place) net.new) }
     ensures agenda { OnOk result (map ready_seen agenda.new.items ≡ agenda_of net.new) }
 {
     marked_laws::term_laws();
     known();
-    if !make(net, next)? {
+    if !make_listed(net, agenda.as_slice(), doer, place)? {
         return Ok(false);
     }
-    bring_up(net, next, agenda)?;
+    catch_up(net, Listed::Act(doer, place), agenda.as_mut_slice())?;
     Ok(true)
 }
 
@@ -155,28 +152,33 @@ fn bring_up<R: Runs>(net: &Net<R>, made: &Move, agenda: &mut Vec<ReadyRole>) -> 
     Ok(())
 }
 
-// The first auxiliary act in an agenda, as a move.
-fn find_auxiliary(alloc: Global, agenda: &[ReadyRole]) -> Result<Option<Move>, Memory>
-    ensures { IfOk result
-        (λ found. found ≡ find is_aux_move (flat_map moves_of (map ready_seen agenda.now))) }
+// Where an agenda lists the first auxiliary act: the place of its role, and the place of the act
+// among those that the role can do.
+fn find_auxiliary(agenda: &[ReadyRole]) -> Option<(usize, usize)>
+    ensures found { IfSome result (λ at. IsFirstListed (map ready_seen agenda.now)
+        (Listed.Act at.0 at.1)) }
+    ensures none { result ≡ None
+        → find is_aux_move (flat_map moves_of (map ready_seen agenda.now)) ≡ None }
 {
-    for ready in agenda {
-        if let Some(act) = first_auxiliary(ready) {
-            let next = move_by(alloc, &ready.role, act.copy(alloc)?)?;
-            return Ok(Some(next));
+    for doer in 0..agenda.len() {
+        let ready = &agenda[doer];
+        if let Some(place) = first_auxiliary(ready) {
+            return Some((doer, place));
         }
     }
-    Ok(None)
+    None
 }
 
-// The first of the acts that a role can do now that is auxiliary.
-fn first_auxiliary(ready: &ReadyRole) -> Option<&Act>
-    ensures { option_copied result ≡ find is_aux_act (ready_seen ready.now).1 }
+// The place of the first auxiliary act among those that a role can do now.
+fn first_auxiliary(ready: &ReadyRole) -> Option<usize>
+    ensures found { IfSome result (λ place. IsFirstActAt (ready_seen ready.now).1 place) }
+    ensures none { result ≡ None → find is_aux_act (ready_seen ready.now).1 ≡ None }
 {
-    for place in ready.ready.as_slice() {
-        let act = &ready.acts[*place];
+    for place in 0..ready.ready.len() {
+        let number = ready.ready[place];
+        let act = &ready.acts[number];
         if is_aux_act(act) {
-            return Some(act);
+            return Some(place);
         }
     }
     None

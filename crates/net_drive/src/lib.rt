@@ -14,5 +14,5 @@ pub use laws::{
     drive_strays_are_exact, driven_exactly, driven_runs, same_traces, strays_are_exact,
 };
 pub use resumed_laws::{resumed_nets, resumed_runs, run_strays_are_exact};
-pub use resuming::{ResumeFault, resume};
+pub use resuming::{ResumeFault, resume, resume_entries};
 pub use traces::{DriveFault, drive};

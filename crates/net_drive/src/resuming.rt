@@ -55,11 +55,11 @@ pub fn resume<R: Begins>(
     ensures stray { IfErr result (StraysAt (plain bundle.now) entries.now.entries limit) }
     ensures counted { IfErr result (StrayCounted (plain bundle.now) entries.now.entries limit) }
 {
-    resume_all(alloc, bundle, entries.as_slice(), limit)
+    resume_entries(alloc, bundle, entries.as_slice(), limit)
 }
 
-// The same, of the entries of the history.
-fn resume_all<R: Begins>(
+/// The same, of entries as they stand, which needn't be a history.
+pub fn resume_entries<R: Begins>(
     alloc: Global,
     bundle: &Bundle,
     entries: &[Entry],

@@ -1,19 +1,21 @@
 //! The moves that entries show, and a net that makes them.
 
-ghost use Rattle.std.specs.Prelude.{◌≡◌, ◌≢◌, ◌<◌, false, IfOk, length, slice_get};
+ghost use Rattle.std.specs.Prelude.{◌≡◌, ◌≢◌, ◌<◌, false, IfOk, length, map, slice_get};
 ghost use Rattle.std.specs.Option.{option_map_or};
 ghost use Rattle.dioc_terms.specs.Equality.{entry_eq};
 ghost use Rattle.dioc_terms.specs.Plain.{setting};
 ghost use Rattle.network_steps.specs.Network.{act_step, change_step};
 ghost use Rattle.network_steps.specs.Schedule.{move_step};
-ghost use Rattle.net_drive.specs.Making.{Makes, shown_move};
+ghost use Rattle.net_drive.specs.Making.{Makes, MakesListed, shown_move};
 ghost use Rattle.net_core.specs.Nets.{IsSoundRun, network_of};
+ghost use Rattle.schedule.specs.Agendas.{IsListed, agenda_of, ready_seen};
 
 use crate::resumed_laws::known;
 use dioc_terms::{Act, Entry, Memory, Role, give_up};
 use dpoc_process::Runs;
 use net_core::{ChangeFault, Net};
 use network_steps::{Move, StepFault};
+use schedule::{Listed, ReadyRole, step_listed};
 use std::alloc::Global;
 use trace_book::History;
 
@@ -33,7 +35,7 @@ pub(crate) fn move_of(alloc: Global, entry: &Entry) -> Result<Move, Memory>
 }
 
 /// The act as a move of the role.
-pub(crate) fn move_by(alloc: Global, role: &Role, act: Act) -> Result<Move, Memory>
+fn move_by(alloc: Global, role: &Role, act: Act) -> Result<Move, Memory>
     ensures { IfOk result (λ next. next ≡ Move.Act role.now act) }
 {
     match role.copy(alloc) {
@@ -81,6 +83,29 @@ fn step<R: Runs>(net: &mut Net<R>, role: &Role, act: &Act) -> Result<bool, Memor
 {
     known();
     match net.step(role, act) {
+        Ok(()) => Ok(true),
+        Err(fault) => no_step(fault),
+    }
+}
+
+/// Makes the step that an agenda of the net lists there, where it can be made. Where it can't, the
+/// net is unchanged.
+pub(crate) fn make_listed<R: Runs>(
+    net: &mut Net<R>,
+    agenda: &[ReadyRole],
+    doer: usize,
+    place: usize,
+) -> Result<bool, Memory>
+    requires run { IsSoundRun net.old }
+    requires room { length net.old.history < net.old.limit }
+    requires few { (network_of net.old).updates < 4294967295 }
+    requires agenda { map ready_seen agenda.now ≡ agenda_of net.old }
+    requires listed { IsListed (map ready_seen agenda.now) (Listed.Act doer place) }
+    ensures { IfOk result (MakesListed net.old (map ready_seen agenda.now) (Listed.Act doer place)
+        net.new) }
+{
+    known();
+    match step_listed(net, agenda, doer, place) {
         Ok(()) => Ok(true),
         Err(fault) => no_step(fault),
     }

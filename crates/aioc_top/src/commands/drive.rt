@@ -99,7 +99,7 @@ fn copy_visible(alloc: Global, entries: &[Entry]) -> Result<History, Memory>
 }
 
 // Adds a copy of the entry as the last one.
-pub(crate) fn push_copy(alloc: Global, copies: &mut History, entry: &Entry) -> Result<(), Memory>
+fn push_copy(alloc: Global, copies: &mut History, entry: &Entry) -> Result<(), Memory>
     ensures { OnOk result (copies.new.entries ≡ copies.old.entries ++ entry.now ∷ []) }
 {
     copies.reserve(1)?;

@@ -8,16 +8,14 @@ ghost use Rattle.command_words.specs.Commands.{most_steps};
 ghost use Rattle.command_words.specs.declared.commands.Verb.{Verb};
 ghost use Rattle.aioc_top.specs.Replies.{reply_of, resume_reply, run_reply};
 
-use crate::commands::drive::push_copy;
 use crate::replies::{Written, run_written, say_no};
 use command_words::Options;
-use dioc_terms::{Bundle, Entry, Memory, give_up};
+use dioc_terms::{Bundle, Memory, give_up};
 use flat_role::FlatRole;
 use net_core::Net;
-use net_drive::{ResumeFault, run_strays_are_exact};
+use net_drive::{ResumeFault, resume_entries, run_strays_are_exact};
 use schedule::run_seeded;
 use std::alloc::Global;
-use trace_book::History;
 
 /// The text of the run that goes on from the entries of the trace section, by the schedule and to
 /// at most as many entries as the options say, those of the section included; where these are more,
@@ -30,8 +28,8 @@ pub fn resume(alloc: Global, options: &Options, bundle: &Bundle) -> Result<Writt
         ≡ resume_reply options.now (plain bundle.now)) }
 {
     run_strays_are_exact();
-    let entries = copy_entries(alloc, bundle.trace.entries.as_slice())?;
-    match net_drive::resume(alloc, bundle, &entries, options.steps) {
+    let entries = bundle.trace.entries.as_slice();
+    match resume_entries(alloc, bundle, entries, options.steps) {
         Ok(mut net) => match run_seeded(&mut net, options.seed) {
             Ok(_) => say_run(alloc, options, net),
             Err(fault) => give_up(net, fault),
@@ -40,17 +38,6 @@ pub fn resume(alloc: Global, options: &Options, bundle: &Bundle) -> Result<Writt
         Err(ResumeFault::Stray(number)) => say_no(alloc, number),
         Err(ResumeFault::Memory) => Err(Memory),
     }
-}
-
-// A history of copies of the entries, in their order.
-fn copy_entries(alloc: Global, entries: &[Entry]) -> Result<History, Memory>
-    ensures { IfOk result (λ copies. copies.entries ≡ entries.now) }
-{
-    let mut copies = History::new(alloc);
-    for entry in entries {
-        push_copy(alloc, &mut copies, entry)?;
-    }
-    Ok(copies)
 }
 
 /// The text of the run that a net has made, and whether it has ended.

@@ -6,6 +6,6 @@ use Rattle.net_drive.specs.Driven.{is_aux_move}
 use Rattle.schedule.specs.Agendas.{moves_of, ready_seen}
 use Rattle.net_drive.proofs.entries.find_auxiliary.Given as goal
 
-abbrev pub invariant-loop-ready : goal.invariant-loop-ready
-invariant-loop-ready l =
-    find is_aux_move (flat_map moves_of (map ready_seen l.agenda)) ≡ find is_aux_move (flat_map moves_of (map ready_seen (drop l.ready-index l.agenda)))
+abbrev pub invariant-loop-doer : goal.invariant-loop-doer
+invariant-loop-doer l =
+    find is_aux_move (flat_map moves_of (map ready_seen l.agenda)) ≡ find is_aux_move (flat_map moves_of (map ready_seen (drop l.doer l.agenda)))

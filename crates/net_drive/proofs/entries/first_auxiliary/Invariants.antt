@@ -7,4 +7,4 @@ use Rattle.net_drive.proofs.entries.first_auxiliary.Given as goal
 
 abbrev pub invariant-loop-place : goal.invariant-loop-place
 invariant-loop-place l =
-    find is_aux_act (chosen l.ready.ready.items l.ready.acts.items) ≡ find is_aux_act (chosen (drop l.place-index l.ready.ready.items) l.ready.acts.items)
+    find is_aux_act (chosen l.ready.ready.items l.ready.acts.items) ≡ find is_aux_act (chosen (drop l.place l.ready.ready.items) l.ready.acts.items)

@@ -9,20 +9,20 @@ use Rattle.net_drive.proofs.resuming.resume.Goals as goal
 
 pub returns-clause-resumed : goal.returns-clause-resumed
 returns-clause-resumed g c =
-    subst (λ (es : List Entry). IfOk c.resume_all.result (λ (net : NetState). IsNetAfter (plain c.args.bundle.now) es c.args.limit net)) c.as_slice.ensures c.resume_all.ensures.resumed
+    subst (λ (es : List Entry). IfOk c.resume_entries.result (λ (net : NetState). IsNetAfter (plain c.args.bundle.now) es c.args.limit net)) c.as_slice.ensures c.resume_entries.ensures.resumed
 
 pub returns-clause-within : goal.returns-clause-within
 returns-clause-within g c =
-    subst (λ (es : List Entry). IfOk c.resume_all.result (λ (net : NetState). length es ≤ c.args.limit)) c.as_slice.ensures c.resume_all.ensures.within
+    subst (λ (es : List Entry). IfOk c.resume_entries.result (λ (net : NetState). length es ≤ c.args.limit)) c.as_slice.ensures c.resume_entries.ensures.within
 
 pub returns-clause-full : goal.returns-clause-full
 returns-clause-full g c =
-    subst (λ (es : List Entry). IfErr c.resume_all.result (FullAt (plain c.args.bundle.now) es c.args.limit)) c.as_slice.ensures c.resume_all.ensures.full
+    subst (λ (es : List Entry). IfErr c.resume_entries.result (FullAt (plain c.args.bundle.now) es c.args.limit)) c.as_slice.ensures c.resume_entries.ensures.full
 
 pub returns-clause-stray : goal.returns-clause-stray
 returns-clause-stray g c =
-    subst (λ (es : List Entry). IfErr c.resume_all.result (StraysAt (plain c.args.bundle.now) es c.args.limit)) c.as_slice.ensures c.resume_all.ensures.stray
+    subst (λ (es : List Entry). IfErr c.resume_entries.result (StraysAt (plain c.args.bundle.now) es c.args.limit)) c.as_slice.ensures c.resume_entries.ensures.stray
 
 pub returns-clause-counted : goal.returns-clause-counted
 returns-clause-counted g c =
-    subst (λ (es : List Entry). IfErr c.resume_all.result (StrayCounted (plain c.args.bundle.now) es c.args.limit)) c.as_slice.ensures c.resume_all.ensures.counted
+    subst (λ (es : List Entry). IfErr c.resume_entries.result (StrayCounted (plain c.args.bundle.now) es c.args.limit)) c.as_slice.ensures c.resume_entries.ensures.counted

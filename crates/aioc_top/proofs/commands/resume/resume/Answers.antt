@@ -19,13 +19,13 @@ returns-in-Ok-run_seeded c =
     let new = c.run_seeded.new.net in
     let at = c.in-Ok.ensures.resumed in
     let ran = c.in-Ok-run_seeded.ensures in
-    let es = c.in_ok-entries.entries.entries in
+    let es = c.as_slice-entries.result.now in
     let runs : network_run b es ≡ Some (network_of old) = (λ j. network_run (sym at.bundle j) (sym at.history j)) ∙ at.run.runs in
     let goes : run_reply options new.bundle new.history ≡ run_reply options old.bundle (sched_from old.bundle old.history options.seed old.limit) =
     (λ j. run_reply options (ran.same_bundle j) (ran.history j)) in
     let resumes : run_reply options old.bundle (sched_from old.bundle old.history options.seed old.limit) ≡ run_reply options b (sched_from b es options.seed options.steps) =
     (λ j. run_reply options (at.bundle j) (sched_from (at.bundle j) (at.history j) options.seed (at.limit j))) in
-    whole c.run_strays_are_exact.ensures options b c.say_run.result es (network_of old) runs (c.in_ok-entries.ensures ∙ c.as_slice.ensures) c.in-Ok.ensures.within
+    whole c.run_strays_are_exact.ensures options b c.say_run.result es (network_of old) runs c.as_slice-entries.ensures c.in-Ok.ensures.within
     (with_reply c.say_run.result _ _ (goes ∙ resumes) c.say_run.ensures)
 
 pub returns-in-Err-Full : goal.returns-in-Err-Full
@@ -33,12 +33,12 @@ returns-in-Err-Full c =
     let b = plain c.args.bundle.now in
     let options = c.args.options.now in
     let net = c.in-Err-Full.net in
-    let entries = c.in_ok-entries.entries.entries in
+    let entries = c.as_slice-entries.result.now in
     let full = subst (λ f. FullAt b entries options.steps f) c.in-Err-Full.field-0-is c.in-Err-Full.ensures.full in
     let at = full.1 in
     let es = take options.steps entries in
     let runs : network_run b es ≡ Some (network_of net) = (λ j. network_run (sym at.bundle j) (sym at.history j)) ∙ at.run.runs in
     let same : run_reply options net.bundle net.history ≡ run_reply options b es = (λ j. run_reply options (at.bundle j) (at.history j)) in
-    let long : options.steps < length b.trace.entries = subst (λ (xs : List Entry). options.steps < length xs) (c.in_ok-entries.ensures ∙ c.as_slice.ensures) full.0 in
-    cut c.run_strays_are_exact.ensures options b c.say_run-in-Err-Full.result es (network_of net) runs (ap (take options.steps) (c.in_ok-entries.ensures ∙ c.as_slice.ensures)) long
+    let long : options.steps < length b.trace.entries = subst (λ (xs : List Entry). options.steps < length xs) c.as_slice-entries.ensures full.0 in
+    cut c.run_strays_are_exact.ensures options b c.say_run-in-Err-Full.result es (network_of net) runs (ap (take options.steps) c.as_slice-entries.ensures) long
     (with_reply c.say_run-in-Err-Full.result _ _ same c.say_run-in-Err-Full.ensures)

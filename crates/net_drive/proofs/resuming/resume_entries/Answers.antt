@@ -5,7 +5,7 @@ use Rattle.net_drive.specs.Redoing.{IsRedone}
 use Rattle.net_drive.specs.Resumed.{IsFirstStray}
 use Rattle.net_drive.proofs.Redone.{counted_for}
 use Rattle.net_drive.specs.declared.resuming.Redone.TheVariants as redone
-use Rattle.net_drive.proofs.resuming.resume_all.Goals as goal
+use Rattle.net_drive.proofs.resuming.resume_entries.Goals as goal
 
 pub start-requires : goal.start-requires
 start-requires g c = c.accepted_is_sound.ensures (plain c.args.bundle.now) c.requires.accepted
